@@ -1,0 +1,13 @@
+pub mod Tests
+pub mod Lists
+pub mod Says
+pub mod Choice
+pub mod Encoding
+pub mod Entries
+pub mod Unique
+pub mod Written
+pub mod Every
+pub mod Meeting
+pub mod Bytes
+pub mod Greedy
+pub mod Ways
