@@ -8,6 +8,8 @@ pub mod Unique
 pub mod Written
 pub mod Every
 pub mod Meeting
+pub mod Periods
+pub mod Plans
 pub mod Bytes
 pub mod Greedy
 pub mod Ways

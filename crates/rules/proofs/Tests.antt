@@ -43,3 +43,10 @@ fails a e p = never (sym e ∙ a .back p)
 pub decided : {t : Bool} {P : Type 0} → Tests t P → Dec P
 decided {t = true} a = yes (a .yes refl)
 decided {t = false} a = no (λ p. never (a .back p))
+
+-- a test that said yes, and one that said no
+pub said-yes : {P : Type 0} → P → Tests true P
+said-yes p = record { yes = λ e. p; back = λ q. refl }
+
+pub said-no : {P : Type 0} → (P → ⊥) → Tests false P
+said-no f = record { yes = λ e. never e; back = λ p. absurd (f p) }

@@ -1,0 +1,71 @@
+-- The control slots of a tile, and offsets on data slots in all repeats. Assumes nothing.
+use mathlib.Core.Path.{_≡_, refl, sym, ap, _∙_, subst}
+use mathlib.Core.Logic.{_⊎_, inl, inr}
+use mathlib.Core.Bool.{Bool, true, false, cond}
+use Prim.Native.Nat.{ℕ, zero, suc, _+_, _*_, _/_, _%_, _<_, _≤_}
+use native.Mathlib.Omega.{arith}
+use native.Mathlib.Nat.{mod-lt, mul-assoc, add-assoc, add-mul-mod-self-right, add-mul-div-right, div-add-mod'}
+use borrow.Author.Tests.{eq-eqb, ne-eqb, le-leb}
+use lib.Dec.{eqb, leb}
+use Rattle.rules.specs.Words.{_∈_, bit, Tests}
+use Rattle.rules.specs.Tiles.{Plan, PlanInRange, tileCounts, controlSlots, Data, repeats, Takes}
+use Rattle.rules.specs.Book.{OnData}
+use Rattle.rules.proofs.Tests.{alike, tests-le}
+use Rattle.rules.proofs.Bytes.{tiles-small}
+
+-- a plan has 1 to 10 tiles
+pub tiles-some : (C : ℕ) → C ∈ tileCounts → 0 < C
+tiles-some C (inl e) = omega arith
+tiles-some C (inr (inl e)) = omega arith
+tiles-some C (inr (inr (inl e))) = omega arith
+tiles-some C (inr (inr (inr (inl e)))) = omega arith
+tiles-some C (inr (inr (inr (inr (inl e))))) = omega arith
+tiles-some C (inr (inr (inr (inr (inr e))))) = absurd e
+
+pub tile-place : (plan : Plan) (tile : ℕ) → PlanInRange plan → tile % plan .tiles < 16
+tile-place plan tile h =
+    let some = tiles-some (plan .tiles) (h .tiles) in
+    let most = tiles-small (plan .tiles) (h .tiles) in
+    omega (arith, mod-lt tile some)
+
+-- a downlink tile's are D, and an uplink tile's U
+pub control-down : (plan : Plan) (tile : ℕ) → bit (plan .kinds) (tile % plan .tiles) ≡ 1 → plan .down ≡ controlSlots plan tile
+control-down plan tile e = sym (ap (λ (t : Bool). cond t (plan .down) (plan .up)) (eq-eqb _ 1 e))
+
+pub control-up : (plan : Plan) (tile : ℕ) → (bit (plan .kinds) (tile % plan .tiles) ≡ 1 → ⊥) → plan .up ≡ controlSlots plan tile
+control-up plan tile f = sym (ap (λ (t : Bool). cond t (plan .down) (plan .up)) (ne-eqb _ 1 f))
+
+pub tests-data-slot : (plan : Plan) (slot n : ℕ) → n ≡ controlSlots plan (slot / plan .slots) → Tests (leb n (slot % plan .slots)) (Data plan slot)
+tests-data-slot plan slot n e = alike (tests-le n (slot % plan .slots)) (λ l. subst (λ (x : ℕ). x ≤ slot % plan .slots) e l) (λ l. subst (λ (x : ℕ). x ≤ slot % plan .slots) (sym e) l)
+
+-- ALL REPEATS: after C turns the kinds of the tiles come again
+module _ (plan : Plan) (some : 0 < plan .slots) (K o : ℕ) where
+  turn-tile : (turn : ℕ) → (o + turn * (K * plan .slots)) / plan .slots ≡ o / plan .slots + turn * K
+  turn-tile turn = ap (λ (x : ℕ). (o + x) / plan .slots) (sym (mul-assoc turn K (plan .slots))) ∙ add-mul-div-right o (turn * K) some
+
+  turn-place : (turn : ℕ) → (o + turn * (K * plan .slots)) % plan .slots ≡ o % plan .slots
+  turn-place turn = ap (λ (x : ℕ). (o + x) % plan .slots) (sym (mul-assoc turn K (plan .slots))) ∙ add-mul-mod-self-right o (turn * K) (plan .slots)
+
+  same-tile : (turn : ℕ) → (o / plan .slots + turn * K) % plan .tiles ≡ (o / plan .slots + turn % plan .tiles * K) % plan .tiles
+  same-tile turn =
+      let C : ℕ = plan .tiles in
+      let e : o / plan .slots + turn * K ≡ o / plan .slots + turn % C * K + turn / C * K * C =
+      omega (arith, ap (λ (x : ℕ). x * K) (div-add-mod' turn C)) in
+      ap (λ (x : ℕ). x % C) e ∙ add-mul-mod-self-right (o / plan .slots + turn % C * K) (turn / C * K) C
+
+  again : (turn : ℕ) → Data plan (o + turn % plan .tiles * (K * plan .slots)) → Data plan (o + turn * (K * plan .slots))
+  again turn d =
+      let kind : ℕ → ℕ = λ (x : ℕ). cond (eqb (bit (plan .kinds) x) 1) (plan .down) (plan .up) in
+      let e : controlSlots plan ((o + turn * (K * plan .slots)) / plan .slots) ≡ controlSlots plan ((o + turn % plan .tiles * (K * plan .slots)) / plan .slots) =
+      ap kind (ap (λ (x : ℕ). x % plan .tiles) (turn-tile turn) ∙ same-tile turn ∙ sym (ap (λ (x : ℕ). x % plan .tiles) (turn-tile (turn % plan .tiles)))) in
+      let f = turn-place turn in
+      let g = turn-place (turn % plan .tiles) in
+      omega (arith, e, f, g, d)
+
+  -- the first turns, as many as the plan has tiles and no more than there are
+  pub on-data-tests : 0 < plan .tiles → (turns : ℕ) → ((turns ≡ repeats K) ⊎ (turns ≡ plan .tiles)) → ((turn : ℕ) → turn < turns → Data plan (o + turn * (K * plan .slots))) → OnData plan K o
+  on-data-tests tiles turns (inl e) h slot t = subst (Data plan) (sym (t .at)) (h (t .turn) (omega (arith, t .within)))
+  on-data-tests tiles turns (inr e) h slot t = subst (Data plan) (sym (t .at)) (again (t .turn) (h (t .turn % plan .tiles) (omega (arith, mod-lt (t .turn) tiles))))
+
+  pub not-on-data : (turn : ℕ) → turn < repeats K → (Data plan (o + turn * (K * plan .slots)) → ⊥) → OnData plan K o → ⊥
+  not-on-data turn l f h = f (h _ record { turn = turn; within = l; at = refl })

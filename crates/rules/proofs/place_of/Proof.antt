@@ -1,0 +1,38 @@
+-- A period is sought from the first place on. Assumes nothing.
+use mathlib.Core.Path.{_≡_}
+use Prim.Native.Nat.{ℕ, _≤_, _<_, _-_}
+use native.Mathlib.Omega.{arith}
+use borrow.Author.Needs.{needs}
+use borrow.Author.Count.{below-more}
+use Rattle.rules.specs.Tiles.{periodAt}
+use Rattle.rules.proofs.Periods.{nowhere}
+use Rattle.rules.proofs.place_of.Statement.{statement}
+use Rattle.rules.proofs.place_of.Tie as tie
+
+abbrev Inv-loop : tie.InvT-loop
+Inv-loop period i₀ i = (i ≤ 7) × ((j : ℕ) → j < i → periodAt j ≡ period .0 → ⊥)
+
+abbrev μ-loop : tie.MeasureT-loop
+μ-loop period i₀ i = 7 - i
+
+returns : tie.Need-returns Inv-loop μ-loop
+returns c = (search needs, c .if1 .taken)
+
+loop-again : tie.Need-loop-again Inv-loop μ-loop
+loop-again c = (search needs, below-more _ _ (c .before .before .before .loop .inv .1) (c .if1 .left))
+
+returns-2 : tie.Need-returns-2 Inv-loop μ-loop
+returns-2 c = nowhere _ (λ i l. c .before .loop .inv .1 i (omega arith))
+
+pub place-of-spec : {M : Type 1} → statement M
+place-of-spec =
+    tie.close
+    (tie.spec Inv-loop μ-loop
+    (λ c. search needs)
+    (λ c. search needs)
+    (λ c. search needs)
+    returns
+    (λ c. search needs)
+    (λ c. search needs)
+    loop-again
+    returns-2)

@@ -1,0 +1,36 @@
+-- What the functions over plans and periods promise. Assumes nothing.
+use mathlib.Core.Path.{_≡_}
+use Prim.Native.Nat.{ℕ, _*_, _<_, _≤_}
+use lib.ListN.{length}
+use Rattle.rules.specs.Tiles as tiles
+use Rattle.rules.specs.Tiles.{periods, periodAt, Period, cycleTiles, Gcd}
+use Rattle.rules.specs.declared.Plan.{Plan}
+use Rattle.rules.specs.declared.Place.{Place}
+use Rattle.rules.specs.declared.Place.the-variants.{At, Nowhere}
+
+-- the tile plan that the code's record holds
+abbrev pub thePlan : Plan → tiles.Plan
+thePlan p = record { slots = p .slots .0; tiles = p .tiles .0; kinds = p .kinds; down = p .down .0; up = p .up .0 }
+
+-- the place is one of the list
+abbrev pub InList : ℕ → Type 0
+InList i = i < length periods
+
+-- the place of K among the periods, or that it is none of them
+abbrev pub PlaceOf : ℕ → Place → Type 0
+PlaceOf K (At i) = InList i × (periodAt i ≡ K)
+PlaceOf K Nowhere = Period K → ⊥
+
+-- g is the greatest common divisor of the periods K and L
+pub record Divisor (K L g : ℕ) : Type 0 where
+  pub greatest : Gcd K L g
+  pub some : 0 < g
+  pub most : g ≤ cycleTiles
+
+-- m is g * S, by which the offsets of hops of the periods K and L are compared
+pub record Modulus (S K L m : ℕ) : Type 0 where
+  pub divisor : ℕ
+  pub greatest : Gcd K L divisor
+  pub whole : m ≡ divisor * S
+  pub some : 0 < m
+  pub most : m ≤ cycleTiles * S
