@@ -1,4 +1,5 @@
 -- The placing that is searched for is the first one, and there is none where none is found. Assumes nothing.
+use mathlib.Core.Logic.{_↔_}
 use mathlib.Core.Bool.{Bool}
 use mathlib.Core.List.{List, [], _∷_}
 use mathlib.Core.Option.{Option, some, none}
@@ -7,8 +8,9 @@ use native.Mathlib.Omega.{arith}
 use Rattle.rules.specs.Words.{Tests}
 use Rattle.rules.specs.Topology.{hopCount, hopAt}
 use Rattle.rules.specs.Book.{Book}
-use Rattle.rules.specs.Placing.{FirstPlacing, NoPlacing}
-use Rattle.rules.proofs.Greedy.{Least, FirstPlaces, NoPlaces, Places, none-from, none-behind, first-behind, FreeAt, bound, placing-places, places-placing}
+use Rattle.rules.specs.Placing.{Placing, FirstPlacing, NoPlacing}
+use Rattle.rules.proofs.Tests.{decided}
+use Rattle.rules.proofs.Greedy.{Least, FirstPlaces, NoPlaces, Places, none-from, none-behind, first-behind, FreeAt, bound, placing-places, places-placing, GreedyPlacing, placing-greedy}
 use Rattle.model.specs.Test.{isFree}
 use Rattle.model.specs.Search.{before, andThen, leastFrom, placeFrom, placingOf}
 use Rattle.model.proofs.Tests.{tests-free}
@@ -47,3 +49,7 @@ module _ (b : Book) (K : ℕ) (route : List ℕ) where
   placing-found =
       agreed (placingOf b K route)
       (places-found (FreeAt b K route) (bound b K route) (λ i o. isFree b K (hopAt route i) o) (λ i o. tests-free b K (hopAt route i) o) (hopCount route) 0 0)
+
+-- a placing exists exactly if the greedy one does
+pub placing-exists : (b : Book) (K : ℕ) (route : List ℕ) → ((os : List ℕ) × Placing b K route os) ↔ ((os : List ℕ) × GreedyPlacing b K route os)
+placing-exists b K route = placing-greedy b K route (λ h o. decided (tests-free b K h o))

@@ -13,3 +13,5 @@ pub mod Plans
 pub mod Bytes
 pub mod Greedy
 pub mod Ways
+pub mod Clashes
+pub mod Numbers

@@ -1,0 +1,87 @@
+-- Lists written over others, one behind the other. Assumes nothing.
+use mathlib.Core.Path.{_≡_, refl, sym, _∙_, ap}
+use mathlib.Core.List.{List, [], _∷_, _++_, append-assoc}
+use Prim.Native.Nat.{ℕ, zero, suc, _+_, _*_, _-_, _≤_, _<_}
+use native.Mathlib.Omega.{arith}
+use native.Mathlib.Numerals.{add-one}
+use lib.ListN.{length, getD, set, take, drop, length-append, length-drop}
+use lib.Seq.{take-at, take-suc, drop-append-add, drop-drop, length-take-le, append-snoc, paste-zero, set-split}
+use Rattle.rules.specs.Tiles.{Plan}
+use Rattle.rules.specs.Image.{mark, word, inTurn, encodeHeader, encodeRow}
+use Rattle.rules.specs.Book.{Row}
+use Rattle.rules.proofs.Encoding.{length-words}
+use Rattle.writer.specs.Over.{over, headed}
+
+pub length-over : (d : List ℕ) (at : ℕ) (s : List ℕ) → at + length s ≤ length d → length (over d at s) ≡ length d
+unfolding over
+length-over d at s h = simp (length-append, length-drop, length-take-le at d (omega arith)) (omega arith)
+
+-- y behind x is both
+over-over : (d x y : List ℕ) (at e : ℕ) → at ≤ length d → e ≡ at + length x → over (over d at x) e y ≡ over d at (x ++ y)
+unfolding over
+over-over d x y at e h q =
+    let p = take at d ++ x in
+    let n : length p ≡ e = simp (length-append, length-take-le at d h) (sym q) in
+    rw (take-at p (drop (at + length x) d) e n, ← n, drop-append-add p (drop (at + length x) d) (length y), drop-drop (length y) (at + length x) d, length-append x y, ← append-assoc (take at d) x y)
+    (let k : at + length x + length y ≡ at + (length x + length y) = omega arith in ap (λ (k : ℕ). p ++ y ++ drop k d) k)
+
+-- one part written, then another behind it
+pub then : (d o o′ x y : List ℕ) (at e : ℕ) → at ≤ length d → o ≡ over d at x → e ≡ at + length x → o′ ≡ over o e y → o′ ≡ over d at (x ++ y)
+then d o o′ x y at e h p q r = rw (r, p) (over-over d x y at e h q)
+
+pub over-nil : (d : List ℕ) (at : ℕ) → d ≡ over d at []
+unfolding over
+over-nil d at = paste-zero d at []
+
+pub over-one : (d : List ℕ) (at x : ℕ) → at < length d → set d at x ≡ over d at (x ∷ [])
+unfolding over
+over-one d at x h = rw (set-split d at x h, add-one) (sym (append-snoc (take at d) x (drop (suc at) d)))
+
+-- a turn of a copy
+pub copy-turn : (d s o : List ℕ) (at i : ℕ) → i < length s → at + length s ≤ length d → o ≡ over d at (take i s) → length o ≡ length d
+    → set o (at + i) (getD s i 0) ≡ over d at (take (i + 1) s)
+copy-turn d s o at i h l e n =
+    let k : at + i ≡ at + length (take i s) = rw (length-take-le i s (omega arith)) in
+    rw (over-one o (at + i) (getD s i 0) (omega arith), e, over-over d (take i s) (getD s i 0 ∷ []) at (at + i) (omega arith) k, add-one, take-suc s i 0 h)
+
+words-append : (x y : List ℕ) → inTurn word (x ++ y) ≡ inTurn word x ++ inTurn word y
+words-append [] y = refl
+words-append (a ∷ x) y = rw (words-append x y)
+
+-- a turn of a copy of words
+pub words-turn : (d s o o′ : List ℕ) (at i : ℕ) → i < length s → at + 2 * length s ≤ length d → o ≡ over d at (inTurn word (take i s))
+    → o′ ≡ over o (at + 2 * i) (word (getD s i 0)) → o′ ≡ over d at (inTurn word (take (i + 1) s))
+words-turn d s o o′ at i h l e f =
+    let n : at + 2 * i ≡ at + length (inTurn word (take i s)) = rw (length-words, length-take-le i s (omega arith)) in
+    rw (f, e, over-over d (inTurn word (take i s)) (word (getD s i 0)) at (at + 2 * i) (omega arith) n, add-one, take-suc s i 0 h, words-append)
+
+-- a row, part by part
+pub row-written : (d o₁ o₂ o₃ o₄ o₅ : List ℕ) (at id k : ℕ) (route offsets : List ℕ) → at ≤ length d → length route ≡ length offsets + 1
+    → o₁ ≡ over d at (word id) → o₂ ≡ over o₁ (at + 2) (k ∷ []) → o₃ ≡ over o₂ (at + 3) (length offsets ∷ []) → o₄ ≡ over o₃ (at + 4) route
+    → o₅ ≡ over o₄ (at + 4 + length route) (inTurn word offsets)
+    → o₅ ≡ over d at (encodeRow (record { id = id; period = k; route = route; offsets = offsets }))
+row-written d o₁ o₂ o₃ o₄ o₅ at id k route offsets h n p₁ p₂ p₃ p₄ p₅ =
+    let q₂ = then d o₁ o₂ (word id) (k ∷ []) at (at + 2) h p₁ refl p₂ in
+    let q₃ = then d o₂ o₃ (word id ++ (k ∷ [])) (length offsets ∷ []) at (at + 3) h q₂ refl p₃ in
+    let q₄ = then d o₃ o₄ (word id ++ (k ∷ []) ++ (length offsets ∷ [])) route at (at + 4) h q₃ refl p₄ in
+    let q₅ = then d o₄ o₅ (word id ++ (k ∷ []) ++ (length offsets ∷ []) ++ route) (inTurn word offsets) at (at + 4 + length route) h q₄ (omega arith) p₅ in
+    let e : length offsets ≡ length route - 1 = omega arith in
+    q₅ ∙ ap (λ (x : ℕ). over d at (word id ++ (k ∷ x ∷ []) ++ route ++ inTurn word offsets)) e
+
+-- the front of an image, part by part
+pub head-written : (d o₁ o₂ o₃ o₄ s : List ℕ) (to n h : ℕ) → 15 ≤ length s → o₁ ≡ over d 0 (take 12 s) → o₂ ≡ over o₁ 12 (n ∷ []) → o₃ ≡ over o₂ 13 (word h)
+    → o₄ ≡ over o₃ 15 (take (to - 15) (drop 15 s)) → o₄ ≡ over d 0 (headed s to n h)
+unfolding headed
+head-written d o₁ o₂ o₃ o₄ s to n h l p₁ p₂ p₃ p₄ =
+    let f : length (take 12 s) ≡ 12 = length-take-le 12 s (omega arith) in
+    let q₂ = then d o₁ o₂ (take 12 s) (n ∷ []) 0 12 (omega arith) p₁ (omega arith) p₂ in
+    let q₃ = then d o₂ o₃ (take 12 s ++ (n ∷ [])) (word h) 0 13 (omega arith) q₂ (simp (length-append, f)) p₃ in
+    let q₄ = then d o₃ o₄ (take 12 s ++ (n ∷ []) ++ word h) (take (to - 15) (drop 15 s)) 0 15 (omega arith) q₃ (simp (length-append, f)) p₄ in
+    q₄ ∙ ap (λ (x : List ℕ). over d 0 (x ++ take (to - 15) (drop 15 s))) (append-assoc (take 12 s) (n ∷ []) (word h))
+
+-- the image of a book without streams, part by part
+pub new-written : (d o₁ o₂ o₃ rest topology : List ℕ) (plan : Plan) (N : ℕ) → o₁ ≡ over d 0 mark → rest ≡ drop 3 (encodeHeader plan N 0 0) → o₂ ≡ over o₁ 3 rest
+    → o₃ ≡ over o₂ 16 topology → o₃ ≡ over d 0 (encodeHeader plan N 0 0 ++ topology)
+new-written d o₁ o₂ o₃ rest topology plan N p₁ e p₂ p₃ =
+    let q₂ = then d o₁ o₂ mark (drop 3 (encodeHeader plan N 0 0)) 0 3 (omega arith) p₁ refl (p₂ ∙ ap (over o₁ 3) e) in
+    then d o₂ o₃ (encodeHeader plan N 0 0) topology 0 16 (omega arith) q₂ refl p₃

@@ -1,0 +1,28 @@
+-- The image of a book without streams is written part by part. Assumes nothing.
+use Rattle.rules.specs.Periods.{thePlan}
+use Rattle.writer.proofs.Laws.{new-written}
+use borrow.Author.Needs.{needs}
+use Rattle.writer.proofs.put_new.Statement.{statement}
+use Rattle.writer.proofs.put_new.Tie as tie
+
+returns : tie.Need-returns
+returns c =
+    let topology = c .before .before in
+    let rest = topology .before .before .before .before in
+    let mark = rest .before .before .before .before .before in
+    let made = mark .before .before .before in
+    let a = made .before .before .before in
+    new-written _ _ _ _ _ _ (thePlan (a .args .plan)) (a .args .nodes) (mark .put-part .ensures) (made .fields .ensures) (rest .put-part2 .ensures) (topology .put-part3 .ensures)
+
+pub put-new-spec : {M : Type 1} → statement M
+put-new-spec =
+    tie.close
+    (tie.spec
+    (λ c κs. search needs)
+    (λ c. search needs)
+    (λ c κs. search needs)
+    (λ c. search needs)
+    (λ c κs. search needs)
+    (λ c κs. search needs)
+    (λ c. search needs)
+    returns)

@@ -1,0 +1,110 @@
+// Writes the parts of an image into a lent buffer, one behind the other.
+ghost use mathlib.Core.Path.{_≡_};
+ghost use mathlib.Core.List.{[], _∷_, _++_};
+ghost use Prim.Native.Nat.{_+_, _*_, _<_, _≤_};
+ghost use lib.ListN.{length, drop};
+ghost use Rattle.rules.specs.Tiles.{PlanInRange};
+ghost use Rattle.rules.specs.Periods.{thePlan};
+ghost use Rattle.rules.specs.Image.{word, inTurn, encodeHeader, encodeRow};
+ghost use Rattle.writer.specs.Over.{over, headed};
+use rules::Plan;
+use rules::Tile;
+
+// The bytes of a part, from the place on.
+pub fn put_part(part: &[u8], out: &mut [u8], at: usize)
+    requires { ⌜ at + length (now part) ≤ length (now out) ⌝ }
+    ensures { λ _. ⌜ now (out .exit) ≡ over (now (out .entry)) at (now (part .entry)) ⌝ }
+{
+    let mut i: usize = 0;
+    while i < part.len() {
+        out[at + i] = part[i];
+        i += 1;
+    }
+}
+
+// One byte.
+pub fn put(out: &mut [u8], at: usize, x: u8)
+    requires { ⌜ at + 1 ≤ length (now out) ⌝ }
+    ensures { λ _. ⌜ now (out .exit) ≡ over (now (out .entry)) at (x ∷ []) ⌝ }
+{
+    out[at] = x;
+}
+
+// A number in 2 bytes.
+pub fn put_word(out: &mut [u8], at: usize, x: u16)
+    requires { ⌜ at + 2 ≤ length (now out) ⌝ }
+    ensures { λ _. ⌜ now (out .exit) ≡ over (now (out .entry)) at (word x) ⌝ }
+{
+    put(out, at, (x / 256) as u8);
+    put(out, at + 1, (x % 256) as u8);
+}
+
+// Numbers in 2 bytes each.
+pub fn put_words(numbers: &[u16], out: &mut [u8], at: usize)
+    requires { ⌜ at + 2 * length (now numbers) ≤ length (now out) ⌝ }
+    ensures { λ _. ⌜ now (out .exit) ≡ over (now (out .entry)) at (inTurn word (now (numbers .entry))) ⌝ }
+{
+    let mut i: usize = 0;
+    while i < numbers.len() {
+        put_word(out, at + 2 * i, numbers[i]);
+        i += 1;
+    }
+}
+
+// A row: id, K, hops, the nodes of the route, the offsets.
+pub fn put_row(out: &mut [u8], at: usize, id: u16, period: Tile, route: &[u8], offsets: &[u16])
+    requires { ⌜ (length (now route) ≡ length (now offsets) + 1) × (length (now offsets) ≤ 15) × (period .0 < 256) ⌝ }
+    requires { ⌜ at + (5 + 3 * length (now offsets)) ≤ length (now out) ⌝ }
+    ensures { λ _. ⌜ now (out .exit) ≡ over (now (out .entry)) at (encodeRow (record { id = id; period = period .0; route = now (route .entry); offsets = now (offsets .entry) })) ⌝ }
+{
+    put_word(out, at, id);
+    put(out, at + 2, period.0 as u8);
+    put(out, at + 3, offsets.len() as u8);
+    put_part(route, out, at + 4);
+    put_words(offsets, out, at + 4 + route.len());
+}
+
+// The front of an image up to a place, with these counts of streams and hops.
+pub fn put_head(image: &[u8], out: &mut [u8], to: usize, streams: u8, hops: u16)
+    requires { ⌜ (16 ≤ to) × (to ≤ length (now image)) × (to ≤ length (now out)) ⌝ }
+    ensures { λ _. ⌜ now (out .exit) ≡ over (now (out .entry)) 0 (headed (now (image .entry)) to streams hops) ⌝ }
+{
+    put_part(&image[..12], out, 0);
+    put(out, 12, streams);
+    put_word(out, 13, hops);
+    put_part(&image[15..to], out, 15);
+}
+
+// Bytes 3 to 15 of a book without streams.
+fn fields(plan: Plan, nodes: u8) -> [u8; 13]
+    requires { ⌜ PlanInRange (thePlan plan) ⌝ }
+    ensures { λ r. ⌜ r ≡ drop 3 (encodeHeader (thePlan plan) nodes 0 0) ⌝ }
+{
+    let kinds = plan.kinds;
+    [
+        0,
+        1,
+        plan.slots.0 as u8,
+        plan.tiles.0 as u8,
+        (kinds / 256) as u8,
+        (kinds % 256) as u8,
+        plan.down.0 as u8,
+        plan.up.0 as u8,
+        nodes,
+        0,
+        0,
+        0,
+        0,
+    ]
+}
+
+// The image of a book without streams: the mark, the fields, and the topology as it is given.
+pub fn put_new(plan: Plan, nodes: u8, topology: &[u8], out: &mut [u8])
+    requires { ⌜ PlanInRange (thePlan plan) × (16 + length (now topology) ≤ length (now out)) ⌝ }
+    ensures { λ _. ⌜ now (out .exit) ≡ over (now (out .entry)) 0 (encodeHeader (thePlan plan) nodes 0 0 ++ now (topology .entry)) ⌝ }
+{
+    let rest = fields(plan, nodes);
+    put_part(b"SLB", out, 0);
+    put_part(&rest, out, 3);
+    put_part(topology, out, 16);
+}
