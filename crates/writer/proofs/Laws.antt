@@ -3,6 +3,7 @@ use mathlib.Core.Path.{_≡_, refl, sym, _∙_, ap}
 use mathlib.Core.List.{List, [], _∷_, _++_, append-assoc}
 use Prim.Native.Nat.{ℕ, zero, suc, _+_, _*_, _-_, _≤_, _<_}
 use native.Mathlib.Omega.{arith}
+use native.Mathlib.Nat.{zero-add}
 use native.Mathlib.Numerals.{add-one}
 use lib.ListN.{length, getD, set, take, drop, length-append, length-drop}
 use lib.Seq.{take-at, take-suc, drop-append-add, drop-drop, length-take-le, append-snoc, paste-zero, set-split}
@@ -85,3 +86,14 @@ pub new-written : (d o₁ o₂ o₃ rest topology : List ℕ) (plan : Plan) (N :
 new-written d o₁ o₂ o₃ rest topology plan N p₁ e p₂ p₃ =
     let q₂ = then d o₁ o₂ mark (drop 3 (encodeHeader plan N 0 0)) 0 3 (omega arith) p₁ refl (p₂ ∙ ap (over o₁ 3) e) in
     then d o₂ o₃ (encodeHeader plan N 0 0) topology 0 16 (omega arith) q₂ refl p₃
+
+-- what is written from the front on, and what was behind it
+pub over-front : (d x : List ℕ) → over d 0 x ≡ x ++ drop (length x) d
+unfolding over
+over-front d x = ap (λ (n : ℕ). x ++ drop n d) (zero-add (length x))
+
+pub length-headed : (s : List ℕ) (to n h : ℕ) → 15 ≤ to → to ≤ length s → length (headed s to n h) ≡ to
+unfolding headed
+length-headed s to n h low l =
+    let f : to - 15 ≤ length (drop 15 s) = omega (arith, length-drop 15 s) in
+    simp (length-append, length-take-le 12 s (omega arith), length-take-le (to - 15) (drop 15 s) f) (omega arith)

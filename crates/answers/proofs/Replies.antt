@@ -1,0 +1,30 @@
+-- The reply of a list of refusals, refusal by refusal. Assumes nothing.
+use mathlib.Core.Path.{_≡_, refl, sym, _∙_}
+use mathlib.Core.Logic.{_⊎_, inl, inr}
+use mathlib.Core.List.{List, [], _∷_, _++_}
+use Prim.Native.Nat.{ℕ}
+use lib.ListN.{length, drop}
+use Rattle.rules.specs.Says.{Refusal, _when_, Says}
+use Rattle.rules.specs.Calls.{Wrote, Unchanged}
+use Rattle.answers.specs.Reply.{Reply}
+
+module _ {R : List ℕ → Type 0} {out : List ℕ} where
+  -- the first refusal applies
+  pub reply-refused : {rs : List Refusal} {A : Type 0} {k n len : ℕ} → A → (k ≡ 0 → ⊥) → n ≡ k → len ≡ 0 → Reply ((k when A) ∷ rs) R out n len out
+  reply-refused a f e l = record {
+    says = inl (a, e);
+    refused = λ g. record { length-is = l; buffer = refl };
+    done = λ z. absurd (f (sym e ∙ z));
+  }
+
+  -- it does not, and the others say the reply
+  pub reply-next : {rs : List Refusal} {A : Type 0} {k n len : ℕ} {out′ : List ℕ} → (A → ⊥) → Reply rs R out n len out′ → Reply ((k when A) ∷ rs) R out n len out′
+  reply-next f r = record { says = inr (f, r .says); refused = r .refused; done = r .done }
+
+  -- none is left, and the bytes were written
+  pub reply-done : {n len : ℕ} {out′ : List ℕ} (bytes : List ℕ) → R bytes → n ≡ 0 → len ≡ length bytes → out′ ≡ bytes ++ drop (length bytes) out → Reply [] R out n len out′
+  reply-done bytes h e l w = record {
+    says = e;
+    refused = λ f. absurd (f e);
+    done = λ z. (bytes, h, record { length-is = l; buffer = w });
+  }

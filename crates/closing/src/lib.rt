@@ -1,0 +1,47 @@
+// Closes a stream on the image of a lawful book.
+ghost use mathlib.Core.Path.{_≡_};
+ghost use Prim.Native.Nat.{_<_, _≤_};
+ghost use Rattle.rules.specs.Image.{Stored};
+ghost use Rattle.model.specs.Reading.{bookIn};
+ghost use Rattle.finding.specs.Spot.{Taken};
+ghost use Rattle.closing.specs.Close.{TakesOut, Closes};
+use answers::Answer;
+use finding::Spot;
+use image::Book;
+
+// Writes the image without the row at the place.
+fn take_out(image: &[u8], id: u16, at: usize, out: &mut [u8]) -> Answer
+    requires { ⌜ Stored (now image) (bookIn (now image)) × Taken (now image) id at ⌝ }
+    ensures { λ r. ⌜ TakesOut (now (image .entry)) id (now (out .entry)) (r .number) (r .length) (now (out .exit)) ⌝ }
+{
+    let book = Book::read(image);
+    let hops = image::hops_at(image, at);
+    let next = image::next(image, at);
+    let length = at + (image.len() - next);
+    if out.len() < length {
+        return answers::refused(12);
+    }
+    writer::put_head(
+        image,
+        out,
+        at,
+        (book.streams - 1) as u8,
+        (book.hops - hops) as u16,
+    );
+    writer::put_part(&image[next..], out, at);
+    answers::done(length)
+}
+
+// Closes the stream of the id.
+pub fn close_on(image: &[u8], id: u16, out: &mut [u8]) -> Answer
+    requires { ⌜ Stored (now image) (bookIn (now image)) ⌝ }
+    ensures { λ r. ⌜ Closes (now (image .entry)) id (now (out .entry)) (r .number) (r .length) (now (out .exit)) ⌝ }
+{
+    if id == 0 {
+        return answers::refused(1);
+    }
+    match finding::find(image, id) {
+        Spot::Between(_) => answers::refused(3),
+        Spot::Here(at) => take_out(image, id, at, out),
+    }
+}

@@ -1,0 +1,104 @@
+-- The search for an id among rows that rise by id. Assumes nothing.
+use mathlib.Core.Path.{_≡_, refl, sym, ap, _∙_, subst}
+use mathlib.Core.Logic.{_⊎_, inl, inr, ⊎-elim}
+use mathlib.Core.List.{List, [], _∷_, _++_}
+use Prim.Native.Nat.{ℕ, zero, suc, _+_, _-_, _<_, _≤_}
+use native.Mathlib.Omega.{arith}
+use lib.ListN.{length, drop}
+use Rattle.rules.specs.Words.{_∈_, Pairwise}
+use Rattle.rules.specs.Book.{Row, RisingById, Known}
+use Rattle.rules.specs.Image.{rowsStart, nodesOf, streamsOf, inTurn, encodeRow, Stored}
+use Rattle.model.specs.Reading.{rowsIn, bookIn}
+use Rattle.image.specs.Places.{rowAt, nextAt, rowsFrom, Stands}
+use Rattle.image.proofs.Stands.{in-later, stored-length, stands-start, stands-split, stands-row, stands-next, stands-end}
+use Rattle.finding.specs.Spot.{Vacant, Taken}
+
+-- the rows before the place have lower ids
+pub record Passed (s : List ℕ) (id at left : ℕ) : Type 0 where
+  pub stands : Stands s at left
+  pub lower : (r : Row) → r ∈ stands .before → r .id < id
+
+pub passed-start : {s : List ℕ} {id at left : ℕ} → Stored s (bookIn s) → at ≡ rowsStart (nodesOf s) → left ≡ streamsOf s → Passed s id at left
+passed-start {s} {id} {at} {left} h e f =
+    subst (λ (n : ℕ). Passed s id at n) (sym f) (subst (λ (n : ℕ). Passed s id n (streamsOf s)) (sym e) record { stands = stands-start h; lower = λ r m. absurd m })
+
+later : (xs ys : List Row) → RisingById (xs ++ ys) → RisingById ys
+later [] ys up = up
+later (x ∷ xs) ys up = later xs ys (up .1)
+
+in-either : (x : Row) (xs ys : List Row) → x ∈ xs ++ ys → (x ∈ xs) ⊎ (x ∈ ys)
+in-either x [] ys m = inr m
+in-either x (y ∷ xs) ys (inl e) = inl (inl e)
+in-either x (y ∷ xs) ys (inr m) = ⊎-elim (λ k. inl (inr k)) (λ k. inr k) (in-either x xs ys m)
+
+module _ {s : List ℕ} {id at left : ℕ} (more : 0 < left) (p : Passed s id at left) where
+  pub passed-next : {to : ℕ} → to ≡ nextAt s at → rowAt s at .id < id → Passed s id to (left - 1)
+  passed-next e l = subst (λ (n : ℕ). Passed s id n (left - 1)) (sym e) record {
+    stands = stands-next more (p .stands);
+    lower = λ r m. ⊎-elim (λ k. p .lower r k)
+        (λ (k : r ∈ (rowAt s at ∷ [])). ⊎-elim (λ (e : r ≡ rowAt s at). subst (λ (x : Row). x .id < id) (sym e) l) (λ (x : ⊥). absurd x) k)
+        (in-either r (p .stands .before) (rowAt s at ∷ []) m);
+  }
+
+  rest-rises : RisingById (rowAt s at ∷ rowsFrom s (left - 1) (nextAt s at))
+  rest-rises =
+      subst RisingById (stands-split more (p .stands))
+      (later (p .stands .before) (p .stands .rest) (subst RisingById (p .stands .all) (p .stands .stored .lawful .rising)))
+
+  pub vacant-here : id < rowAt s at .id → Vacant s id at
+  vacant-here l = record {
+    before = p .stands .before;
+    rest = p .stands .rest;
+    all = p .stands .all;
+    inside = p .stands .inside;
+    bytes = p .stands .bytes;
+    lower = p .lower;
+    higher = λ r m. above r (subst (λ (rows : List Row). r ∈ rows) (stands-split more (p .stands)) m);
+  }
+    where
+      above : (r : Row) → r ∈ (rowAt s at ∷ rowsFrom s (left - 1) (nextAt s at)) → id < r .id
+      above r (inl e) = subst (λ (x : Row). id < x .id) (sym e) l
+      above r (inr m) = omega (arith, rest-rises .0 r m)
+
+  pub taken-here : rowAt s at .id ≡ id → Taken s id at
+  taken-here e = record {
+    before = p .stands .before;
+    rest = rowsFrom s (left - 1) (nextAt s at);
+    all = p .stands .all ∙ ap (λ (rows : List Row). p .stands .before ++ rows) (stands-split more (p .stands));
+    inside = p .stands .inside;
+    bytes = p .stands .bytes ∙ ap (inTurn encodeRow) (stands-split more (p .stands));
+    named = e;
+    whole = stands-row more (p .stands) .whole;
+  }
+
+pub vacant-end : {s : List ℕ} {id at left : ℕ} → left ≤ 0 → Passed s id at left → Vacant s id at
+vacant-end {s} {id} {at} {left} none p = record {
+  before = p .stands .before;
+  rest = p .stands .rest;
+  all = p .stands .all;
+  inside = p .stands .inside;
+  bytes = p .stands .bytes;
+  lower = p .lower;
+  higher = λ r m. nothing (p .stands .rest) (p .stands .count) r m;
+}
+  where
+    nothing : (rest : List Row) → length rest ≡ left → (r : Row) → r ∈ rest → id < r .id
+    nothing [] e r m = absurd m
+    nothing (x ∷ rest) e r m = absurd (omega arith)
+
+-- a lawful image has a header
+pub stored-long : {s : List ℕ} → Stored s (bookIn s) → 16 ≤ length s
+stored-long h = omega (arith, stored-length h)
+
+-- in a vacant spot no row has the id, and in a taken one a row has it
+pub vacant-unknown : {s : List ℕ} {id at : ℕ} → Vacant s id at → Known (bookIn s) id → ⊥
+vacant-unknown {s} {id} v k =
+    ⊎-elim (λ (m : k .row ∈ v .before). omega (arith, v .lower (k .row) m, k .named)) (λ (m : k .row ∈ v .rest). omega (arith, v .higher (k .row) m, k .named))
+    (in-either (k .row) (v .before) (v .rest) (subst (λ (rows : List Row). k .row ∈ rows) (v .all) (k .there)))
+
+pub taken-known : {s : List ℕ} {id at : ℕ} → Taken s id at → Known (bookIn s) id
+taken-known {s} {id} {at} t = record {
+  row = rowAt s at;
+  there = subst (λ (rows : List Row). rowAt s at ∈ rows) (sym (t .all)) (in-later (rowAt s at) (t .before) (rowAt s at ∷ t .rest) (inl refl));
+  named = t .named;
+}

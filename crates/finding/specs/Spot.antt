@@ -1,0 +1,36 @@
+-- Where the row of an id stands among the rows of a lawful image, or would stand. Assumes nothing.
+use mathlib.Core.Path.{_≡_}
+use mathlib.Core.List.{List, _∷_, _++_}
+use Prim.Native.Nat.{ℕ, _<_, _≤_}
+use lib.ListN.{length, drop}
+use Rattle.rules.specs.Words.{_∈_}
+use Rattle.rules.specs.Book.{Row}
+use Rattle.rules.specs.Image.{inTurn, encodeRow}
+use Rattle.model.specs.Reading.{rowsIn}
+use Rattle.image.specs.Places.{rowAt, Whole}
+use Rattle.finding.specs.declared.Spot.{Spot}
+use Rattle.finding.specs.declared.Spot.the-variants.{Between, Here}
+
+-- no row has the id; those before the place have lower ones, and those from it on higher ones
+pub record Vacant (s : List ℕ) (id at : ℕ) : Type 0 where
+  pub before : List Row
+  pub rest : List Row
+  pub all : rowsIn s ≡ before ++ rest
+  pub inside : at ≤ length s
+  pub bytes : drop at s ≡ inTurn encodeRow rest
+  pub lower : (r : Row) → r ∈ before → r .id < id
+  pub higher : (r : Row) → r ∈ rest → id < r .id
+
+-- the row at the place has the id
+pub record Taken (s : List ℕ) (id at : ℕ) : Type 0 where
+  pub before : List Row
+  pub rest : List Row
+  pub all : rowsIn s ≡ before ++ (rowAt s at ∷ rest)
+  pub inside : at ≤ length s
+  pub bytes : drop at s ≡ inTurn encodeRow (rowAt s at ∷ rest)
+  pub named : rowAt s at .id ≡ id
+  pub whole : Whole s at
+
+abbrev pub SpotOf : List ℕ → ℕ → Spot → Type 0
+SpotOf s id (Between at) = Vacant s id at
+SpotOf s id (Here at) = Taken s id at

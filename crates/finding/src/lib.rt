@@ -1,0 +1,33 @@
+// Finds the row of an id on the image of a lawful book.
+ghost use Rattle.rules.specs.Image.{Stored};
+ghost use Rattle.model.specs.Reading.{bookIn};
+ghost use Rattle.finding.specs.Spot.{SpotOf};
+use image::Book;
+
+// Where the row of an id stands, or between which rows it would.
+pub enum Spot {
+    Between(usize),
+    Here(usize),
+}
+
+// Seeks the row of the id.
+pub fn find(image: &[u8], id: u16) -> Spot
+    requires { ⌜ Stored (now image) (bookIn (now image)) ⌝ }
+    ensures { λ r. ⌜ SpotOf (now (image .entry)) id r ⌝ }
+{
+    let book = Book::read(image);
+    let mut at = book.rows_start();
+    let mut left = book.streams;
+    while 0 < left {
+        let here = image::id_at(image, at);
+        if id < here {
+            return Spot::Between(at);
+        }
+        if here == id {
+            return Spot::Here(at);
+        }
+        at = image::next(image, at);
+        left -= 1;
+    }
+    Spot::Between(at)
+}

@@ -1,0 +1,39 @@
+-- Each field is read at its place. Assumes nothing.
+use mathlib.Core.Path.{_≡_, refl, sym, ap, ap₂, _∙_}
+use native.Mathlib.Omega.{arith}
+use borrow.Author.Needs.{needs}
+use Rattle.image.proofs.Book.read.Statement.{statement}
+use Rattle.image.proofs.Book.read.Tie as tie
+
+returns : tie.Need-returns
+returns c =
+    record {
+      plan = cc;
+      nodes = search needs;
+      streams = search needs;
+      hops = c .long .ensures .0 ∙ c .before .word-at2 .ensures .0;
+      small-nodes = search needs;
+      small-streams = search needs;
+      small-hops = search needs;
+    }
+
+pub read-spec : {M : Type 1} → statement M
+read-spec =
+    tie.close
+    (tie.spec
+    (λ c. search needs)
+    (λ c κs. search needs)
+    (λ c. search needs)
+    (λ c κs. search needs)
+    (λ c κs. search needs)
+    (λ c. search needs)
+    (λ c κs. search needs)
+    (λ c. search needs)
+    (λ c κs. search needs)
+    (λ c. search needs)
+    (λ c κs. search needs)
+    (λ c. search needs)
+    (λ c κs. search needs)
+    (λ c κs. search needs)
+    (λ c κs. search needs)
+    returns)

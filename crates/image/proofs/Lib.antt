@@ -1,0 +1,5 @@
+pub mod Places
+pub mod Stands
+pub mod Topologies
+pub mod Marks
+pub mod Hops

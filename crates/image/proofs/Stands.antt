@@ -1,0 +1,128 @@
+-- A walk over the rows of an image, from row to row. Assumes nothing.
+use mathlib.Core.Path.{_≡_, refl, sym, ap, ap₂, _∙_, subst}
+use mathlib.Core.Logic.{_⊎_, inl, inr}
+use mathlib.Core.List.{List, [], _∷_, _++_, append-assoc}
+use Prim.Native.Nat.{ℕ, zero, suc, _+_, _*_, _-_, _<_, _≤_}
+use native.Mathlib.Omega.{arith}
+use native.Mathlib.Numerals.{unary-clauses}
+use lib.ListN.{length, getD, drop, length-append, length-drop}
+use lib.Seq.{getD-drop, drop-drop}
+use Rattle.rules.specs.Words.{_∈_}
+use Rattle.rules.specs.Book.{Row, hops, hopsInAll, LawfulRow}
+use Rattle.rules.specs.Image.{inTurn, encodeRow, rowsStart, imageLength, nodesOf, streamsOf, planOf, topologyOf, RowsOf, Stored}
+use Rattle.rules.proofs.Encoding.{frontRow, Sized, AllSized, row-back, length-row, left-over, lawful-sized, rows-of, length-encode, all-sized}
+use Rattle.rules.proofs.Written.{length-linksAt}
+use Rattle.model.specs.Reading.{rowsIn, bookIn}
+use Rattle.image.specs.Places.{rowAt, nextAt, rowsFrom, Whole, Stands, RowHere}
+use Rattle.image.proofs.Places.{rows-in, length-rows-from, row-hops}
+
+pub in-later : {A : Type 0} (x : A) (xs ys : List A) → x ∈ ys → x ∈ xs ++ ys
+in-later x [] ys m = m
+in-later x (y ∷ xs) ys m = inr (in-later x xs ys m)
+
+-- what is read of a stored image are its rows
+pub stored-rows : {s : List ℕ} → Stored s (bookIn s) → RowsOf s (rowsIn s)
+stored-rows {s} h = subst (λ (t : List ℕ). RowsOf t (rowsIn s)) (sym (h .bytes)) (rows-of (bookIn s) (h .lawful))
+
+-- its length is the stands-split that its header gives
+pub stored-length : {s : List ℕ} → Stored s (bookIn s) → length s ≡ imageLength (nodesOf s) (length (rowsIn s)) (hopsInAll (rowsIn s))
+stored-length {s} h =
+    ap length (h .bytes) ∙ length-encode (bookIn s) (all-sized (bookIn s) (h .lawful))
+    ∙ ap (λ (N : ℕ). imageLength N (length (rowsIn s)) (hopsInAll (rowsIn s))) (length-linksAt s 16 (nodesOf s))
+
+-- A ROW WHERE IT WAS WRITTEN
+module _ (s : List ℕ) (at : ℕ) (r : Row) (t : List ℕ) (w : Sized r) (e : drop at s ≡ encodeRow r ++ t) where
+  read-row : rowAt s at ≡ r
+  unfolding rowAt
+  read-row = ap frontRow e ∙ row-back r t w
+
+  stated : getD s (at + 3) 0 ≡ hops r
+  stated = sym (getD-drop at s 3 0) ∙ ap (λ (l : List ℕ). getD l 3 0) e
+
+  pub next-bytes : drop (nextAt s at) s ≡ t
+  unfolding nextAt
+  next-bytes =
+      ap (λ (h : ℕ). drop (at + (5 + 3 * h)) s) stated ∙ sym (drop-drop (5 + 3 * hops r) at s) ∙ ap (drop (5 + 3 * hops r)) e ∙ left-over r t w
+
+  long : length s - at ≡ 5 + 3 * hops r + length t
+  long = sym (length-drop at s) ∙ ap length e ∙ length-append (encodeRow r) t ∙ ap (λ (n : ℕ). n + length t) (length-row r t w)
+
+  whole-row : Whole s at
+  unfolding nextAt
+  whole-row = record { front = omega (arith, long); fits = omega (arith, long, stated) }
+
+-- rows where they were written are those from the place on
+written-rows : (s : List ℕ) (rows : List Row) (at : ℕ) → AllSized rows → drop at s ≡ inTurn encodeRow rows → rows ≡ rowsFrom s (length rows) at
+written-rows s [] at w e = refl
+written-rows s (r ∷ rows) at w e =
+    let u = w r (inl refl) in
+    let t = inTurn encodeRow rows in
+    ap₂ _∷_ (sym (read-row s at r t u e)) (written-rows s rows (nextAt s at) (λ x m. w x (inr m)) (next-bytes s at r t u e))
+
+-- THE WALK
+module _ {s : List ℕ} where
+  abbrev pub stands-start : Stored s (bookIn s) → Stands s (rowsStart (nodesOf s)) (streamsOf s)
+  stands-start h = record {
+    stored = h;
+    before = [];
+    rest = rowsIn s;
+    all = refl;
+    count = stored-rows h .count;
+    inside = omega (arith, stored-length h);
+    bytes = stored-rows h .fill;
+  }
+
+  sized : {at left : ℕ} (w : Stands s at left) → AllSized (w .rest)
+  sized w r m = lawful-sized (w .stored .lawful .rows r (subst (λ (rows : List Row). r ∈ rows) (sym (w .all)) (in-later r (w .before) (w .rest) m)))
+
+  -- the rows that are left are those from the place on
+  pub stands-rest : {at left : ℕ} (w : Stands s at left) → w .rest ≡ rowsFrom s left at
+  stands-rest {at} {left} w =
+      written-rows s (w .rest) at (sized w) (w .bytes) ∙ ap (λ (n : ℕ). rowsFrom s n at) (w .count)
+
+  -- the row at the place, where rows are left
+  module _ {at left : ℕ} (more : 0 < left) (w : Stands s at left) where
+    pub stands-split : w .rest ≡ rowAt s at ∷ rowsFrom s (left - 1) (nextAt s at)
+    stands-split = stands-rest w ∙ split left more
+      where
+        split : (n : ℕ) → 0 < n → rowsFrom s n at ≡ rowAt s at ∷ rowsFrom s (n - 1) (nextAt s at)
+        split zero l = absurd (omega arith)
+        split (suc n) l = simp unary-clauses refl
+
+    pub stands-bytes : drop at s ≡ encodeRow (rowAt s at) ++ inTurn encodeRow (rowsFrom s (left - 1) (nextAt s at))
+    stands-bytes = w .bytes ∙ ap (inTurn encodeRow) stands-split
+
+    here : rowAt s at ∈ rowsIn s
+    here =
+        subst (λ (rows : List Row). rowAt s at ∈ rows) (sym (w .all ∙ ap (λ (rows : List Row). w .before ++ rows) stands-split))
+        (in-later (rowAt s at) (w .before) (rowAt s at ∷ rowsFrom s (left - 1) (nextAt s at)) (inl refl))
+
+    pub stands-sized : Sized (rowAt s at)
+    stands-sized = lawful-sized (w .stored .lawful .rows (rowAt s at) here)
+
+    pub stands-row : RowHere s at
+    stands-row = record {
+      there = here;
+      lawful = w .stored .lawful .rows (rowAt s at) here;
+      whole = whole-row s at (rowAt s at) (inTurn encodeRow (rowsFrom s (left - 1) (nextAt s at))) stands-sized stands-bytes;
+    }
+
+    -- and the walk goes on behind it
+    abbrev pub stands-next : Stands s (nextAt s at) (left - 1)
+    stands-next = record {
+      stored = w .stored;
+      before = w .before ++ (rowAt s at ∷ []);
+      rest = rowsFrom s (left - 1) (nextAt s at);
+      all = w .all ∙ ap (λ (rows : List Row). w .before ++ rows) stands-split ∙ sym (append-assoc (w .before) (rowAt s at ∷ []) (rowsFrom s (left - 1) (nextAt s at)));
+      count = length-rows-from s (left - 1) (nextAt s at);
+      inside = stands-row .whole .fits;
+      bytes = next-bytes s at (rowAt s at) (inTurn encodeRow (rowsFrom s (left - 1) (nextAt s at))) stands-sized stands-bytes;
+    }
+
+  -- where none is left the image ends
+  pub stands-end : {at left : ℕ} → left ≤ 0 → Stands s at left → at ≡ length s
+  stands-end {at} {left} none w = end (w .rest) (w .count) (w .bytes)
+    where
+      end : (rest : List Row) → length rest ≡ left → drop at s ≡ inTurn encodeRow rest → at ≡ length s
+      end [] k e = omega (arith, w .inside, length-drop at s, ap length e)
+      end (r ∷ rest) k e = absurd (omega arith)

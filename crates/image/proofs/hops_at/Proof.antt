@@ -1,0 +1,17 @@
+-- The byte before the nodes is the count of hops. Assumes nothing.
+use Rattle.image.proofs.Places.{row-hops}
+use mathlib.Core.Path.{_≡_, refl, sym, ap, _∙_}
+use native.Mathlib.Omega.{arith}
+use borrow.Author.Needs.{needs}
+use Rattle.image.proofs.hops_at.Statement.{statement}
+use Rattle.image.proofs.hops_at.Tie as tie
+
+returns : tie.Need-returns
+returns c = (c .count .ensures .0 ∙ sym (row-hops _ _ (c .before .before .before .pre)), c .count .ensures .1)
+
+pub hops-at-spec : {M : Type 1} → statement M
+hops-at-spec = tie.close (tie.spec
+    (λ c. search needs)
+    (λ c. search needs)
+    (λ c κs. search needs)
+    returns)

@@ -1,0 +1,15 @@
+-- The id is the first number. Assumes nothing.
+use Rattle.image.proofs.Places.{row-id}
+use mathlib.Core.Path.{_≡_, refl, sym, ap, _∙_}
+use native.Mathlib.Omega.{arith}
+use borrow.Author.Needs.{needs}
+use Rattle.image.proofs.id_at.Statement.{statement}
+use Rattle.image.proofs.id_at.Tie as tie
+
+returns : tie.Need-returns
+returns c = (c .word-at .ensures .0 ∙ sym (row-id _ _), c .word-at .ensures .1)
+
+pub id-at-spec : {M : Type 1} → statement M
+id-at-spec = tie.close (tie.spec
+    (λ c κs. search needs)
+    returns)

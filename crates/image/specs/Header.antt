@@ -1,0 +1,17 @@
+-- What the header's reader promises. Assumes nothing.
+use mathlib.Core.Path.{_≡_}
+use mathlib.Core.List.{List}
+use Prim.Native.Nat.{ℕ, _<_}
+use Rattle.rules.specs.Image.{planOf, nodesOf, streamsOf, hopsOf}
+use Rattle.rules.specs.Periods.{thePlan}
+use Rattle.image.specs.declared.Book.{Book}
+
+-- the plan and the counts are those of the image's header
+pub record HeaderOf (s : List ℕ) (b : Book) : Type 0 where
+  pub plan : thePlan (b .plan) ≡ planOf s
+  pub nodes : b .nodes ≡ nodesOf s
+  pub streams : b .streams ≡ streamsOf s
+  pub hops : b .hops ≡ hopsOf s
+  pub small-nodes : b .nodes < 256
+  pub small-streams : b .streams < 256
+  pub small-hops : b .hops < 65536

@@ -1,0 +1,224 @@
+// An image's bytes: its header, its topology rows, and the rows of its streams, read where they stand.
+ghost use mathlib.Core.Path.{_≡_};
+ghost use mathlib.Core.List.{_++_};
+ghost use Prim.Native.Nat.{_+_, _*_, _<_, _≤_};
+ghost use lib.ListN.{length, getD, take};
+ghost use Rattle.rules.specs.Words.{Tests, TwoBytes};
+ghost use Rattle.rules.specs.Book.{hops, rowOffset};
+ghost use Rattle.rules.specs.Image.{headerLength, rowsStart, imageLength, mark, version, word, wordAt, word64At};
+ghost use Rattle.image.specs.Places.{rowAt, nextAt, Whole, Links};
+ghost use Rattle.image.specs.Header.{HeaderOf};
+use rules::Node;
+use rules::Plan;
+use rules::Slot;
+use rules::Tile;
+
+// Bytes 0 to 15 are the header.
+pub const HEADER: usize = 16;
+
+// The mark.
+pub const MARK: [u8; 3] = *b"SLB";
+
+// The version.
+pub const VERSION: u16 = 1;
+
+// What an image's header says of its book.
+pub struct Book {
+    pub plan: Plan,
+    pub nodes: usize,
+    pub streams: usize,
+    pub hops: usize,
+}
+
+fn wide16(x: u8) -> u16
+    ensures { λ r. ⌜ (r ≡ x) × (r < 256) ⌝ }
+{
+    x as u16
+}
+
+fn wide32(x: u16) -> u32
+    ensures { λ r. ⌜ (r ≡ x) × (r < 65536) ⌝ }
+{
+    x as u32
+}
+
+fn wide64(x: u32) -> u64
+    ensures { λ r. ⌜ (r ≡ x) × (r < 4294967296) ⌝ }
+{
+    x as u64
+}
+
+fn count(x: u8) -> usize
+    ensures { λ r. ⌜ (r ≡ x) × (r < 256) ⌝ }
+{
+    x as usize
+}
+
+fn long(x: u16) -> usize
+    ensures { λ r. ⌜ (r ≡ x) × (r < 65536) ⌝ }
+{
+    x as usize
+}
+
+// The number in 2 bytes from a place on.
+pub fn word_at(image: &[u8], at: usize) -> u16
+    requires { ⌜ at + 2 ≤ length (now image) ⌝ }
+    ensures { λ r. ⌜ (r ≡ wordAt (now (image .entry)) at) × TwoBytes r ⌝ }
+{
+    wide16(image[at]) * 256 + wide16(image[at + 1])
+}
+
+// The number in 4 bytes from a place on.
+fn word32_at(image: &[u8], at: usize) -> u32
+    requires { ⌜ at + 4 ≤ length (now image) ⌝ }
+    ensures { λ r. ⌜ r ≡ wordAt (now (image .entry)) at * 65536 + wordAt (now (image .entry)) (at + 2) ⌝ }
+{
+    wide32(word_at(image, at)) * 65536 + wide32(word_at(image, at + 2))
+}
+
+// The number in 8 bytes from a place on.
+pub fn word64_at(image: &[u8], at: usize) -> u64
+    requires { ⌜ at + 8 ≤ length (now image) ⌝ }
+    ensures { λ r. ⌜ r ≡ word64At (now (image .entry)) at ⌝ }
+{
+    wide64(word32_at(image, at)) * 4294967296 + wide64(word32_at(image, at + 4))
+}
+
+// The topology's n rows from a place on, and zeros after them.
+pub fn links(image: &[u8], at: usize, n: usize) -> [u64; 64]
+    requires { ⌜ (n ≤ 64) × (at + 8 * n ≤ length (now image)) ⌝ }
+    ensures { λ r. ⌜ Links (now (image .entry)) at n r ⌝ }
+{
+    let mut rows = [0u64; 64];
+    let mut i: usize = 0;
+    while i < n {
+        rows[i] = word64_at(image, at + 8 * i);
+        i += 1;
+    }
+    rows
+}
+
+impl Book {
+    // A book has at most 64 streams,
+    pub const STREAMS: usize = 64;
+
+    // 512 hops,
+    pub const HOPS: usize = 512;
+
+    // and 15 hops a route.
+    pub const ROUTE_HOPS: usize = 15;
+
+    // What the header of an image says.
+    pub fn read(image: &[u8]) -> Book
+        requires { ⌜ headerLength ≤ length (now image) ⌝ }
+        ensures { λ r. ⌜ HeaderOf (now (image .entry)) r ⌝ }
+    {
+        let plan = Plan {
+            slots: Slot(wide16(image[5])),
+            tiles: Tile(wide16(image[6])),
+            kinds: word_at(image, 7),
+            down: Slot(wide16(image[9])),
+            up: Slot(wide16(image[10])),
+        };
+        Book {
+            plan,
+            nodes: count(image[11]),
+            streams: count(image[12]),
+            hops: long(word_at(image, 13)),
+        }
+    }
+
+    // Where the rows of its streams start.
+    pub fn rows_start(self) -> usize
+        requires { ⌜ self .nodes < 256 ⌝ }
+        ensures { λ r. ⌜ r ≡ rowsStart (self .nodes) ⌝ }
+    {
+        HEADER + 8 * self.nodes
+    }
+
+    // The length of its image.
+    pub fn image_length(self) -> usize
+        requires { ⌜ (self .nodes < 256) × (self .streams < 256) × TwoBytes (self .hops) ⌝ }
+        ensures { λ r. ⌜ r ≡ imageLength (self .nodes) (self .streams) (self .hops) ⌝ }
+    {
+        self.rows_start() + 5 * self.streams + 3 * self.hops
+    }
+}
+
+// Whether the image starts with the mark and the version.
+pub fn is_marked(image: &[u8]) -> bool
+    requires { ⌜ headerLength ≤ length (now image) ⌝ }
+    ensures { λ r. ⌜ Tests r (take 5 (now (image .entry)) ≡ mark ++ word version) ⌝ }
+{
+    if image[0] != MARK[0] {
+        return false;
+    }
+    if image[1] != MARK[1] {
+        return false;
+    }
+    if image[2] != MARK[2] {
+        return false;
+    }
+    word_at(image, 3) == VERSION
+}
+
+// Whether a whole row, as long as it says, is at the place.
+pub fn is_whole(image: &[u8], at: usize) -> bool
+    requires { ⌜ at ≤ length (now image) ⌝ }
+    ensures { λ r. ⌜ Tests r (Whole (now (image .entry)) at) ⌝ }
+{
+    let left = image.len() - at;
+    if left < 5 {
+        return false;
+    }
+    5 + 3 * count(image[at + 3]) <= left
+}
+
+// The row's id.
+pub fn id_at(image: &[u8], at: usize) -> u16
+    requires { ⌜ Whole (now image) at ⌝ }
+    ensures { λ r. ⌜ (r ≡ rowAt (now (image .entry)) at .id) × TwoBytes r ⌝ }
+{
+    word_at(image, at)
+}
+
+// Its period.
+pub fn period_at(image: &[u8], at: usize) -> Tile
+    requires { ⌜ Whole (now image) at ⌝ }
+    ensures { λ r. ⌜ (r .0 ≡ rowAt (now (image .entry)) at .period) × (r .0 < 256) ⌝ }
+{
+    Tile(wide16(image[at + 2]))
+}
+
+// How many hops it has.
+pub fn hops_at(image: &[u8], at: usize) -> usize
+    requires { ⌜ Whole (now image) at ⌝ }
+    ensures { λ r. ⌜ (r ≡ hops (rowAt (now (image .entry)) at)) × (r < 256) ⌝ }
+{
+    count(image[at + 3])
+}
+
+// Node i of its route.
+pub fn node_at(image: &[u8], at: usize, i: usize) -> Node
+    requires { ⌜ Whole (now image) at × (i ≤ hops (rowAt (now image) at)) ⌝ }
+    ensures { λ r. ⌜ (r .0 ≡ getD (rowAt (now (image .entry)) at .route) i 0) × (r .0 < 256) ⌝ }
+{
+    Node(image[at + 4 + i])
+}
+
+// The offset of its hop i.
+pub fn offset_at(image: &[u8], at: usize, i: usize) -> Slot
+    requires { ⌜ Whole (now image) at × (i < hops (rowAt (now image) at)) ⌝ }
+    ensures { λ r. ⌜ (r .0 ≡ rowOffset (rowAt (now (image .entry)) at) i) × TwoBytes (r .0) ⌝ }
+{
+    let h = hops_at(image, at);
+    Slot(word_at(image, at + 5 + h + 2 * i))
+}
+
+// The place after it.
+pub fn next(image: &[u8], at: usize) -> usize
+    requires { ⌜ Whole (now image) at ⌝ }
+    ensures { λ r. ⌜ (r ≡ nextAt (now (image .entry)) at) × (r ≤ length (now (image .entry))) ⌝ }
+{
+    at + (5 + 3 * count(image[at + 3]))
+}
