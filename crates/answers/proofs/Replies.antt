@@ -6,6 +6,7 @@ use Prim.Native.Nat.{ℕ}
 use lib.ListN.{length, drop}
 use Rattle.rules.specs.Says.{Refusal, _when_, Says}
 use Rattle.rules.specs.Calls.{Wrote, Unchanged}
+use Rattle.rules.proofs.Says.{Alike, same-says}
 use Rattle.answers.specs.Reply.{Reply}
 
 module _ {R : List ℕ → Type 0} {out : List ℕ} where
@@ -28,3 +29,12 @@ module _ {R : List ℕ → Type 0} {out : List ℕ} where
     refused = λ f. absurd (f e);
     done = λ z. (bytes, h, record { length-is = l; buffer = w });
   }
+
+-- refusals that apply alike, and bytes that are as well what was asked
+pub reply-alike : {R R′ : List ℕ → Type 0} {out out′ : List ℕ} {n len : ℕ} (rs ss : List Refusal) → Alike rs ss → ((bytes : List ℕ) → R bytes → R′ bytes)
+    → Reply rs R out n len out′ → Reply ss R′ out n len out′
+reply-alike {n = n} rs ss a f r = record {
+  says = same-says rs ss n a (r .says);
+  refused = r .refused;
+  done = λ z. let d = r .done z in (d .0, f (d .0) (d .1), d .2);
+}

@@ -6,7 +6,6 @@ use Prim.Native.Nat.{ℕ, zero, suc, _+_, _*_, _-_, _<_, _≤_}
 use native.Mathlib.Omega.{arith}
 use lib.ListN.{length, drop, take, length-append, length-drop}
 use Rattle.rules.specs.Words.{_∈_, With}
-use Rattle.rules.specs.Words.With.{here, there}
 use Rattle.rules.specs.Book.{Row, Book, hops, hopsInAll}
 use Rattle.rules.specs.Image.{rowsStart, nodesOf, streamsOf, hopsOf, inTurn, encodeRow, encode, Stored}
 use Rattle.rules.specs.Calls.{Closed}
@@ -22,11 +21,8 @@ use Rattle.writer.proofs.Laws.{then, over-front, length-headed}
 use Rattle.writer.proofs.Books.{total-append, length-body, row-less}
 use Rattle.answers.proofs.Replies.{reply-refused, reply-next, reply-done}
 use Rattle.finding.specs.Spot.{Taken}
+use Rattle.finding.proofs.Ids.{with-middle}
 use Rattle.closing.specs.Close.{TakesOut}
-
-with-middle : (r : Row) (xs ys : List Row) → With r (xs ++ ys) (xs ++ (r ∷ ys))
-with-middle r [] ys = here
-with-middle r (x ∷ xs) ys = there (with-middle r xs ys)
 
 module _ (s : List ℕ) (id at : ℕ) (h : Stored s (bookIn s)) (t : Taken s id at) where
   abbrev pub less : Book

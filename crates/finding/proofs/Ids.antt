@@ -5,7 +5,8 @@ use mathlib.Core.List.{List, [], _∷_, _++_}
 use Prim.Native.Nat.{ℕ, zero, suc, _+_, _-_, _<_, _≤_}
 use native.Mathlib.Omega.{arith}
 use lib.ListN.{length, drop}
-use Rattle.rules.specs.Words.{_∈_, Pairwise}
+use Rattle.rules.specs.Words.{_∈_, With}
+use Rattle.rules.specs.Words.With.{here, there}
 use Rattle.rules.specs.Book.{Row, RisingById, Known}
 use Rattle.rules.specs.Image.{rowsStart, nodesOf, streamsOf, inTurn, encodeRow, Stored}
 use Rattle.model.specs.Reading.{rowsIn, bookIn}
@@ -26,7 +27,7 @@ later : (xs ys : List Row) → RisingById (xs ++ ys) → RisingById ys
 later [] ys up = up
 later (x ∷ xs) ys up = later xs ys (up .1)
 
-in-either : (x : Row) (xs ys : List Row) → x ∈ xs ++ ys → (x ∈ xs) ⊎ (x ∈ ys)
+pub in-either : (x : Row) (xs ys : List Row) → x ∈ xs ++ ys → (x ∈ xs) ⊎ (x ∈ ys)
 in-either x [] ys m = inr m
 in-either x (y ∷ xs) ys (inl e) = inl (inl e)
 in-either x (y ∷ xs) ys (inr m) = ⊎-elim (λ k. inl (inr k)) (λ k. inr k) (in-either x xs ys m)
@@ -102,3 +103,8 @@ taken-known {s} {id} {at} t = record {
   there = subst (λ (rows : List Row). rowAt s at ∈ rows) (sym (t .all)) (in-later (rowAt s at) (t .before) (rowAt s at ∷ t .rest) (inl refl));
   named = t .named;
 }
+
+-- a row put in between others
+pub with-middle : (r : Row) (xs ys : List Row) → With r (xs ++ ys) (xs ++ (r ∷ ys))
+with-middle r [] ys = here
+with-middle r (x ∷ xs) ys = there (with-middle r xs ys)

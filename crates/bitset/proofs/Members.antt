@@ -1,0 +1,80 @@
+-- A set is known by its members, and a walk over them from the lowest on meets each. Assumes nothing.
+use mathlib.Core.Path.{_≡_, refl, sym, _∙_, subst}
+use mathlib.Core.Logic.{_⊎_, inl, inr}
+use Prim.Native.Nat.{ℕ, zero, suc, _/_, _-_, _%_, _<_}
+use native.Mathlib.Nat.{pow-suc}
+use native.Mathlib.Decide.{ℕ-discrete, decLt}
+use native.Mathlib.Omega.{arith}
+use lib.Arith.{lt-one}
+use lib.Bits.{and-le-r}
+use lib.Pow.{pow-pos}
+use Rattle.rules.specs.Words.{bit, Has, NoBitFrom}
+use Rattle.bitset.specs.Sets.{SetOf, Lowest}
+use Rattle.bitset.proofs.Bits.{bit-lt, bit-zero, bit-suc, within, zero-none, lowest-law, rest-law}
+
+alike : (x y : ℕ) → x < 2 → y < 2 → (x ≡ 1 → y ≡ 1) → (y ≡ 1 → x ≡ 1) → x ≡ y
+alike zero zero h l f g = refl
+alike zero (suc y) h l f g = absurd (omega (arith, g (omega arith)))
+alike (suc x) zero h l f g = absurd (omega (arith, f (omega arith)))
+alike (suc x) (suc y) h l f g = omega arith
+
+-- two sets with the same members below the width are the same number
+pub same-members : (w a b : ℕ) → NoBitFrom w a → NoBitFrom w b → ((k : ℕ) → k < w → Has a k → Has b k) → ((k : ℕ) → k < w → Has b k → Has a k) → a ≡ b
+same-members zero a b p q f g = lt-one p ∙ sym (lt-one q)
+same-members (suc w) a b p q f g =
+    omega (
+      arith,
+      low,
+      same-members w (a / 2) (b / 2) (omega (arith, pow-suc 2 w)) (omega (arith, pow-suc 2 w))
+          (λ k l h. sym (bit-suc b k) ∙ f (suc k) (omega arith) (bit-suc a k ∙ h))
+          (λ k l h. sym (bit-suc a k) ∙ g (suc k) (omega arith) (bit-suc b k ∙ h)),
+    )
+  where
+    low : a % 2 ≡ b % 2
+    low = sym (bit-zero a) ∙ alike (bit a 0) (bit b 0) (bit-lt a 0) (bit-lt b 0) (f 0 (omega arith)) (g 0 (omega arith)) ∙ bit-zero b
+
+-- a set is 0 exactly if it has no member
+pub none-zero : (n : ℕ) → NoBitFrom 64 n → ((k : ℕ) → k < 64 → Has n k → ⊥) → n ≡ 0
+none-zero n h f = same-members 64 n 0 h (omega arith) (λ k l i. absurd (f k l i)) (λ k l i. absurd (zero-none k i))
+
+pub some-positive : (n k : ℕ) → Has n k → zero < n
+some-positive zero k h = absurd (zero-none k h)
+some-positive (suc n) k h = omega arith
+
+pub some-member : (n : ℕ) → NoBitFrom 64 n → (n ≡ 0 → ⊥) → (k : ℕ) × Has n k
+some-member n h f = let l = lowest-law n (omega arith) h in (_, l .member)
+
+-- a set of numbers below w has no bit from w up
+pub all-within : (v w n : ℕ) → NoBitFrom v n → ((k : ℕ) → Has n k → k < w) → NoBitFrom w n
+all-within v zero n h f = subst (λ (x : ℕ). x < 1) (sym zero-is) (omega arith)
+  where
+    zero-is : n ≡ 0
+    zero-is = same-members v n 0 h (pow-pos v) (λ k l i. absurd (omega (arith, f k i))) (λ k l i. absurd (zero-none k i))
+all-within zero (suc w) n h f = omega (arith, pow-suc 2 w, all-within zero w n h (λ k i. absurd (omega (arith, within zero n k h i))))
+all-within (suc v) (suc w) n h f =
+    omega (arith, pow-suc 2 w, all-within v w (n / 2) (omega (arith, pow-suc 2 v)) (λ k i. omega (arith, f (suc k) (bit-suc n k ∙ i))))
+
+-- two sets of the same numbers are one
+pub set-unique : {P Q : ℕ → Type 0} {a b : ℕ} → ((k : ℕ) → P k → Q k) → ((k : ℕ) → Q k → P k) → SetOf P a → SetOf Q b → a ≡ b
+set-unique {a = a} {b} f g s t = same-members 64 a b (s .fits) (t .fits) (λ k l h. t .all k (f k (s .only k h))) (λ k l h. s .all k (g k (t .only k h)))
+
+-- there is one lowest member
+pub lowest-unique : {n a b : ℕ} → Lowest n a → Lowest n b → a ≡ b
+lowest-unique {n} {a} {b} l m = go (decLt a b) (decLt b a)
+  where
+    go : Dec (a < b) → Dec (b < a) → a ≡ b
+    go (yes h) d = absurd (m .least a h (l .member))
+    go (no h) (yes k) = absurd (l .least b k (m .member))
+    go (no h) (no k) = omega arith
+
+-- a member is the lowest, or among those left without it
+pub lowest-or-rest : {n m r : ℕ} (k : ℕ) → Lowest n m → SetOf (λ (k : ℕ). Has n k × (Lowest n k → ⊥)) r → Has n k → (k ≡ m) ⊎ Has r k
+lowest-or-rest {m = m} {r} k l s h = go (ℕ-discrete k m)
+  where
+    go : Dec (k ≡ m) → (k ≡ m) ⊎ Has r k
+    go (yes e) = inl e
+    go (no e) = inr (s .all k (h, λ l′. e (lowest-unique l′ l)))
+
+-- and without it the set is a lower number
+pub rest-less : {n r : ℕ} → zero < n → NoBitFrom 64 n → SetOf (λ (k : ℕ). Has n k × (Lowest n k → ⊥)) r → r < n
+rest-less {n} {r} p h s = omega (arith, set-unique (λ k i. i) (λ k i. i) s (rest-law n p h), and-le-r n (n - 1))

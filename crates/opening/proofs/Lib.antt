@@ -1,0 +1,3 @@
+pub mod More
+pub mod Routed
+pub mod Planned

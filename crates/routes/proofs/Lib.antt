@@ -1,0 +1,5 @@
+pub mod Gathering
+pub mod Distances
+pub mod Descending
+pub mod Answers
+pub mod Soundness

@@ -1,0 +1,111 @@
+// The planner's route: the shortest, and of several the one that comes first lexicographically.
+ghost use mathlib.Core.Path.{_≡_};
+ghost use Prim.Native.Nat.{ℕ, _<_};
+ghost use lib.ListN.{length};
+ghost use Rattle.rules.specs.Words.{Has};
+ghost use Rattle.bitset.specs.Sets.{SetOf};
+ghost use Rattle.routes.specs.Rows.{topology};
+ghost use Rattle.routes.specs.Planner.{Asked, PlannerSays};
+ghost use Rattle.routes.specs.Levels.{Neighbour, Reached, Searched, Descended};
+use rules::Node;
+
+pub mod topology;
+
+// Whether there is a route.
+pub enum Reach {
+    Found,
+    NoRoute,
+}
+
+// The planner's answer: the route is the first hops + 1 nodes, and 0 stands after them.
+pub struct Planned {
+    pub reach: Reach,
+    pub hops: usize,
+    pub nodes: [u8; 16],
+}
+
+// The nodes that are linked to a member of the set.
+fn neighbours(links: &[u64], set: u64) -> u64
+    requires { ⌜ ((a : ℕ) → Has set a → a < length (now links)) ⌝ }
+    ensures { λ r. ⌜ SetOf (Neighbour (topology (now (links .entry))) set) r ⌝ }
+{
+    let mut around = 0;
+    let mut left = set;
+    while left != 0 {
+        let node = bitset::lowest(left);
+        around = bitset::union(around, links[node]);
+        left = bitset::remove_lowest(left);
+    }
+    around
+}
+
+// The hops from the source to the destination, 0 where there is no route; in sets the nodes at each lesser distance.
+fn search(links: &[u64], source: usize, destination: usize, sets: &mut [u64; 16]) -> usize
+    requires { ⌜ Asked (topology (now links)) source destination × (length (now sets) ≡ 16) ⌝ }
+    ensures { λ r. ⌜ Searched (topology (now (links .entry))) source destination r (now (sets .exit)) ⌝ }
+{
+    let row = links[source];
+    let mut last = bitset::insert(0, destination);
+    let mut near = last;
+    let mut hops = 0;
+    while hops < 15 {
+        sets[hops] = last;
+        hops += 1;
+        if bitset::intersection(row, last) != 0 {
+            return hops;
+        }
+        last = bitset::difference(neighbours(links, last), near);
+        if last == 0 {
+            return 0;
+        }
+        near = bitset::union(near, last);
+    }
+    0
+}
+
+// The route of so many hops: from the source on, each time the lowest neighbour that is one link nearer.
+fn descend(
+    links: &[u64],
+    sets: &[u64; 16],
+    source: usize,
+    destination: usize,
+    hops: usize,
+) -> [u8; 16]
+    requires { ⌜ Asked (topology (now links)) source destination × Reached (topology (now links)) source destination hops (now sets) ⌝ }
+    ensures { λ r. ⌜ Descended (topology (now (links .entry))) source destination hops r ⌝ }
+{
+    let mut nodes = [0u8; 16];
+    nodes[0] = source as u8;
+    let mut node = source;
+    let mut left = hops;
+    while node != destination {
+        left -= 1;
+        node = bitset::lowest(bitset::intersection(links[node], sets[left]));
+        nodes[hops - left] = node as u8;
+    }
+    nodes
+}
+
+// The planner's route from the source to the destination.
+pub fn plan(links: &[u64], source: Node, destination: Node) -> Planned
+    requires { ⌜ Asked (topology (now links)) (source .0) (destination .0) ⌝ }
+    ensures { λ r. ⌜ PlannerSays (topology (now (links .entry))) (source .0) (destination .0) r ⌝ }
+{
+    let from = source.0 as usize;
+    let to = destination.0 as usize;
+    let mut sets = [0u64; 16];
+    let hops = search(links, from, to, &mut sets);
+    if hops == 0 {
+        return Planned {
+            reach: Reach::NoRoute,
+            hops: 0,
+            nodes: [0u8; 16],
+        };
+    }
+    let nodes = descend(links, &sets, from, to, hops);
+    Planned {
+        reach: Reach::Found,
+        hops,
+        nodes,
+    }
+}
