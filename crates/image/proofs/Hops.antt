@@ -1,9 +1,7 @@
 -- What a lawful row has at each of its hops. Assumes nothing.
-use mathlib.Core.Path.{_≡_}
-use mathlib.Core.List.{List}
 use Prim.Native.Nat.{ℕ, _*_, _<_, _≤_}
 use native.Mathlib.Omega.{arith}
-use lib.ListN.{length, getD}
+use lib.ListN.{getD}
 use Rattle.rules.specs.Words.{_∈_}
 use Rattle.rules.specs.Tiles.{Plan}
 use Rattle.rules.specs.Topology.{Topology, nodes}

@@ -1,18 +1,17 @@
 -- What stands at a place, by the bytes of the image. Assumes nothing.
 use mathlib.Core.Path.{_≡_, refl, sym, ap, ap₂, _∙_}
-use mathlib.Core.List.{List, [], _∷_, _++_}
-use Prim.Native.Nat.{ℕ, zero, suc, _+_, _*_, _-_, _<_, _≤_}
+use mathlib.Core.List.{List, _∷_}
+use Prim.Native.Nat.{ℕ, zero, suc, _+_, _*_, _<_, _≤_, _-_}
 use native.Mathlib.Omega.{arith}
-use native.Mathlib.Nat.{add-zero}
 use mathlib.Core.Bool.{false}
 use lib.Dec.{leb}
-use lib.ListN.{length, getD, take, drop, length-take, length-drop}
+use lib.ListN.{length, getD, drop, length-take, length-drop}
 use lib.Seq.{getD-take, getD-drop, drop-drop}
 use Rattle.rules.specs.Book.{Row, hops, rowOffset}
 use Rattle.rules.specs.Image.{wordAt, word64At, rowsStart, nodesOf, streamsOf}
 use Rattle.rules.specs.Words.{Tests}
 use Rattle.rules.proofs.Tests.{never, alike, tests-le}
-use Rattle.rules.proofs.Encoding.{wordsAt, frontRow}
+use Rattle.rules.proofs.Encoding.{wordsAt, Sized}
 use Rattle.model.specs.Reading.{readRows, rowsIn}
 use Rattle.image.specs.Places.{rowAt, nextAt, rowsFrom, Whole}
 
@@ -103,3 +102,15 @@ module _ (s : List ℕ) (at : ℕ) (inside : at ≤ length s) where
   unfolding nextAt
   tests-whole h e l =
       alike (tests-le (5 + 3 * h) (length s - at)) (λ f. record { front = omega arith; fits = omega arith }) (λ w. omega (arith, w .fits))
+
+length-words-at : (n : ℕ) (s : List ℕ) → length (wordsAt n s) ≡ n
+length-words-at zero s = refl
+length-words-at (suc n) s = ap suc (length-words-at n (drop 2 s))
+
+-- a whole row has as many offsets as hops, and one node more
+pub whole-sized : (s : List ℕ) (at : ℕ) → Whole s at → Sized (rowAt s at)
+unfolding rowAt
+whole-sized s at w = record {
+  nodes = simp (length-take, length-drop) (omega (arith, size s at w, enough s at w));
+  offsets = length-words-at (getD (drop at s) 3 0) (drop (getD (drop at s) 3 0 + 1) (drop 4 (drop at s))) ∙ size s at w ∙ sym (row-hops s at w);
+}

@@ -1,20 +1,20 @@
 -- A walk over the rows of an image, from row to row. Assumes nothing.
 use mathlib.Core.Path.{_≡_, refl, sym, ap, ap₂, _∙_, subst}
-use mathlib.Core.Logic.{_⊎_, inl, inr}
+use mathlib.Core.Logic.{inl, inr}
 use mathlib.Core.List.{List, [], _∷_, _++_, append-assoc}
-use Prim.Native.Nat.{ℕ, zero, suc, _+_, _*_, _-_, _<_, _≤_}
+use Prim.Native.Nat.{ℕ, zero, suc, _+_, _*_, _<_, _≤_, _-_}
 use native.Mathlib.Omega.{arith}
 use native.Mathlib.Numerals.{unary-clauses}
 use lib.ListN.{length, getD, drop, length-append, length-drop}
 use lib.Seq.{getD-drop, drop-drop}
 use Rattle.rules.specs.Words.{_∈_}
-use Rattle.rules.specs.Book.{Row, hops, hopsInAll, LawfulRow}
-use Rattle.rules.specs.Image.{inTurn, encodeRow, rowsStart, imageLength, nodesOf, streamsOf, planOf, topologyOf, RowsOf, Stored}
+use Rattle.rules.specs.Book.{Row, hops, hopsInAll}
+use Rattle.rules.specs.Image.{inTurn, encodeRow, rowsStart, imageLength, nodesOf, streamsOf, RowsOf, Stored}
 use Rattle.rules.proofs.Encoding.{frontRow, Sized, AllSized, row-back, length-row, left-over, lawful-sized, rows-of, length-encode, all-sized}
 use Rattle.rules.proofs.Written.{length-linksAt}
 use Rattle.model.specs.Reading.{rowsIn, bookIn}
 use Rattle.image.specs.Places.{rowAt, nextAt, rowsFrom, Whole, Stands, RowHere}
-use Rattle.image.proofs.Places.{rows-in, length-rows-from, row-hops}
+use Rattle.image.proofs.Places.{length-rows-from}
 
 pub in-later : {A : Type 0} (x : A) (xs ys : List A) → x ∈ ys → x ∈ xs ++ ys
 in-later x [] ys m = m
@@ -32,7 +32,7 @@ stored-length {s} h =
 
 -- A ROW WHERE IT WAS WRITTEN
 module _ (s : List ℕ) (at : ℕ) (r : Row) (t : List ℕ) (w : Sized r) (e : drop at s ≡ encodeRow r ++ t) where
-  read-row : rowAt s at ≡ r
+  pub read-row : rowAt s at ≡ r
   unfolding rowAt
   read-row = ap frontRow e ∙ row-back r t w
 
@@ -47,7 +47,7 @@ module _ (s : List ℕ) (at : ℕ) (r : Row) (t : List ℕ) (w : Sized r) (e : d
   long : length s - at ≡ 5 + 3 * hops r + length t
   long = sym (length-drop at s) ∙ ap length e ∙ length-append (encodeRow r) t ∙ ap (λ (n : ℕ). n + length t) (length-row r t w)
 
-  whole-row : Whole s at
+  pub whole-row : Whole s at
   unfolding nextAt
   whole-row = record { front = omega (arith, long); fits = omega (arith, long, stated) }
 

@@ -20,14 +20,14 @@ use Rattle.rules.proofs.Periods.{period-most}
 use Rattle.bitset.proofs.Bits.{zero-none}
 use Rattle.clash.specs.declared.Reach.{Reach}
 use Rattle.clash.specs.Reach.{topology, Between, ReachOf}
-use Rattle.placing.specs.Marks.{offsets, Marked, Adds}
+use Rattle.placing.specs.Marks.{mostOffsets, Marked, Adds}
 use Rattle.placing.specs.Rows.{BookBeside, NearAny}
 use Rattle.placing.specs.Answers.{FreeIn, Searched, LinksOf, Asked}
 use Rattle.placing.specs.declared.Next.{Next}
 use Rattle.placing.specs.declared.Next.the-variants.{At, Nowhere}
 
 -- an offset of a period has a bit in the table
-pub span-most : {plan : Plan} {place : ℕ} → PlanInRange plan → InList place → periodAt place * plan .slots ≤ offsets
+pub span-most : {plan : Plan} {place : ℕ} → PlanInRange plan → InList place → periodAt place * plan .slots ≤ mostOffsets
 span-most {place = place} w h = mul-le-mul (period-most place h) (w .most)
 
 -- a search for what holds alike below the end finds the same
@@ -94,5 +94,5 @@ module _ {s links route : List ℕ} {book : image.Book} {place : ℕ} (w : Asked
         to = w .path .known _ (at-in route (i + 1) (omega arith));
       }
 
-  pub asked-span : periodAt place * planOf s .slots ≤ offsets
+  pub asked-span : periodAt place * planOf s .slots ≤ mostOffsets
   asked-span = span-most (w .beside .stored .lawful .plan) (w .beside .period)

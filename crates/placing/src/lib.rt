@@ -9,7 +9,7 @@ ghost use Rattle.rules.specs.Image.{planOf};
 ghost use Rattle.model.specs.Reading.{rowsIn, bookIn};
 ghost use Rattle.image.specs.Places.{rowAt};
 ghost use Rattle.clash.specs.Reach.{topology, hop, Between};
-ghost use Rattle.placing.specs.Marks.{offsets, BitForEach, Marked, Adds};
+ghost use Rattle.placing.specs.Marks.{mostOffsets, BitForEach, Marked, Adds};
 ghost use Rattle.placing.specs.Rows.{RowBeside, BookBeside, Near, NearAny};
 ghost use Rattle.placing.specs.Answers.{FreeIn, Searched, LinksOf, Asked, Answers};
 use clash::Reach;
@@ -39,7 +39,7 @@ enum Next {
 
 // Whether the offset is marked.
 fn is_marked(table: &[u64; 50], o: u16) -> bool
-    requires { ⌜ o < offsets ⌝ }
+    requires { ⌜ o < mostOffsets ⌝ }
     ensures { λ r. ⌜ Tests r (Marked (now (table .entry)) o) ⌝ }
 {
     let at = o as usize;
@@ -48,7 +48,7 @@ fn is_marked(table: &[u64; 50], o: u16) -> bool
 
 // Marks the offset.
 fn mark(table: &mut [u64; 50], o: u16)
-    requires { ⌜ BitForEach (now table) × (o < offsets) ⌝ }
+    requires { ⌜ BitForEach (now table) × (o < mostOffsets) ⌝ }
     ensures { λ r. ⌜ Adds (λ (k : ℕ). k ≡ o) (now (table .entry)) (now (table .exit)) ⌝ }
 {
     let at = o as usize;
@@ -58,7 +58,7 @@ fn mark(table: &mut [u64; 50], o: u16)
 
 // Marks the offsets below the end that agree with p by the modulus.
 fn mark_alike(table: &mut [u64; 50], p: u16, m: u16, end: u16)
-    requires { ⌜ BitForEach (now table) × (0 < m) × (m ≤ offsets) × (end ≤ offsets) ⌝ }
+    requires { ⌜ BitForEach (now table) × (0 < m) × (m ≤ mostOffsets) × (end ≤ mostOffsets) ⌝ }
     ensures { λ r. ⌜ Adds (λ (k : ℕ). (k < end) × (k % m ≡ p % m)) (now (table .entry)) (now (table .exit)) ⌝ }
 {
     let mut o = p % m;
@@ -165,15 +165,9 @@ pub fn first_placing(image: &[u8], book: Book, links: &[u64], route: &[u8], plac
     let mut lo: u16 = 0;
     let mut h = 0;
     while h < hops {
-        match next_offset(
-            image,
-            book,
-            links,
-            Node(route[h]),
-            Node(route[h + 1]),
-            place,
-            lo,
-        ) {
+        let from = Node(route[h]);
+        let to = Node(route[h + 1]);
+        match next_offset(image, book, links, from, to, place, lo) {
             Next::At(o) => {
                 offsets[h] = o;
                 lo = o + 1;

@@ -1,8 +1,6 @@
 -- One row after the other is decoded. Assumes nothing.
-use borrow.Author.Needs.{needs}
 use Rattle.image.proofs.Topologies.{Decoded, decoded-none, decoded-more, decoded-done}
 use Prim.Native.Nat.{_≤_, _-_}
-use mathlib.Core.Path.{_≡_, refl, sym, ap, _∙_}
 use native.Mathlib.Omega.{arith}
 use Rattle.image.proofs.links.Statement.{statement}
 use Rattle.image.proofs.links.Tie as tie

@@ -1,7 +1,7 @@
 -- The nodes stand behind the count of hops. Assumes nothing.
 use Prim.Native.Nat.{_+_}
 use Rattle.image.proofs.Places.{row-node, next-hops}
-use mathlib.Core.Path.{_≡_, refl, sym, ap, _∙_}
+use mathlib.Core.Path.{sym}
 use native.Mathlib.Omega.{arith}
 use borrow.Author.Needs.{needs}
 use Rattle.image.proofs.node_at.Statement.{statement}

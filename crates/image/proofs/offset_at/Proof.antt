@@ -1,6 +1,6 @@
 -- The offsets stand behind the nodes. Assumes nothing.
 use Rattle.image.proofs.Places.{row-offset, next-hops}
-use mathlib.Core.Path.{_≡_, refl, sym, ap, _∙_}
+use mathlib.Core.Path.{sym, _∙_}
 use native.Mathlib.Omega.{arith}
 use borrow.Author.Needs.{needs}
 use Rattle.image.proofs.offset_at.Statement.{statement}

@@ -1,5 +1,5 @@
 -- `placing::mark_row` meets its contract. Assumes nothing.
-use mathlib.Core.Path.{_≡_, _∙_, sym}
+use mathlib.Core.Path.{_∙_}
 use mathlib.Core.Logic.{⊎-elim}
 use Prim.Native.Nat.{_≤_, _+_, _-_}
 use native.Mathlib.Omega.{arith}
@@ -11,17 +11,6 @@ use Rattle.placing.proofs.Marking.{adds-size}
 use Rattle.placing.proofs.RowHops.{AlikeFirst, row-facts, row-place, hops-none, hops-hit, hops-miss, hops-done, row-hop, place-at}
 use Rattle.placing.proofs.mark_row.Statement.{statement}
 use Rattle.placing.proofs.mark_row.Tie as tie
-use Rattle.placing.proofs.mark_row.Reads as reads
-use Rattle.placing.proofs.mark_row.Lts as lts
-use Rattle.clash.proofs.clashes.Reads as clashes-reads
-use Rattle.image.proofs.hops_at.Reads as hops-at-reads
-use Rattle.image.proofs.node_at.Reads as node-at-reads
-use Rattle.image.proofs.offset_at.Reads as offset-at-reads
-use Rattle.image.proofs.period_at.Reads as period-at-reads
-use Rattle.placing.proofs.mark_alike.Reads as mark-alike-reads
-use Rattle.rules.proofs.modulus.Reads as modulus-reads
-use Rattle.rules.proofs.place_of.Reads as place-of-reads
-use Rattle.rules.proofs.span.Reads as span-reads
 
 abbrev Inv-loop : tie.InvT-loop
 Inv-loop table₀ image at place reach j m end hops i₀ table i =
@@ -30,29 +19,14 @@ Inv-loop table₀ image at place reach j m end hops i₀ table i =
 abbrev μ-loop : tie.MeasureT-loop
 μ-loop table₀ image at place reach j m end hops i₀ table i = hops - i
 
--- src/lib.rt:74:40
 period-at-requires : tie.Need-period-at-requires Inv-loop μ-loop
 period-at-requires c κs = c .before .pre .1 .row .whole
 
--- src/lib.rt:74:24
-place-of-requires : tie.Need-place-of-requires Inv-loop μ-loop
-place-of-requires c κs = search needs
-
--- src/lib.rt:74:19
-enum-known-j : tie.Need-enum-known-j Inv-loop μ-loop
-enum-known-j c = search needs
-
--- src/lib.rt:75:9
-enum-told : tie.Need-enum-told Inv-loop μ-loop
-enum-told c = search needs
-
--- src/lib.rt:75:9
 returns : tie.Need-returns Inv-loop μ-loop
 returns c =
     let b = c .before .before .before .before .before in
     absurd (row-place (row-facts (b .pre .1)) (c .before .before .before .period-at .ensures .0) (c .enum-told .given .1) (c .before .before .place-of .ensures))
 
--- src/lib.rt:77:9
 modulus-requires : tie.Need-modulus-requires Inv-loop μ-loop
 modulus-requires c κs =
     let b = c .before .before .before .before .before .before .pre .1 in
@@ -60,44 +34,32 @@ modulus-requires c κs =
     let p = place-at (c .before .j .given .1) (c .before .before .before .place-of .ensures) in
     (f .some, f .most, omega (arith, b .period, p .0), omega (arith, b .period, p .0))
 
--- src/lib.rt:78:9
 span-requires : tie.Need-span-requires Inv-loop μ-loop
 span-requires c κs =
     let b = c .before .before .before .before .before .before .before .pre .1 in
     (row-facts b .most, b .period)
 
--- src/lib.rt:79:9
 hops-at-requires : tie.Need-hops-at-requires Inv-loop μ-loop
 hops-at-requires c κs = c .before .before .before .before .before .before .before .before .pre .1 .row .whole
 
--- src/lib.rt:81:5
 loop-holds : tie.Need-loop-holds Inv-loop μ-loop
 loop-holds c = (search needs, hops-none _ _ _ _ _)
 
--- src/lib.rt:82:34
 node-at-requires : tie.Need-node-at-requires Inv-loop μ-loop
 node-at-requires c κs = (c .before .before .before .before .before .before .before .before .before .before .before .pre .1 .row .whole, omega arith)
 
--- src/lib.rt:82:90
-add-node-at : tie.Need-add-node-at Inv-loop μ-loop
-add-node-at c = search needs
-
--- src/lib.rt:82:64
 node-at-requires-2 : tie.Need-node-at-requires-2 Inv-loop μ-loop
 node-at-requires-2 c κs = (c .before .before .before .before .before .before .before .before .before .before .before .before .pre .1 .row .whole, omega arith)
 
--- src/lib.rt:82:12
 clashes-requires : tie.Need-clashes-requires Inv-loop μ-loop
 clashes-requires c κs =
     let f = row-facts (c .before .before .before .before .before .before .before .before .before .before .before .before .before .pre .1) in
     let i = c .before .before .before .loop .i in
     (omega (arith, f .node i (omega arith)), omega (arith, f .node (i + 1) (omega arith)))
 
--- src/lib.rt:83:17
 offset-at-requires : tie.Need-offset-at-requires Inv-loop μ-loop
 offset-at-requires c κs = (c .before .before .before .before .before .before .before .before .before .before .before .before .before .before .before .pre .1 .row .whole, omega arith)
 
--- src/lib.rt:84:13
 mark-alike-requires : tie.Need-mark-alike-requires Inv-loop μ-loop
 mark-alike-requires c κs =
     let b = c .before .before .before .before .before .before .before .before .before .before .before .before .before .before .before .before .before .pre in
@@ -105,15 +67,6 @@ mark-alike-requires c κs =
     let m = c .before .before .before .before .before .before .before .before .before .before .modulus .ensures in
     (adds-size (c .before .before .before .before .before .before .before .loop .inv .1) (b .0), omega (arith, m .some, f .some), omega (arith, m .most, f .most), omega (arith, c .before .before .before .before .before .before .before .before .before .span .ensures .1, f .most))
 
--- src/lib.rt:86:9
-add-i : tie.Need-add-i Inv-loop μ-loop
-add-i c = search needs
-
--- src/lib.rt:81:5
-loop-less : tie.Need-loop-less Inv-loop μ-loop
-loop-less c = search needs
-
--- src/lib.rt:81:5
 loop-again : tie.Need-loop-again Inv-loop μ-loop
 loop-again c =
     let l = c .before .before .before .before .before .loop in
@@ -124,7 +77,6 @@ loop-again c =
           (λ w. hops-miss _ _ _ _ (fails t (w .0 .left)) (l .inv .1) (w .1)) (c .if1 .came),
     )
 
--- src/lib.rt:63:1
 returns-2 : tie.Need-returns-2 Inv-loop μ-loop
 returns-2 c =
     let b = c .before .before .before .before .before .before .before .before .before .before .before .pre .1 in
@@ -138,21 +90,21 @@ mark-row-spec =
     Inv-loop
     μ-loop
     period-at-requires
-    place-of-requires
-    enum-known-j
-    enum-told
+    (λ c κs. search needs)
+    (λ c. search needs)
+    (λ c. search needs)
     returns
     modulus-requires
     span-requires
     hops-at-requires
     loop-holds
     node-at-requires
-    add-node-at
+    (λ c. search needs)
     node-at-requires-2
     clashes-requires
     offset-at-requires
     mark-alike-requires
-    add-i
-    loop-less
+    (λ c. search needs)
+    (λ c. search needs)
     loop-again
     returns-2)

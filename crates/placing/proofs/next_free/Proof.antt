@@ -10,10 +10,6 @@ use Rattle.rules.proofs.Tests.{fails}
 use Rattle.placing.specs.Answers.{FreeIn}
 use Rattle.placing.proofs.next_free.Statement.{statement}
 use Rattle.placing.proofs.next_free.Tie as tie
-use Rattle.placing.proofs.next_free.Reads as reads
-use Rattle.placing.proofs.next_free.Lts as lts
-use Rattle.placing.proofs.is_free.Reads as is-free-reads
-use Rattle.rules.proofs.span.Reads as span-reads
 
 abbrev Inv-loop : tie.InvT-loop
 Inv-loop plan place table lo end o₀ o = (lo ≤ o) × ((k : ℕ) → k < o → lo ≤ k → FreeIn (thePlan plan) (periodAt place) table k → ⊥)
@@ -21,19 +17,15 @@ Inv-loop plan place table lo end o₀ o = (lo ≤ o) × ((k : ℕ) → k < o →
 abbrev μ-loop : tie.MeasureT-loop
 μ-loop plan place table lo end o₀ o = end .0 - o
 
--- src/lib.rt:129:9
 span-requires : tie.Need-span-requires Inv-loop μ-loop
 span-requires c κs = (c .pre .0 .most, c .pre .1)
 
--- src/lib.rt:131:5
 loop-holds : tie.Need-loop-holds Inv-loop μ-loop
 loop-holds c = (le-refl _, λ k h l. absurd (omega arith))
 
--- src/lib.rt:132:12
 is-free-requires : tie.Need-is-free-requires Inv-loop μ-loop
 is-free-requires c κs = (c .before .before .before .before .pre .0, c .before .before .before .before .pre .1, omega (arith, c .if1 .taken, c .before .before .before .span .ensures .0))
 
--- src/lib.rt:133:13
 returns : tie.Need-returns Inv-loop μ-loop
 returns c =
     let l = c .before .before .before .before .loop in
@@ -44,21 +36,11 @@ returns c =
       none-before = λ k h m. l .inv .1 k m h;
     }
 
--- src/lib.rt:135:9
-add-o : tie.Need-add-o Inv-loop μ-loop
-add-o c = search needs
-
--- src/lib.rt:131:5
-loop-less : tie.Need-loop-less Inv-loop μ-loop
-loop-less c = search needs
-
--- src/lib.rt:131:5
 loop-again : tie.Need-loop-again Inv-loop μ-loop
 loop-again c =
     let l = c .before .before .before .before .loop in
     (search needs, below-more _ _ (l .inv .1) (λ h f. fails (c .before .is-free .ensures) (c .if2 .left) f))
 
--- src/lib.rt:125:1
 returns-2 : tie.Need-returns-2 Inv-loop μ-loop
 returns-2 c = λ k h m. c .before .before .loop .inv .1 k (omega (arith, c .if1 .left, c .before .before .before .span .ensures .0)) h
 
@@ -72,7 +54,7 @@ next-free-spec =
     loop-holds
     is-free-requires
     returns
-    add-o
-    loop-less
+    (λ c. search needs)
+    (λ c. search needs)
     loop-again
     returns-2)

@@ -1,6 +1,5 @@
 -- Each field is read at its place. Assumes nothing.
-use mathlib.Core.Path.{_≡_, refl, sym, ap, ap₂, _∙_}
-use native.Mathlib.Omega.{arith}
+use mathlib.Core.Path.{_∙_}
 use borrow.Author.Needs.{needs}
 use Rattle.image.proofs.Book.read.Statement.{statement}
 use Rattle.image.proofs.Book.read.Tie as tie

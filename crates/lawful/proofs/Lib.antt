@@ -1,0 +1,11 @@
+pub mod Parts
+pub mod Ranges
+pub mod Nodes
+pub mod Rises
+pub mod Single
+pub mod Walks
+pub mod Filling
+pub mod Seeking
+pub mod Agreeing
+pub mod Pairs
+pub mod Verdicts

@@ -1,0 +1,9 @@
+-- A test of several parts, by the part that failed. Assumes nothing.
+use mathlib.Core.Path.{_≡_, sym, _∙_}
+use mathlib.Core.Bool.{Bool, false}
+use Rattle.rules.specs.Words.{Tests}
+use Rattle.rules.proofs.Tests.{never}
+
+-- a part of Q that failed is a test of Q
+pub part-failed : {t : Bool} {P Q : Type 0} → Tests t P → t ≡ false → (Q → P) → Tests t Q
+part-failed a e f = record { yes = λ y. never (sym e ∙ y); back = λ q. a .back (f q) }

@@ -1,0 +1,51 @@
+-- Its hops are tried one by one. Assumes nothing.
+use Rattle.lawful.proofs.Pairs.{hop-behind, behind-hop}
+use Rattle.lawful.specs.Meeting.{HopMeetsBehind}
+use borrow.Author.Count.{below-more}
+use Prim.Native.Nat.{ℕ, _<_, _≤_, _-_}
+use Rattle.rules.proofs.Tests.{fails, said-yes, said-no}
+use native.Mathlib.Omega.{arith}
+use Rattle.lawful.proofs.meeting.row_clashes.Statement.{statement}
+use Rattle.lawful.proofs.meeting.row_clashes.Tie as tie
+
+abbrev Inv-loop : tie.InvT-loop
+Inv-loop image book links at left h i₀ i = (i ≤ h) × ((j : ℕ) → j < i → HopMeetsBehind image at left j → ⊥)
+
+abbrev μ-loop : tie.MeasureT-loop
+μ-loop image book links at left h i₀ i = h - i
+
+hops-at-requires : tie.Need-hops-at-requires Inv-loop μ-loop
+hops-at-requires c κs = c .before .before .pre .row .whole
+
+loop-holds : tie.Need-loop-holds Inv-loop μ-loop
+loop-holds c = (omega arith, λ j l. absurd (omega arith))
+
+hop-meets-requires : tie.Need-hop-meets-requires Inv-loop μ-loop
+hop-meets-requires c κs = (c .before .before .before .before .before .pre, omega arith)
+
+returns : tie.Need-returns Inv-loop μ-loop
+returns c =
+    let a = c .before .before .before .before .before .before .before .args in said-yes (behind-hop (a .image .now) (a .at) (a .left) (c .before .before .before .loop .i) (omega arith) (c .before .hop-meets .ensures .yes (c .if1 .taken)))
+
+loop-again : tie.Need-loop-again Inv-loop μ-loop
+loop-again c =
+    (omega arith, below-more _ _ (c .before .before .before .loop .inv .1) (fails (c .before .hop-meets .ensures) (c .if1 .left)))
+
+returns-2 : tie.Need-returns-2 Inv-loop μ-loop
+returns-2 c =
+    let a = c .before .before .before .before .before .args in said-no (λ h. let p = hop-behind (a .image .now) (a .at) (a .left) h in c .before .loop .inv .1 (p .0) (omega (arith, p .1)) (p .2))
+
+pub row-clashes-spec : {M : Type 1} → statement M
+row-clashes-spec =
+    tie.close
+    (tie.spec
+    Inv-loop
+    μ-loop
+    hops-at-requires
+    loop-holds
+    hop-meets-requires
+    returns
+    (λ c. omega arith)
+    (λ c. omega arith)
+    loop-again
+    returns-2)

@@ -1,0 +1,52 @@
+// Whether an image is that of a lawful book, and if not, which refusal applies first.
+ghost use mathlib.Core.Path.{_≡_};
+ghost use mathlib.Core.List.{_++_};
+ghost use lib.ListN.{take};
+ghost use Rattle.rules.specs.Image.{mark, version, word};
+ghost use Rattle.image.specs.Header.{HeaderOf};
+ghost use Rattle.lawful.specs.Frame.{Framed, Verdict};
+use image::Book;
+
+pub mod fields;
+pub mod meeting;
+pub mod rows;
+
+// The number of an image whose header is in order: 11, 15, 16 or 0.
+fn body_verdict(image: &[u8], book: Book) -> u8
+    requires { ⌜ (take 5 (now image) ≡ mark ++ word version) × Framed (now image) × HeaderOf (now image) book ⌝ }
+    ensures { λ r. ⌜ Verdict (now (image .entry)) r ⌝ }
+{
+    let n = book.nodes;
+    let all = image::links(image, image::HEADER, n);
+    let links = &all[..n];
+    if !routes::topology::sound(links) {
+        return 11;
+    }
+    if !rows::rows_hold(image, book, links) {
+        return 15;
+    }
+    if meeting::hops_meet(image, book, links) {
+        return 16;
+    }
+    0
+}
+
+// The number that a check of an image gives.
+pub fn verdict(image: &[u8]) -> u8
+    ensures { λ r. ⌜ Verdict (now (image .entry)) r ⌝ }
+{
+    if image.len() < image::HEADER {
+        return 14;
+    }
+    if !image::is_marked(image) {
+        return 13;
+    }
+    let book = Book::read(image);
+    if !fields::fields_in_range(image, book) {
+        return 10;
+    }
+    if image.len() != book.image_length() {
+        return 14;
+    }
+    body_verdict(image, book)
+}

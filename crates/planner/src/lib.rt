@@ -1,0 +1,148 @@
+// The public calls: each takes a book as its stored image, and says back a number.
+ghost use mathlib.Core.Path.{_≡_};
+ghost use Rattle.rules.specs.Periods.{thePlan};
+ghost use Rattle.rules.specs.Calls.{New, Check, Rewrite, Open, Close, Expand};
+ghost use Rattle.planner.specs.Balances.{BalanceSays};
+use answers::Answer;
+use image::Book;
+use rules::Node;
+use rules::Plan;
+use rules::Tile;
+
+// A node's balance: a number, and data, used and free slots.
+pub struct Balance {
+    pub number: u8,
+    pub data: u32,
+    pub used: u32,
+    pub free: u32,
+}
+
+// Makes a book without streams; the topology is given as it stands in an image.
+pub fn new_book(plan: Plan, nodes: u8, topology: &[u8], out: &mut [u8]) -> Answer
+    ensures { λ r. ⌜ New (thePlan plan) nodes (now (topology .entry)) (now (out .entry)) (r .number) (r .length) (now (out .exit)) ⌝ }
+{
+    let n = nodes as usize;
+    if !lawful::fields::plan_in_range(plan) {
+        return answers::refused(10);
+    }
+    if !lawful::fields::nodes_in_range(n) {
+        return answers::refused(10);
+    }
+    if topology.len() != 8 * n {
+        return answers::refused(11);
+    }
+    let rows = image::links(topology, 0, n);
+    if !routes::topology::sound(&rows[..n]) {
+        return answers::refused(11);
+    }
+    let length = image::HEADER + topology.len();
+    if out.len() < length {
+        return answers::refused(12);
+    }
+    writer::put_new(plan, nodes, topology, out);
+    answers::done(length)
+}
+
+// Checks an image.
+pub fn check(image: &[u8]) -> Answer
+    ensures { λ r. ⌜ Check (now (image .entry)) (r .number) (r .length) ⌝ }
+{
+    answers::refused(lawful::verdict(image))
+}
+
+// Writes the image of the same book.
+pub fn rewrite(image: &[u8], out: &mut [u8]) -> Answer
+    ensures { λ r. ⌜ Rewrite (now (image .entry)) (now (out .entry)) (r .number) (r .length) (now (out .exit)) ⌝ }
+{
+    let number = lawful::verdict(image);
+    if number != 0 {
+        return answers::refused(number);
+    }
+    if out.len() < image.len() {
+        return answers::refused(12);
+    }
+    writer::put_part(image, out, 0);
+    answers::done(image.len())
+}
+
+// Opens a stream: writes the image of the book with it.
+pub fn open_stream(
+    image: &[u8],
+    id: u16,
+    source: Node,
+    destination: Node,
+    period: Tile,
+    out: &mut [u8],
+) -> Answer
+    ensures { λ r. ⌜ Open (now (image .entry)) id (source .0) (destination .0) (period .0) (now (out .entry)) (r .number) (r .length) (now (out .exit)) ⌝ }
+{
+    let number = lawful::verdict(image);
+    if number != 0 {
+        return answers::refused(number);
+    }
+    opening::open_on(image, id, source, destination, period, out)
+}
+
+// Closes a stream: writes the image of the book without it.
+pub fn close_stream(image: &[u8], id: u16, out: &mut [u8]) -> Answer
+    ensures { λ r. ⌜ Close (now (image .entry)) id (now (out .entry)) (r .number) (r .length) (now (out .exit)) ⌝ }
+{
+    let number = lawful::verdict(image);
+    if number != 0 {
+        return answers::refused(number);
+    }
+    closing::close_on(image, id, out)
+}
+
+// Writes a node's slot table for all 100 tiles.
+pub fn expand(image: &[u8], node: Node, out: &mut [u8]) -> Answer
+    ensures { λ r. ⌜ Expand (now (image .entry)) (node .0) (now (out .entry)) (r .number) (r .length) (now (out .exit)) ⌝ }
+{
+    let number = lawful::verdict(image);
+    if number != 0 {
+        return answers::refused(number);
+    }
+    let book = Book::read(image);
+    if book.nodes <= node.0 as usize {
+        return answers::refused(4);
+    }
+    let length = tables::table_length(book.plan);
+    if out.len() < length {
+        return answers::refused(12);
+    }
+    tables::fill(image, book, node, out);
+    answers::done(length)
+}
+
+// A refusal of a balance: three zeros.
+fn no_balance(number: u8) -> Balance
+    ensures { λ r. ⌜ (r .number ≡ number) × (r .data ≡ 0) × (r .used ≡ 0) × (r .free ≡ 0) ⌝ }
+{
+    Balance {
+        number,
+        data: 0,
+        used: 0,
+        free: 0,
+    }
+}
+
+// Gives a node's balance.
+pub fn balance_of(image: &[u8], node: Node) -> Balance
+    ensures { λ r. ⌜ BalanceSays (now (image .entry)) (node .0) r ⌝ }
+{
+    let number = lawful::verdict(image);
+    if number != 0 {
+        return no_balance(number);
+    }
+    let book = Book::read(image);
+    if book.nodes <= node.0 as usize {
+        return no_balance(4);
+    }
+    let counts = tables::count(image, book, node);
+    Balance {
+        number: 0,
+        data: counts.data,
+        used: counts.used,
+        free: counts.free,
+    }
+}

@@ -1,0 +1,77 @@
+-- A table is control slots and sleep, and then the rows over them. Assumes nothing.
+use mathlib.Core.Path.{_≡_, refl, sym, ap, _∙_, subst}
+use Prim.Native.Nat.{_≤_}
+use native.Mathlib.Omega.{arith}
+use lib.ListN.{length}
+use Rattle.rules.specs.Tiles.{Plan, PlanInRange}
+use Rattle.rules.specs.Table.{tableLength}
+use Rattle.image.specs.Places.{Stands}
+use Rattle.image.proofs.Stands.{stands-row}
+use Rattle.tables.proofs.Hops.{filled}
+use Rattle.tables.proofs.Walks.{stands-first, stands-on, Follows, follows-first, follows-on, follows-end}
+use Rattle.tables.proofs.fill.Statement.{statement}
+use Rattle.tables.proofs.fill.Tie as tie
+
+abbrev Inv-loop : tie.InvT-loop
+Inv-loop image node out₀ slots at₀ left₀ out at left =
+    (length out ≡ length out₀) × Stands image at left × Follows image (node .0) out₀ out at left
+
+abbrev μ-loop : tie.MeasureT-loop
+μ-loop image node out₀ slots at₀ left₀ out at left = left
+
+blank-requires : tie.Need-blank-requires Inv-loop μ-loop
+blank-requires c κs =
+    let st = c .before .before .before in
+    let e = st .pre .0 .1 .plan in
+    (subst PlanInRange (sym e) (st .pre .0 .0 .lawful .plan), subst (λ (p : Plan). tableLength p ≤ length (st .args .out .now)) (sym e) (st .pre .1))
+
+rows-start-requires : tie.Need-rows-start-requires Inv-loop μ-loop
+rows-start-requires c κs = c .before .before .before .before .before .before .before .pre .0 .1 .small-nodes
+
+loop-holds : tie.Need-loop-holds Inv-loop μ-loop
+loop-holds c =
+    let h = c .before .before .before .before .before .before .before .before .pre .0 .1 in
+    (refl, stands-first (c .before .before .before .before .before .before .before .before .pre .0 .0) (h .nodes) (c .rows-start .ensures) (h .streams), follows-first (h .nodes) (c .rows-start .ensures) (h .streams))
+
+row-requires : tie.Need-row-requires Inv-loop μ-loop
+row-requires c κs =
+    let st = c .before .before .before .before .before .before .before .before .before .before .before in
+    let l = c .before .before .loop in
+    let e = ap (λ (p : Plan). p .slots) (st .pre .0 .1 .plan) in
+    ((stands-row (c .before .loop-test .taken) (l .inv .1), e, omega (arith, e, st .pre .0 .0 .lawful .plan .most)), omega (arith, st .pre .1, l .inv .0, c .before .before .before .before .before .before .before .blank .kept .1 .0))
+
+next-requires : tie.Need-next-requires Inv-loop μ-loop
+next-requires c κs = stands-row (c .before .before .before .before .loop-test .taken) (c .before .before .before .before .before .loop .inv .1) .whole
+
+loop-again : tie.Need-loop-again Inv-loop μ-loop
+loop-again c =
+    let l = c .before .before .before .before .before .before .loop in
+    let m = c .before .before .before .before .before .loop-test .taken in
+    (omega (arith, c .before .before .before .row .kept .1 .1 .1 .1 .0, l .inv .0), stands-on m (c .next .ensures .0) (l .inv .1), follows-on m (c .next .ensures .0) (l .inv .1) (c .before .before .before .row .ensures) (l .inv .2))
+
+same-length : tie.Need-same-length Inv-loop μ-loop
+same-length c = c .before .loop .inv .0 ∙ c .before .before .before .before .before .before .blank .kept .1 .0
+
+returns : tie.Need-returns Inv-loop μ-loop
+returns c =
+    let st = c .before .before .before .before .before .before .before .before .before .before in
+    let l = c .before .loop in
+    filled (st .args .image .now) (st .args .node .0) (st .pre .0 .1 .plan) (c .before .before .before .before .before .before .blank .ensures) (follows-end (c .loop-test .left) (l .inv .2))
+    (omega (arith, st .pre .1, l .inv .0, c .before .before .before .before .before .before .blank .kept .1 .0))
+
+pub fill-spec : {M : Type 1} → statement M
+fill-spec =
+    tie.close
+    (tie.spec
+    Inv-loop
+    μ-loop
+    blank-requires
+    rows-start-requires
+    loop-holds
+    row-requires
+    next-requires
+    (λ c. omega arith)
+    (λ c. omega arith)
+    loop-again
+    same-length
+    returns)

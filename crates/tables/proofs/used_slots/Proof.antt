@@ -1,0 +1,60 @@
+-- The repeats of all hops are summed row by row. Assumes nothing.
+use native.Mathlib.Omega.{arith}
+use Rattle.model.specs.Reading.{bookIn}
+use Rattle.image.specs.Places.{Stands}
+use Rattle.image.proofs.Stands.{stands-row}
+use Rattle.tables.proofs.Balances.{used-most}
+use Rattle.tables.proofs.Walks.{stands-first, stands-on, Sums, sums-first, sums-most, sums-on, sums-end}
+use Rattle.tables.proofs.used_slots.Statement.{statement}
+use Rattle.tables.proofs.used_slots.Tie as tie
+
+abbrev Inv-loop : tie.InvT-loop
+Inv-loop image node sum₀ at₀ left₀ sum at left = Stands image at left × Sums image (node .0) sum at left
+
+abbrev μ-loop : tie.MeasureT-loop
+μ-loop image node sum₀ at₀ left₀ sum at left = left
+
+rows-start-requires : tie.Need-rows-start-requires Inv-loop μ-loop
+rows-start-requires c κs = c .before .pre .1 .small-nodes
+
+loop-holds : tie.Need-loop-holds Inv-loop μ-loop
+loop-holds c =
+    let h = c .before .before .pre .1 in
+    (stands-first (c .before .before .pre .0) (h .nodes) (c .rows-start .ensures) (h .streams), sums-first (h .nodes) (c .rows-start .ensures) (h .streams))
+
+row-used-requires : tie.Need-row-used-requires Inv-loop μ-loop
+row-used-requires c κs = stands-row (c .loop-test .taken) (c .before .loop .inv .0)
+
+add-sum : tie.Need-add-sum Inv-loop μ-loop
+add-sum c =
+    let st = c .before .before .before .before .before in
+    let b = st .pre .0 .lawful in
+    omega (arith, sums-most (c .before .loop-test .taken) (c .before .before .loop .inv .0) (c .before .before .loop .inv .1) (c .row-used .ensures), used-most (bookIn (st .args .image .now)) b (st .args .node .0), b .plan .most)
+
+next-requires : tie.Need-next-requires Inv-loop μ-loop
+next-requires c κs = stands-row (c .before .loop-test .taken) (c .before .before .loop .inv .0) .whole
+
+loop-again : tie.Need-loop-again Inv-loop μ-loop
+loop-again c =
+    let l = c .before .before .before .loop in
+    let m = c .before .before .loop-test .taken in
+    (stands-on m (c .next .ensures .0) (l .inv .0), sums-on m (l .inv .0) (l .inv .1) (c .before .row-used .ensures) (c .next .ensures .0))
+
+returns : tie.Need-returns Inv-loop μ-loop
+returns c = sums-end (c .loop-test .left) (c .before .loop .inv .1)
+
+pub used-slots-spec : {M : Type 1} → statement M
+used-slots-spec =
+    tie.close
+    (tie.spec
+    Inv-loop
+    μ-loop
+    rows-start-requires
+    loop-holds
+    row-used-requires
+    add-sum
+    next-requires
+    (λ c. omega arith)
+    (λ c. omega arith)
+    loop-again
+    returns)

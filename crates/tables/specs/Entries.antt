@@ -1,0 +1,114 @@
+-- What is written of a table: the entries of some of its slots. Assumes nothing.
+use mathlib.Core.Path.{_≡_}
+use mathlib.Core.Bool.{Bool, cond, _&&_}
+use mathlib.Core.List.{List, _∷_, _++_}
+use Prim.Native.Nat.{ℕ, _+_, _*_, _<_}
+use lib.Dec.{leb, ltb}
+use lib.ListN.{length, take, drop}
+use Rattle.rules.specs.Words.{_∈_}
+use Rattle.rules.specs.Tiles.{Plan, Data, Control, Takes, repeats}
+use Rattle.rules.specs.Topology.{Touches}
+use Rattle.rules.specs.Book.{Row, hops, rowHop, rowOffset}
+use Rattle.rules.specs.Image.{word, planOf}
+use Rattle.rules.specs.Table.{Does, TableOf}
+use Rattle.model.specs.Reading.{bookIn}
+use Rattle.image.specs.Places.{rowAt}
+use Rattle.tables.specs.declared.Stream.{Stream}
+
+-- the three bytes of the slot's entry
+abbrev pub entryAt : List ℕ → ℕ → List ℕ
+entryAt table slot = take 3 (drop (3 * slot) table)
+
+-- the operation is one of 1 to 4, in which a node works for a stream
+abbrev pub isWorking : ℕ → Bool
+isWorking operation = leb 1 operation && leb operation 4
+
+-- n in these operations, and 0 in the others
+abbrev pub whereWorking : ℕ → ℕ → ℕ
+whereWorking operation n = cond (isWorking operation) n 0
+
+-- entries of slots: a slot, an operation and a stream id
+abbrev pub Entries : Type 1
+Entries = ℕ → ℕ → ℕ → Type 0
+
+-- the slot now has one of the entries that E has for it; or there is none, and it has what it had
+pub data Now (E : Entries) (old new : List ℕ) (slot : ℕ) : Type 0 where
+  given : {operation id : ℕ} → E slot operation id → entryAt new slot ≡ operation ∷ word id → Now E old new slot
+  kept : ((operation id : ℕ) → E slot operation id → ⊥) → entryAt new slot ≡ entryAt old slot → Now E old new slot
+
+-- the entries of E were written over the first n, and nothing else was changed
+pub record Over (n : ℕ) (E : Entries) (old new : List ℕ) : Type 0 where
+  pub entries : (slot : ℕ) → slot < n → Now E old new slot
+  pub beyond : drop (3 * n) new ≡ drop (3 * n) old
+
+-- this operation and id in one slot
+pub record Only (at does name slot operation id : ℕ) : Type 0 where
+  pub slot-is : slot ≡ at
+  pub operation-is : operation ≡ does
+  pub id-is : id ≡ name
+
+-- one entry was written, with its id where the operation has one
+pub record Put (slot operation id : ℕ) (old new : List ℕ) : Type 0 where
+  pub over : (n : ℕ) → slot < n → Over n (Only slot operation (whereWorking operation id)) old new
+
+-- one entry at each of the first turns: its slot, its operation and its id by the turn
+pub record InTurn (at does name : ℕ → ℕ) (turns slot operation id : ℕ) : Type 0 where
+  pub turn : ℕ
+  pub within : turn < turns
+  pub slot-is : slot ≡ at turn
+  pub operation-is : operation ≡ does turn
+  pub id-is : id ≡ name turn
+
+-- this operation and id in the slots offset, offset + step, .. of the first turns
+abbrev pub Repeated : ℕ → ℕ → ℕ → ℕ → ℕ → Entries
+Repeated offset step operation id turns = InTurn (λ (turn : ℕ). offset + turn * step) (λ (turn : ℕ). operation) (λ (turn : ℕ). id) turns
+
+-- the first places of a tile that starts at a slot: control slots, then sleep
+abbrev pub TileEntry : ℕ → ℕ → ℕ → Entries
+TileEntry start control places = InTurn (λ (place : ℕ). start + place) (λ (place : ℕ). cond (ltb place control) 5 0) (λ (place : ℕ). 0) places
+
+-- a slot without streams is a sleep or a control slot
+pub data Idle (plan : Plan) (slot : ℕ) : ℕ → ℕ → Type 0 where
+  sleeps : Data plan slot → Idle plan slot 0 0
+  controls : Control plan slot → Idle plan slot 5 0
+
+-- so are the first n slots
+pub record IdleBelow (plan : Plan) (n slot operation id : ℕ) : Type 0 where
+  pub below : slot < n
+  pub idle : Idle plan slot operation id
+
+-- what the node does in the slots of hop i of the row
+pub record HopEntry (S node : ℕ) (r : Row) (i slot operation id : ℕ) : Type 0 where
+  pub takes : Takes S (r .period) (rowOffset r i) slot
+  pub does : Does node r i operation
+  pub id-is : id ≡ r .id
+
+-- in the first n hops of the row
+pub record RowEntry (S node : ℕ) (r : Row) (n slot operation id : ℕ) : Type 0 where
+  pub hop : ℕ
+  pub within : hop < n
+  pub entry : HopEntry S node r hop slot operation id
+
+-- in the hops of the rows
+pub record RowsEntry (S node : ℕ) (rows : List Row) (slot operation id : ℕ) : Type 0 where
+  pub row : Row
+  pub there : row ∈ rows
+  pub entry : RowEntry S node row (hops row) slot operation id
+
+-- the node's operation in hop i of the row, 0 where it is no end
+pub data OperationIn (node : ℕ) (r : Row) (i : ℕ) : ℕ → Type 0 where
+  end : {operation : ℕ} → Does node r i operation → OperationIn node r i operation
+  none : (Touches node (rowHop r i) → ⊥) → OperationIn node r i 0
+
+-- the id, the slots of the period, the repeats and the hops of the row at a place of an image
+pub record StreamOf (s : List ℕ) (at : ℕ) (stream : Stream) : Type 0 where
+  pub id-is : stream .id ≡ rowAt s at .id
+  pub step-is : stream .step ≡ rowAt s at .period * planOf s .slots
+  pub turns-is : stream .turns ≡ repeats (rowAt s at .period)
+  pub hops-is : stream .hops ≡ hops (rowAt s at)
+
+-- the node's table was written at the front of the buffer, and nothing else was changed
+pub record Filled (s : List ℕ) (node : ℕ) (old new : List ℕ) : Type 0 where
+  pub table : List ℕ
+  pub table-of : TableOf (bookIn s) node table
+  pub buffer : new ≡ table ++ drop (length table) old

@@ -1,0 +1,122 @@
+//! The driver: asks the reference, and passes request and answer on to be put
+//! to the planner under test.
+
+use crate::dice::Dice;
+use crate::tally::Tally;
+use reference::frame::{Answer, Call, Request};
+use reference::image::LONGEST_IMAGE;
+use std::sync::mpsc::SyncSender;
+
+/// A request and what the reference says to it.
+pub struct Exchange {
+    pub family: &'static str,
+    pub request: Request,
+    pub expected: Answer,
+}
+
+/// Exchanges passed on together.
+pub const BATCH: usize = 512;
+
+/// Bytes of the longest table: 100 tiles of 32 slots, 3 bytes each.
+const LONGEST_TABLE: u16 = 9600;
+
+/// How long an output buffer to give.
+#[derive(Clone, Copy)]
+pub enum Room {
+    /// None at all.
+    Nothing,
+    /// One byte short of the answer.
+    OneShort,
+    /// The answer's length.
+    Exact,
+    /// The answer's length and this much more.
+    Spare(u16),
+    /// As long as any answer of the call.
+    Full,
+    /// As long as a frame may have it.
+    Most,
+}
+
+impl Room {
+    pub fn any(dice: &mut Dice) -> Room {
+        match dice.below(20) {
+            0 => Room::Nothing,
+            1..=3 => Room::OneShort,
+            4..=7 => Room::Exact,
+            8..=17 => Room::Spare(dice.between(1, 40) as u16),
+            18 => Room::Full,
+            _ => Room::Spare(dice.between(41, 3000) as u16),
+        }
+    }
+
+    /// The length in bytes, for a call whose answer has `length` bytes.
+    fn bytes(self, call: Call, length: u16) -> u16 {
+        match self {
+            Room::Nothing => 0,
+            Room::OneShort => length.saturating_sub(1),
+            Room::Exact => length,
+            Room::Spare(more) => length + more,
+            Room::Full if call == Call::Expand => LONGEST_TABLE,
+            Room::Full => LONGEST_IMAGE as u16,
+            Room::Most => 16384,
+        }
+    }
+}
+
+/// The longest topology or book a frame may have.
+fn most_bytes(call: Call) -> usize {
+    if call == Call::New { 1024 } else { 4096 }
+}
+
+pub struct Driver {
+    pub tally: Tally,
+    family: &'static str,
+    batch: Vec<Exchange>,
+    batches: SyncSender<Vec<Exchange>>,
+}
+
+impl Driver {
+    pub fn new(batches: SyncSender<Vec<Exchange>>) -> Driver {
+        Driver { tally: Tally::default(), family: "", batch: Vec::new(), batches }
+    }
+
+    /// Names the calls that follow.
+    pub fn family(&mut self, name: &'static str) {
+        self.family = name;
+    }
+
+    /// Asks, with a buffer of this room; gives the reference's answer.
+    pub fn ask(&mut self, mut request: Request, room: Room) -> Answer {
+        assert!(request.bytes.len() <= most_bytes(request.call), "the frame is too long");
+        request.fill = self.next_fill();
+        if request.call.has_output() {
+            request.room = LONGEST_TABLE;
+            let length = request.answer().counts[0] as u16;
+            request.room = room.bytes(request.call, length);
+        }
+        let expected = request.answer();
+        self.tally.add(self.family, request.call, expected.number);
+        let exchange = Exchange { family: self.family, request, expected: expected.clone() };
+        self.batch.push(exchange);
+        if self.batch.len() == BATCH {
+            self.pass_on();
+        }
+        expected
+    }
+
+    /// Passes the last calls on and gives the tally.
+    pub fn finish(mut self) -> Tally {
+        self.pass_on();
+        self.tally
+    }
+
+    fn pass_on(&mut self) {
+        // When nobody listens any more, the comparison has ended with a fault.
+        let _ = self.batches.send(std::mem::take(&mut self.batch));
+    }
+
+    /// A fill byte that differs from call to call.
+    fn next_fill(&self) -> u8 {
+        (self.tally.total() * 167 + 91) as u8
+    }
+}

@@ -1,0 +1,94 @@
+//! A few books, cut short everywhere, grown, and changed at every byte.
+
+use crate::dice::Dice;
+use crate::driver::{Driver, Room};
+use crate::requests::{self, BOOK_CALLS};
+use crate::site::{add_stream, empty_book, grid, ids, line, load, of_links, open_plan, plan_a};
+use reference::book::Book;
+use reference::image;
+use reference::plan::Plan;
+
+pub fn ask(driver: &mut Driver, dice: &mut Dice) {
+    for book in small_books() {
+        cut_and_grown(driver, dice, &book);
+        every_value(driver, dice, &book);
+    }
+    for book in larger_books(dice) {
+        cut_and_grown(driver, dice, &book);
+        every_bit(driver, dice, &book);
+    }
+}
+
+/// Books short enough to try every value at every byte.
+fn small_books() -> Vec<Book> {
+    // P11.
+    let mut pair = empty_book(plan_a(), line(2));
+    add_stream(&mut pair, 7, 1, 0, 2);
+    // P3.
+    let mut two_ways = empty_book(plan_a(), line(4));
+    add_stream(&mut two_ways, 1, 3, 0, 2);
+    add_stream(&mut two_ways, 2, 0, 3, 2);
+    // One slot a tile, three periods, ids of two bytes, a node nobody hears.
+    let narrow = Plan { s: 1, c: 5, kinds: 0b00100, d: 1, u: 0 };
+    let mut triangle = empty_book(narrow, of_links(4, [(0, 1), (1, 2), (0, 2)]));
+    add_stream(&mut triangle, 0x0102, 0, 1, 5);
+    add_stream(&mut triangle, 0x0201, 2, 1, 10);
+    add_stream(&mut triangle, 0xFFFF, 1, 0, 20);
+    vec![pair, two_ways, triangle]
+}
+
+/// Books that are changed bit by bit.
+fn larger_books(dice: &mut Dice) -> Vec<Book> {
+    let mut crowded = empty_book(open_plan(2), grid(3, 9));
+    load(dice, &mut crowded, 14);
+    let wide = Plan { s: 8, c: 4, kinds: 0b0110, d: 1, u: 2 };
+    let mut long = empty_book(wide, line(16));
+    add_stream(&mut long, 300, 0, 15, 100);
+    add_stream(&mut long, 200, 15, 0, 50);
+    add_stream(&mut long, 400, 4, 11, 20);
+    vec![crowded, long]
+}
+
+/// Every call in turn, mostly with a buffer that holds the answer.
+fn ask_next(driver: &mut Driver, dice: &mut Dice, turn: usize, image: &[u8], ids: &[u16]) {
+    let call = BOOK_CALLS[turn % BOOK_CALLS.len()];
+    let room = if dice.chance(90) { Room::Spare(16) } else { Room::any(dice) };
+    driver.ask(requests::any(dice, call, image, ids), room);
+}
+
+fn cut_and_grown(driver: &mut Driver, dice: &mut Dice, book: &Book) {
+    let (image, ids) = (image::write(book), ids(book));
+    for length in 0..image.len() {
+        driver.ask(requests::check(&image[..length]), Room::Nothing);
+        ask_next(driver, dice, length, &image[..length], &ids);
+    }
+    for more in [1, 2, 3, 5, 8, 100, 4096 - image.len()] {
+        let mut grown = image.clone();
+        grown.resize(image.len() + more, 0);
+        ask_next(driver, dice, more, &grown, &ids);
+        driver.ask(requests::check(&grown), Room::Nothing);
+    }
+}
+
+fn every_value(driver: &mut Driver, dice: &mut Dice, book: &Book) {
+    let (mut image, ids) = (image::write(book), ids(book));
+    for place in 0..image.len() {
+        let kept = image[place];
+        for change in 1..=255 {
+            image[place] = kept ^ change;
+            ask_next(driver, dice, place + usize::from(change), &image, &ids);
+        }
+        image[place] = kept;
+    }
+}
+
+fn every_bit(driver: &mut Driver, dice: &mut Dice, book: &Book) {
+    let (mut image, ids) = (image::write(book), ids(book));
+    for place in 0..image.len() {
+        for bit in 0..8 {
+            image[place] ^= 1 << bit;
+            ask_next(driver, dice, place + bit, &image, &ids);
+            image[place] ^= 1 << bit;
+        }
+    }
+}

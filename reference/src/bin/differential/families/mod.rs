@@ -1,0 +1,61 @@
+//! The families of calls: fixed ones, and thrown ones of any number.
+
+mod arguments;
+mod changes;
+mod examples;
+mod faults;
+mod limits;
+mod near_misses;
+mod noise;
+mod pairs;
+mod sequences;
+mod unusual;
+
+use crate::dice::Dice;
+use crate::driver::{Driver, Room};
+use crate::requests;
+use reference::plan::Plan;
+use reference::topology::Topology;
+
+/// The image of an empty book, asked for.
+fn new_image(driver: &mut Driver, plan: &Plan, topology: &Topology) -> Vec<u8> {
+    let request = requests::new(plan, topology.nodes(), &topology.write());
+    driver.ask(request, Room::Exact).written().to_vec()
+}
+
+/// The families whose size is fixed.
+pub fn fixed(driver: &mut Driver, dice: &mut Dice) {
+    driver.family("document 01's examples");
+    examples::ask(driver);
+    driver.family("arguments of a new book");
+    arguments::ask(driver, dice);
+    driver.family("every cut and every one-byte change");
+    changes::ask(driver, dice);
+    driver.family("several faults at once");
+    faults::ask(driver);
+    driver.family("books at a limit");
+    limits::ask(driver, dice);
+    driver.family("every two hops and every two periods");
+    pairs::ask(driver, dice);
+}
+
+/// Asks a few calls of a family.
+type Family = fn(&mut Driver, &mut Dice);
+
+/// The thrown families, `calls` calls in all or a few more.
+pub fn thrown(driver: &mut Driver, dice: &mut Dice, calls: u64) {
+    let families: [(&str, Family, u64); 5] = [
+        ("sequences on quiet sites", sequences::quiet, 30),
+        ("sequences on crowded sites", sequences::crowded, 30),
+        ("lawful rows no planner would choose", unusual::ask, 20),
+        ("books one step from lawful", near_misses::ask, 15),
+        ("noise", noise::ask, 5),
+    ];
+    for (name, ask, percent) in families {
+        driver.family(name);
+        let end = driver.tally.total() + calls * percent / 100;
+        while driver.tally.total() < end {
+            ask(driver, dice);
+        }
+    }
+}

@@ -1,0 +1,70 @@
+//! Two rows of one hop each: every two hops of a line of six, every two
+//! periods, offsets that meet and offsets that just do not.
+
+use crate::dice::Dice;
+use crate::driver::{Driver, Room};
+use crate::requests::{self, BOOK_CALLS, check, open};
+use crate::site::{empty_book, line, open_plan};
+use reference::book::Book;
+use reference::image;
+use reference::plan::{PERIODS, Plan};
+use reference::stream::Stream;
+
+const NODES: u8 = 6;
+
+pub fn ask(driver: &mut Driver, dice: &mut Dice) {
+    for one in hops() {
+        for two in hops() {
+            for (k, l) in PERIODS.iter().flat_map(|&k| PERIODS.iter().map(move |&l| (k, l))) {
+                ask_pair(driver, dice, (one, k), (two, l));
+            }
+        }
+    }
+}
+
+/// The ten hops of the line, as routes.
+fn hops() -> Vec<[u8; 2]> {
+    (1..NODES).flat_map(|node| [[node - 1, node], [node, node - 1]]).collect()
+}
+
+fn ask_pair(driver: &mut Driver, dice: &mut Dice, one: ([u8; 2], u8), two: ([u8; 2], u8)) {
+    let plan = open_plan(dice.pick(&[1, 2, 3, 32]));
+    let mut book = empty_book(plan, line(usize::from(NODES)));
+    if dice.chance(30) {
+        // Offset 0 would be the first for the second hop, if the two do not meet.
+        let offset = other_offset(dice, &book.plan, (0, two.1), one.1);
+        add_row(&mut book, 1, one, offset);
+        let ([source, destination], period) = two;
+        let request = open(&image::write(&book), 2, source, destination, u16::from(period));
+        driver.ask(request, Room::Exact);
+    } else {
+        let offset = dice.below(book.plan.period_slots(one.1));
+        let other = other_offset(dice, &book.plan, (offset, one.1), two.1);
+        add_row(&mut book, 1, one, offset);
+        add_row(&mut book, 2, two, other);
+        let image = image::write(&book);
+        driver.ask(check(&image), Room::Nothing);
+        if dice.chance(15) {
+            let call = dice.pick(&BOOK_CALLS);
+            driver.ask(requests::any(dice, call, &image, &[1, 2]), Room::any(dice));
+        }
+    }
+}
+
+fn add_row(book: &mut Book, id: u16, (route, period): ([u8; 2], u8), offset: usize) {
+    let route = route.to_vec();
+    book.streams.push(Stream { id, period, route, offsets: vec![offset as u16] });
+}
+
+/// For a given offset and period, an offset of another period: mostly one that
+/// meets it, or one a slot or a tile beside that, or any.
+fn other_offset(dice: &mut Dice, plan: &Plan, given: (usize, u8), period: u8) -> usize {
+    let taken: Vec<usize> = plan.slots_of(given.0, given.1).iter().collect();
+    let length = plan.period_slots(period);
+    match dice.below(6) {
+        0 => dice.below(length),
+        1 => (dice.pick(&taken) + 1) % length,
+        2 => (dice.pick(&taken) + plan.tile_slots()) % length,
+        _ => dice.pick(&taken) % length,
+    }
+}

@@ -1,0 +1,69 @@
+//! Sequences of calls on one site: what an open or a close wrote is the book
+//! of the next call, and a refusal leaves the book that went in.
+
+use super::new_image;
+use crate::dice::Dice;
+use crate::driver::{Driver, Room};
+use crate::requests;
+use crate::site::{any_plan, any_topology, ids};
+use reference::frame::Call;
+use reference::image;
+
+/// What a sequence is like.
+struct Habit {
+    /// Calls of the sequence.
+    steps: usize,
+    /// Opens of a hundred calls.
+    opens: usize,
+    /// The periods are long, so that a book fills up with streams and hops.
+    slow: bool,
+}
+
+/// A short sequence on any site.
+pub fn quiet(driver: &mut Driver, dice: &mut Dice) {
+    let (plan, topology) = (any_plan(dice), any_topology(dice));
+    let book = new_image(driver, &plan, &topology);
+    let habit = Habit { steps: dice.between(10, 40), opens: 50, slow: false };
+    walk(driver, dice, book, habit);
+}
+
+/// A long sequence, nearly all opens, on a small site with data slots.
+pub fn crowded(driver: &mut Driver, dice: &mut Dice) {
+    let (mut plan, mut topology) = (any_plan(dice), any_topology(dice));
+    while topology.nodes() > 20 {
+        topology = any_topology(dice);
+    }
+    plan.d = plan.d.min(plan.s / 2);
+    plan.u = plan.u.min(plan.s / 2);
+    let book = new_image(driver, &plan, &topology);
+    let slow = dice.chance(40);
+    let steps = if slow { dice.between(100, 200) } else { dice.between(40, 120) };
+    walk(driver, dice, book, Habit { steps, opens: 85, slow });
+}
+
+/// A few calls of all kinds on this book.
+pub fn stroll(driver: &mut Driver, dice: &mut Dice, book: Vec<u8>) {
+    let habit = Habit { steps: dice.between(4, 12), opens: 40, slow: false };
+    walk(driver, dice, book, habit);
+}
+
+fn walk(driver: &mut Driver, dice: &mut Dice, book: Vec<u8>, habit: Habit) {
+    let mut book = book;
+    for _ in 0..habit.steps {
+        let open = dice.chance(habit.opens);
+        let call = if open { Call::Open } else { dice.pick(&requests::BOOK_CALLS) };
+        let mut request = requests::any(dice, call, &book, &ids_in(&book));
+        if habit.slow && request.period != 0 {
+            request.period = dice.pick(&[20, 50, 100]);
+        }
+        let answer = driver.ask(request, Room::any(dice));
+        if answer.number == 0 && matches!(call, Call::Open | Call::Close) {
+            book = answer.written().to_vec();
+        }
+    }
+}
+
+/// The ids of the book's streams.
+fn ids_in(book: &[u8]) -> Vec<u16> {
+    image::read(book).map(|book| ids(&book)).unwrap_or_default()
+}

@@ -1,0 +1,104 @@
+//! Requests, plain and thrown.
+
+use crate::dice::Dice;
+use reference::frame::{Call, Request};
+use reference::plan::{PERIODS, Plan};
+
+pub fn new(plan: &Plan, nodes: u8, topology: &[u8]) -> Request {
+    Request {
+        s: plan.s,
+        c: plan.c,
+        kinds: plan.kinds,
+        d: plan.d,
+        u: plan.u,
+        n: nodes,
+        bytes: topology.to_vec(),
+        ..Request::blank(Call::New)
+    }
+}
+
+fn on(call: Call, book: &[u8]) -> Request {
+    Request { bytes: book.to_vec(), ..Request::blank(call) }
+}
+
+pub fn check(book: &[u8]) -> Request {
+    on(Call::Check, book)
+}
+
+pub fn rewrite(book: &[u8]) -> Request {
+    on(Call::Rewrite, book)
+}
+
+pub fn open(book: &[u8], id: u16, source: u8, destination: u8, period: u16) -> Request {
+    Request { id, node: source, destination, period, ..on(Call::Open, book) }
+}
+
+pub fn close(book: &[u8], id: u16) -> Request {
+    Request { id, ..on(Call::Close, book) }
+}
+
+pub fn expand(book: &[u8], node: u8) -> Request {
+    Request { node, ..on(Call::Expand, book) }
+}
+
+pub fn balance(book: &[u8], node: u8) -> Request {
+    Request { node, ..on(Call::Balance, book) }
+}
+
+/// The six calls on a book.
+pub const BOOK_CALLS: [Call; 6] =
+    [Call::Check, Call::Rewrite, Call::Open, Call::Close, Call::Expand, Call::Balance];
+
+/// This call on a book that has, or claims, the N of its header; the other
+/// arguments are thrown.
+pub fn any(dice: &mut Dice, call: Call, book: &[u8], ids: &[u16]) -> Request {
+    let nodes = book.get(11).copied().unwrap_or(4);
+    match call {
+        Call::New => unreachable!("a new book is not made from a book"),
+        Call::Check => check(book),
+        Call::Rewrite => rewrite(book),
+        Call::Open => any_open(dice, book, nodes, ids),
+        Call::Close => close(book, any_id(dice, ids, 80)),
+        Call::Expand => expand(book, any_node(dice, nodes)),
+        Call::Balance => balance(book, any_node(dice, nodes)),
+    }
+}
+
+fn any_open(dice: &mut Dice, book: &[u8], nodes: u8, ids: &[u16]) -> Request {
+    let id = any_id(dice, ids, 6);
+    let source = any_node(dice, nodes);
+    let same = dice.chance(3);
+    let destination = if same { source } else { any_node(dice, nodes) };
+    open(book, id, source, destination, any_period(dice))
+}
+
+/// Mostly one of the seven.
+fn any_period(dice: &mut Dice) -> u16 {
+    match dice.below(24) {
+        0 => dice.bits() as u16,
+        1 => dice.pick(&[0, 3, 4, 25, 49, 51, 99, 101, 200, 257, 258, 356, 25600]),
+        _ => u16::from(dice.pick(&PERIODS)),
+    }
+}
+
+/// Mostly below N, sometimes N or more.
+fn any_node(dice: &mut Dice, nodes: u8) -> u8 {
+    match dice.below(40) {
+        0 => nodes,
+        1 => dice.byte(),
+        _ => dice.below(usize::from(nodes.max(1))) as u8,
+    }
+}
+
+/// In `percent` of a hundred throws an id of the list, otherwise mostly new.
+fn any_id(dice: &mut Dice, ids: &[u16], percent: usize) -> u16 {
+    if !ids.is_empty() && dice.chance(percent) {
+        return dice.pick(ids);
+    }
+    match dice.below(30) {
+        0 => 0,
+        1 => 65535,
+        2..=15 => dice.between(1, 99) as u16,
+        _ => dice.bits() as u16,
+    }
+}

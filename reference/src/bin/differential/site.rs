@@ -1,0 +1,148 @@
+//! Sites: tile plans, topologies and the books made of them.
+
+use crate::dice::Dice;
+use reference::book::Book;
+use reference::placing::first_placing;
+use reference::plan::{PERIODS, PLAN_TILES, Plan};
+use reference::route::planners_route;
+use reference::stream::Stream;
+use reference::topology::Topology;
+
+/// Plan A of document 01.
+pub fn plan_a() -> Plan {
+    Plan { s: 4, c: 2, kinds: 1, d: 2, u: 1 }
+}
+
+/// Every slot is data.
+pub fn open_plan(s: u8) -> Plan {
+    Plan { s, c: 1, kinds: 0, d: 0, u: 0 }
+}
+
+/// Any plan, mostly with data slots.
+pub fn any_plan(dice: &mut Dice) -> Plan {
+    let s = dice.pick(&[1, 1, 2, 3, 4, 4, 5, 7, 8, 16, 31, 32]);
+    let c = dice.pick(&PLAN_TILES);
+    let kinds = (dice.bits() & ((1 << c) - 1)) as u16;
+    Plan { s, c, kinds, d: any_control(dice, s), u: any_control(dice, s) }
+}
+
+/// D or U: mostly few, sometimes none, sometimes all of the tile.
+fn any_control(dice: &mut Dice, s: u8) -> u8 {
+    match dice.below(8) {
+        0 => s,
+        1 => dice.between(0, usize::from(s)) as u8,
+        2..=4 => 0,
+        _ => s / 4,
+    }
+}
+
+pub fn of_links(nodes: usize, links: impl IntoIterator<Item = (usize, usize)>) -> Topology {
+    let mut rows = vec![0; nodes];
+    for (a, b) in links {
+        rows[a] |= 1 << b;
+        rows[b] |= 1 << a;
+    }
+    Topology { rows }
+}
+
+/// Links 0-1, 1-2 and so on.
+pub fn line(nodes: usize) -> Topology {
+    of_links(nodes, (1..nodes).map(|node| (node - 1, node)))
+}
+
+fn ring(nodes: usize) -> Topology {
+    of_links(nodes, (1..nodes).map(|node| (node - 1, node)).chain([(nodes - 1, 0)]))
+}
+
+fn star(nodes: usize) -> Topology {
+    of_links(nodes, (1..nodes).map(|node| (0, node)))
+}
+
+/// Every two nodes are linked.
+pub fn complete(nodes: usize) -> Topology {
+    of_links(nodes, (0..nodes).flat_map(|a| (0..a).map(move |b| (a, b))))
+}
+
+/// Two lines with no link between them.
+fn two_lines(nodes: usize) -> Topology {
+    let all = (1..nodes).map(|node| (node - 1, node));
+    of_links(nodes, all.filter(|&(_, node)| node != nodes / 2))
+}
+
+/// Rows of `width` nodes, each linked to the next and to the one below.
+pub fn grid(width: usize, nodes: usize) -> Topology {
+    let across = (0..nodes).filter(|a| a % width > 0).map(|a| (a - 1, a));
+    let down = (width..nodes).map(|a| (a - width, a));
+    of_links(nodes, across.chain(down))
+}
+
+/// Each two nodes are linked with this chance.
+fn scattered(dice: &mut Dice, nodes: usize, percent: usize) -> Topology {
+    let pairs = (0..nodes).flat_map(|a| (0..a).map(move |b| (a, b)));
+    of_links(nodes, pairs.filter(|_| dice.chance(percent)).collect::<Vec<_>>())
+}
+
+/// The same links between nodes numbered anew.
+fn renumbered(dice: &mut Dice, topology: &Topology) -> Topology {
+    let nodes = topology.nodes();
+    let mut names: Vec<usize> = (0..usize::from(nodes)).collect();
+    dice.shuffle(&mut names);
+    let pairs = (0..nodes).flat_map(|a| (0..a).map(move |b| (a, b)));
+    let links = pairs.filter(|&(a, b)| topology.linked(a, b));
+    let renamed = links.map(|(a, b)| (names[usize::from(a)], names[usize::from(b)]));
+    of_links(usize::from(nodes), renamed.collect::<Vec<_>>())
+}
+
+/// Any topology of two nodes or more.
+pub fn any_topology(dice: &mut Dice) -> Topology {
+    let nodes = match dice.below(12) {
+        0 => 2,
+        1 => 3,
+        2..=6 => dice.between(4, 8),
+        7..=9 => dice.between(9, 20),
+        10 => dice.between(21, 64),
+        _ => 64,
+    };
+    let topology = match dice.below(9) {
+        0 | 1 => line(nodes),
+        2 => ring(nodes),
+        3 => star(nodes),
+        4 => complete(nodes),
+        5 => two_lines(nodes),
+        6 => grid(dice.between(2, 8), nodes),
+        _ => {
+            let percent = 100 * dice.between(1, 4) / nodes;
+            scattered(dice, nodes, percent)
+        }
+    };
+    if dice.chance(60) { renumbered(dice, &topology) } else { topology }
+}
+
+pub fn empty_book(plan: Plan, topology: Topology) -> Book {
+    Book { plan, topology, streams: Vec::new() }
+}
+
+pub fn ids(book: &Book) -> Vec<u16> {
+    book.streams.iter().map(|stream| stream.id).collect()
+}
+
+/// Opens a stream as the planner does; false where it has no route or placing.
+pub fn add_stream(book: &mut Book, id: u16, source: u8, destination: u8, period: u8) -> bool {
+    let Some(route) = planners_route(&book.topology, source, destination) else { return false };
+    let Some(offsets) = first_placing(book, &route, period) else { return false };
+    book.add(Stream { id, period, route, offsets });
+    true
+}
+
+/// Opens up to `tries` streams between thrown nodes.
+pub fn load(dice: &mut Dice, book: &mut Book, tries: usize) {
+    for _ in 0..tries {
+        let nodes = usize::from(book.topology.nodes());
+        let (source, destination) = (dice.below(nodes) as u8, dice.below(nodes) as u8);
+        let id = dice.between(1, 999) as u16;
+        let room = book.streams.len() < 64 && book.hops() + 15 <= 512;
+        if source != destination && room && !book.holds(id) {
+            add_stream(book, id, source, destination, dice.pick(&PERIODS));
+        }
+    }
+}

@@ -1,0 +1,89 @@
+//! How often each answer number of each call was reached.
+
+use reference::frame::Call;
+use std::fmt::Write;
+
+/// The highest answer number.
+const HIGHEST: usize = 16;
+
+#[derive(Default)]
+pub struct Tally {
+    counts: [[u64; HIGHEST + 1]; 7],
+    /// Calls of each family, in order of appearance.
+    families: Vec<(&'static str, u64)>,
+}
+
+/// The numbers document 01 makes possible for a call.
+fn possible(call: Call) -> &'static [u8] {
+    match call {
+        Call::New => &[0, 10, 11, 12],
+        Call::Check => &[0, 10, 11, 13, 14, 15, 16],
+        Call::Rewrite => &[0, 10, 11, 12, 13, 14, 15, 16],
+        Call::Open => &[0, 1, 2, 4, 5, 6, 7, 8, 9, 10, 11, 12, 13, 14, 15, 16],
+        Call::Close => &[0, 1, 3, 10, 11, 12, 13, 14, 15, 16],
+        Call::Expand => &[0, 4, 10, 11, 12, 13, 14, 15, 16],
+        Call::Balance => &[0, 4, 10, 11, 13, 14, 15, 16],
+    }
+}
+
+impl Tally {
+    pub fn add(&mut self, family: &'static str, call: Call, number: u8) {
+        self.counts[call as usize][usize::from(number)] += 1;
+        match self.families.last_mut() {
+            Some((name, calls)) if *name == family => *calls += 1,
+            _ => self.families.push((family, 1)),
+        }
+    }
+
+    /// All calls so far.
+    pub fn total(&self) -> u64 {
+        self.counts.iter().flatten().sum()
+    }
+
+    /// The pairs that were not reached and are possible, or were reached and
+    /// are not.
+    pub fn faults(&self) -> Vec<String> {
+        let mut faults = Vec::new();
+        for call in Call::ALL {
+            for number in 0..=HIGHEST as u8 {
+                let reached = self.count(call, number) > 0;
+                match (possible(call).contains(&number), reached) {
+                    (true, false) => faults.push(format!("{call:?} never gave {number}")),
+                    (false, true) => faults.push(format!("{call:?} gave {number}")),
+                    _ => {}
+                }
+            }
+        }
+        faults
+    }
+
+    /// The table of calls and numbers; a dot where a pair is not possible.
+    pub fn table(&self) -> String {
+        let mut text = format!("{:<9}", "number");
+        for number in 0..=HIGHEST {
+            write!(text, "{number:>7}").unwrap();
+        }
+        for call in Call::ALL {
+            let name = format!("{call:?}").to_lowercase();
+            write!(text, "\n{name:<9}").unwrap();
+            for number in 0..=HIGHEST as u8 {
+                match self.count(call, number) {
+                    0 if !possible(call).contains(&number) => write!(text, "{:>7}", "."),
+                    count => write!(text, "{count:>7}"),
+                }
+                .unwrap();
+            }
+        }
+        text
+    }
+
+    /// One line for each family.
+    pub fn families(&self) -> String {
+        let line = |(name, calls): &(&str, u64)| format!("{calls:>8} {name}\n");
+        self.families.iter().map(line).collect()
+    }
+
+    fn count(&self, call: Call, number: u8) -> u64 {
+        self.counts[call as usize][usize::from(number)]
+    }
+}

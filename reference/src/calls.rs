@@ -1,0 +1,132 @@
+//! The seven calls, on bytes.
+//!
+//! Each gives back a number and a length. A refusal gives length 0 and leaves
+//! the output buffer as it was; success writes only the answer's own bytes.
+
+use crate::book::{Book, MAX_HOPS, MAX_STREAMS};
+use crate::image;
+use crate::placing::first_placing;
+use crate::plan::{Plan, period_of};
+use crate::refusal::{DONE, Refusal, refuse_if};
+use crate::route::planners_route;
+use crate::stream::Stream;
+use crate::table;
+use crate::topology::{NODES, Topology};
+
+/// Makes an empty book.
+#[allow(clippy::too_many_arguments)]
+pub fn new(
+    s: u8,
+    c: u8,
+    kinds: u16,
+    d: u8,
+    u: u8,
+    n: u8,
+    topology: &[u8],
+    out: &mut [u8],
+) -> (u8, usize) {
+    deliver(new_image(Plan { s, c, kinds, d, u }, n, topology), out)
+}
+
+/// Says whether a book is lawful.
+pub fn check(book: &[u8]) -> (u8, usize) {
+    match image::read(book) {
+        Ok(_) => (DONE, 0),
+        Err(refusal) => (refusal as u8, 0),
+    }
+}
+
+/// Reads a book and writes it again.
+pub fn rewrite(book: &[u8], out: &mut [u8]) -> (u8, usize) {
+    deliver(image::read(book).map(|book| image::write(&book)), out)
+}
+
+/// Opens a stream.
+pub fn open(
+    book: &[u8],
+    id: u16,
+    source: u8,
+    destination: u8,
+    period: u16,
+    out: &mut [u8],
+) -> (u8, usize) {
+    deliver(opened_image(book, id, source, destination, period), out)
+}
+
+/// Closes a stream.
+pub fn close(book: &[u8], id: u16, out: &mut [u8]) -> (u8, usize) {
+    deliver(closed_image(book, id), out)
+}
+
+/// Expands one node's slot table.
+pub fn expand(book: &[u8], node: u8, out: &mut [u8]) -> (u8, usize) {
+    let bytes = read_with_node(book, node).map(|book| table::write(&table::table(&book, node)));
+    deliver(bytes, out)
+}
+
+/// Gives one node's balance: number, data, used, free.
+pub fn balance(book: &[u8], node: u8) -> (u8, u32, u32, u32) {
+    match read_with_node(book, node).map(|book| table::balance(&book, node)) {
+        Ok(balance) => (DONE, balance.data, balance.used, balance.free),
+        Err(refusal) => (refusal as u8, 0, 0, 0),
+    }
+}
+
+/// Puts an answer's bytes into the output buffer, if they fit.
+fn deliver(answer: Result<Vec<u8>, Refusal>, out: &mut [u8]) -> (u8, usize) {
+    match answer {
+        Err(refusal) => (refusal as u8, 0),
+        Ok(bytes) if out.len() < bytes.len() => (Refusal::BufferTooShort as u8, 0),
+        Ok(bytes) => {
+            out[..bytes.len()].copy_from_slice(&bytes);
+            (DONE, bytes.len())
+        }
+    }
+}
+
+fn new_image(plan: Plan, n: u8, topology: &[u8]) -> Result<Vec<u8>, Refusal> {
+    refuse_if(!plan.is_in_range() || !NODES.contains(&n), Refusal::OutOfRange)?;
+    let topology = Topology::read(n, topology).ok_or(Refusal::UnsoundTopology)?;
+    Ok(image::write(&Book { plan, topology, streams: Vec::new() }))
+}
+
+fn opened_image(
+    book: &[u8],
+    id: u16,
+    source: u8,
+    destination: u8,
+    period: u16,
+) -> Result<Vec<u8>, Refusal> {
+    let mut book = image::read(book)?;
+    refuse_if(id == 0, Refusal::IdIsZero)?;
+    refuse_if(source.max(destination) >= book.topology.nodes(), Refusal::NoSuchNode)?;
+    refuse_if(source == destination, Refusal::SourceIsDestination)?;
+    let period = period_of(period).ok_or(Refusal::NoSuchPeriod)?;
+    refuse_if(book.holds(id), Refusal::IdInBook)?;
+    let route = planners_route(&book.topology, source, destination).ok_or(Refusal::NoRoute)?;
+    refuse_if(is_full_for(&book, &route), Refusal::BookIsFull)?;
+    let offsets = first_placing(&book, &route, period).ok_or(Refusal::NoPlacing)?;
+    book.add(Stream { id, period, route, offsets });
+    Ok(image::write(&book))
+}
+
+/// 64 streams already, or the hops would pass 512.
+fn is_full_for(book: &Book, route: &[u8]) -> bool {
+    let new_hops = route.len() - 1;
+    book.streams.len() >= MAX_STREAMS || book.hops() + new_hops > MAX_HOPS
+}
+
+fn closed_image(book: &[u8], id: u16) -> Result<Vec<u8>, Refusal> {
+    let mut book = image::read(book)?;
+    refuse_if(id == 0, Refusal::IdIsZero)?;
+    refuse_if(!book.holds(id), Refusal::IdNotInBook)?;
+    book.remove(id);
+    Ok(image::write(&book))
+}
+
+/// Reads a book for a call about one of its nodes.
+fn read_with_node(book: &[u8], node: u8) -> Result<Book, Refusal> {
+    let book = image::read(book)?;
+    refuse_if(node >= book.topology.nodes(), Refusal::NoSuchNode)?;
+    Ok(book)
+}

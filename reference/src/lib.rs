@@ -1,0 +1,28 @@
+//! The reference planner: document 01 written out by definition.
+//!
+//! It shares no code, table or test vector with the proved planner, and it is
+//! slow and plain where the proved planner is quick: a hop takes a *set* of
+//! slots, two hops meet if their sets have a slot in common, and a book is a
+//! struct with a list of rows.
+//!
+//! One subject a file, in document 01's order:
+//! `plan`, `slots` (tiles, slots, periods); `topology`, `route`, `hop`,
+//! `placing` (routes and clashes); `stream`, `book`, `law`, `image` (the
+//! image); `refusal`, `calls` (what each call says back); `table`, `listing`
+//! (a node's table and balance). `frame` carries calls between programs.
+
+pub mod book;
+pub mod calls;
+pub mod frame;
+pub mod hop;
+pub mod image;
+pub mod law;
+pub mod listing;
+pub mod placing;
+pub mod plan;
+pub mod refusal;
+pub mod route;
+pub mod slots;
+pub mod stream;
+pub mod table;
+pub mod topology;

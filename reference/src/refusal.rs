@@ -1,0 +1,48 @@
+//! The numbers of document 01's list of answers.
+
+/// The number of a call that was done.
+pub const DONE: u8 = 0;
+
+/// Why a call was refused; the value is the number given back.
+#[derive(Clone, Copy, Debug, PartialEq, Eq)]
+#[repr(u8)]
+pub enum Refusal {
+    /// The id is 0.
+    IdIsZero = 1,
+    /// Open: the id is already in the book.
+    IdInBook = 2,
+    /// Close: the id is not in the book.
+    IdNotInBook = 3,
+    /// A node number is N or more.
+    NoSuchNode = 4,
+    /// The source is the destination.
+    SourceIsDestination = 5,
+    /// The period is none of the seven.
+    NoSuchPeriod = 6,
+    /// No route of at most 15 hops.
+    NoRoute = 7,
+    /// 64 streams already, or the hops would pass 512.
+    BookIsFull = 8,
+    /// No placing exists.
+    NoPlacing = 9,
+    /// A field of bytes 5 to 15, or an argument of a new book, out of its range.
+    OutOfRange = 10,
+    /// Topology: wrong length, a bit from N up, a self-link, a one-way link.
+    UnsoundTopology = 11,
+    /// The output buffer is shorter than the answer.
+    BufferTooShort = 12,
+    /// Wrong mark or version.
+    WrongMark = 13,
+    /// Under 16 bytes, or not the length the header gives.
+    WrongLength = 14,
+    /// Not n lawful rows, rising strictly by id, with the stated hops, filling
+    /// the image.
+    UnlawfulRows = 15,
+    /// Two clashing hops of different rows meet.
+    ClashingHopsMeet = 16,
+}
+
+/// Refuses if the condition applies.
+pub fn refuse_if(applies: bool, refusal: Refusal) -> Result<(), Refusal> {
+    if applies { Err(refusal) } else { Ok(()) }
+}

@@ -1,0 +1,106 @@
+//! Books and calls that the tests share.
+#![allow(dead_code)]
+
+use reference::book::Book;
+use reference::stream::Stream;
+use reference::{calls, image};
+
+/// Longer than any answer.
+pub const ROOM: usize = 16384;
+
+/// What the output buffer holds before a call.
+pub const FILL: u8 = 0xA5;
+
+/// Plan A of document 01, as S, C, kinds, D, U.
+pub const PLAN_A: (u8, u8, u16, u8, u8) = (4, 2, 0b01, 2, 1);
+
+/// Topology rows of 8 bytes for these links.
+pub fn topology(nodes: usize, links: &[(usize, usize)]) -> Vec<u8> {
+    let mut rows = vec![0u64; nodes];
+    for &(a, b) in links {
+        rows[a] |= 1 << b;
+        rows[b] |= 1 << a;
+    }
+    rows.iter().flat_map(|row| row.to_be_bytes()).collect()
+}
+
+/// Links 0-1, 1-2 and so on.
+pub fn line(nodes: usize) -> Vec<u8> {
+    let links: Vec<_> = (1..nodes).map(|node| (node - 1, node)).collect();
+    topology(nodes, &links)
+}
+
+/// An empty book.
+pub fn new_book(plan: (u8, u8, u16, u8, u8), topology: &[u8]) -> Vec<u8> {
+    let (s, c, kinds, d, u) = plan;
+    let n = (topology.len() / 8) as u8;
+    written(|out| calls::new(s, c, kinds, d, u, n, topology, out))
+}
+
+/// Plan A on a line of nodes, no streams.
+pub fn line_a(nodes: usize) -> Vec<u8> {
+    new_book(PLAN_A, &line(nodes))
+}
+
+/// The book of P2.
+pub fn p2() -> Vec<u8> {
+    opened(&line_a(4), 1, 3, 0, 2)
+}
+
+/// The book of P3.
+pub fn p3() -> Vec<u8> {
+    opened(&p2(), 2, 0, 3, 2)
+}
+
+/// Runs a call that must be done, and gives the bytes it wrote.
+pub fn written(call: impl FnOnce(&mut [u8]) -> (u8, usize)) -> Vec<u8> {
+    let mut out = vec![FILL; ROOM];
+    let (number, length) = call(&mut out);
+    assert_eq!(number, 0);
+    assert!(out[length..].iter().all(|&byte| byte == FILL));
+    out.truncate(length);
+    out
+}
+
+/// Runs a call that must be refused, and gives the number.
+pub fn refused(room: usize, call: impl FnOnce(&mut [u8]) -> (u8, usize)) -> u8 {
+    let mut out = vec![FILL; room];
+    let (number, length) = call(&mut out);
+    assert_ne!(number, 0);
+    assert_eq!(length, 0);
+    assert!(out.iter().all(|&byte| byte == FILL));
+    number
+}
+
+pub fn opened(book: &[u8], id: u16, source: u8, destination: u8, period: u16) -> Vec<u8> {
+    written(|out| calls::open(book, id, source, destination, period, out))
+}
+
+pub fn open_refused(book: &[u8], id: u16, source: u8, destination: u8, period: u16) -> u8 {
+    refused(ROOM, |out| calls::open(book, id, source, destination, period, out))
+}
+
+pub fn closed(book: &[u8], id: u16) -> Vec<u8> {
+    written(|out| calls::close(book, id, out))
+}
+
+/// The stream with this id, as the book has it.
+pub fn stream(book: &[u8], id: u16) -> Stream {
+    let book = read(book);
+    book.streams.into_iter().find(|stream| stream.id == id).expect("the id is in the book")
+}
+
+pub fn read(book: &[u8]) -> Book {
+    image::read(book).expect("the book is lawful")
+}
+
+/// The image of this book with more rows, whether lawful or not.
+pub fn with_rows(book: &[u8], rows: Vec<Stream>) -> Vec<u8> {
+    let mut book = read(book);
+    book.streams.extend(rows);
+    image::write(&book)
+}
+
+pub fn row(id: u16, period: u8, route: &[u8], offsets: &[u16]) -> Stream {
+    Stream { id, period, route: route.to_vec(), offsets: offsets.to_vec() }
+}

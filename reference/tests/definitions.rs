@@ -1,0 +1,229 @@
+//! The planner's short ways against the definitions, tried out in full on
+//! small books, and the theorems of document 01 on the same books.
+
+mod common;
+
+use common::*;
+use reference::book::Book;
+use reference::hop::{Hop, clash, hops_of};
+use reference::image;
+use reference::placing::{first_placing, serving_offsets};
+use reference::plan::{PERIODS, PLAN_TILES, Plan};
+use reference::route::planners_route;
+use reference::table::{Operation, balance, table};
+use reference::topology::Topology;
+
+/// A small number generator.
+struct Dice(u64);
+
+impl Dice {
+    fn below(&mut self, limit: u64) -> u64 {
+        self.0 = self.0.wrapping_mul(6364136223846793005).wrapping_add(1442695040888963407);
+        (self.0 >> 33) % limit
+    }
+}
+
+/// A book of six nodes and some streams, opened one after another.
+fn small_book(dice: &mut Dice) -> Book {
+    let s = 1 + dice.below(4) as u8;
+    let c = PLAN_TILES[dice.below(5) as usize];
+    let plan = Plan {
+        s,
+        c,
+        kinds: dice.below(1 << c) as u16,
+        d: dice.below(u64::from(s)) as u8,
+        u: dice.below(u64::from(s)) as u8,
+    };
+    let mut links = Vec::new();
+    for a in 0..6 {
+        for b in 0..a {
+            if dice.below(5) < 2 {
+                links.push((a, b));
+            }
+        }
+    }
+    let topology = Topology::read(6, &topology(6, &links)).unwrap();
+    let mut book = Book { plan, topology, streams: Vec::new() };
+    for id in 1..=dice.below(5) as u16 {
+        try_to_open(dice, &mut book, id);
+    }
+    book
+}
+
+fn try_to_open(dice: &mut Dice, book: &mut Book, id: u16) {
+    let (source, destination) = (dice.below(6) as u8, dice.below(6) as u8);
+    let period = PERIODS[dice.below(4) as usize];
+    let mut out = vec![0; ROOM];
+    let before = image::write(book);
+    let (number, length) =
+        reference::calls::open(&before, id, source, destination, u16::from(period), &mut out);
+    if number == 0 {
+        *book = read(&out[..length]);
+    }
+}
+
+/// Every route from the last node of `route` on to `destination`.
+fn all_routes(topology: &Topology, route: &mut Vec<u8>, destination: u8, found: &mut Vec<Vec<u8>>) {
+    let node = *route.last().unwrap();
+    if node == destination {
+        found.push(route.clone());
+        return;
+    }
+    for next in 0..topology.nodes() {
+        if topology.linked(node, next) && !route.contains(&next) {
+            route.push(next);
+            all_routes(topology, route, destination, found);
+            route.pop();
+        }
+    }
+}
+
+#[test]
+fn the_route_is_the_first_of_the_shortest() {
+    let mut dice = Dice(1);
+    for _ in 0..100 {
+        let book = small_book(&mut dice);
+        let mut found = Vec::new();
+        all_routes(&book.topology, &mut vec![0], 5, &mut found);
+        let first = found.into_iter().min_by_key(|route| (route.len(), route.clone()));
+        assert_eq!(planners_route(&book.topology, 0, 5), first);
+    }
+}
+
+/// The first rising list with one number from each set, by trying all in
+/// lexicographic order.
+fn first_by_search(sets: &[Vec<usize>], chosen: &mut Vec<u16>) -> bool {
+    let Some(set) = sets.get(chosen.len()) else { return true };
+    for &offset in set {
+        if chosen.last().is_none_or(|&last| usize::from(last) < offset) {
+            chosen.push(offset as u16);
+            if first_by_search(sets, chosen) {
+                return true;
+            }
+            chosen.pop();
+        }
+    }
+    false
+}
+
+#[test]
+fn the_placing_is_the_first_of_all() {
+    let mut dice = Dice(2);
+    let (mut placed, mut unplaced) = (0, 0);
+    while placed < 150 || unplaced < 30 {
+        let book = small_book(&mut dice);
+        let Some(route) = planners_route(&book.topology, 0, 5) else { continue };
+        let period = PERIODS[dice.below(4) as usize];
+        let serving =
+            hops_of(&route).map(|hop| serving_offsets(&book, hop, period).collect()).collect();
+        let sets: Vec<Vec<usize>> = serving;
+        let mut chosen = Vec::new();
+        let found = first_by_search(&sets, &mut chosen).then_some(chosen);
+        if found.is_some() {
+            placed += 1
+        } else {
+            unplaced += 1
+        }
+        assert_eq!(first_placing(&book, &route, period), found);
+    }
+}
+
+#[test]
+fn an_offset_serves_exactly_if_the_row_would_be_lawful() {
+    let mut dice = Dice(3);
+    for _ in 0..20 {
+        let book = small_book(&mut dice);
+        for hop in (0..6).flat_map(|a| (0..6).map(move |b| Hop { sender: a, receiver: b })) {
+            if !book.topology.linked(hop.sender, hop.receiver) {
+                continue;
+            }
+            let serving: Vec<usize> = serving_offsets(&book, hop, 5).collect();
+            for offset in 0..book.plan.period_slots(5) {
+                let mut with_row = book.clone();
+                with_row.add(row(999, 5, &[hop.sender, hop.receiver], &[offset as u16]));
+                let lawful = image::read(&image::write(&with_row)).is_ok();
+                assert_eq!(serving.contains(&offset), lawful);
+            }
+        }
+    }
+}
+
+#[test]
+fn used_and_free_make_up_data() {
+    let mut dice = Dice(4);
+    for _ in 0..50 {
+        let book = small_book(&mut dice);
+        for node in 0..6 {
+            let busy = |operation| !matches!(operation, Operation::Sleep | Operation::ControlSlot);
+            let entries = table(&book, node);
+            let working = entries.iter().filter(|entry| busy(entry.operation)).count();
+            let balance = balance(&book, node);
+            assert_eq!(balance.used as usize, working);
+            assert_eq!(balance.used + balance.free, balance.data);
+        }
+    }
+}
+
+#[test]
+fn two_hops_meet_exactly_if_offsets_agree_modulo_the_common_divisor() {
+    // The rule stands in document 01 as a theorem; here it is only tried out.
+    let plan = Plan { s: 1, c: 1, kinds: 0, d: 0, u: 0 };
+    for (k, l) in PERIODS.iter().flat_map(|&k| PERIODS.iter().map(move |&l| (k, l))) {
+        let divisor = (1..=k.min(l)).rfind(|g| k % g == 0 && l % g == 0).unwrap();
+        for (o, p) in (0..k).flat_map(|o| (0..l).map(move |p| (o, p))) {
+            let one = plan.slots_of(usize::from(o), k);
+            let two = plan.slots_of(usize::from(p), l);
+            assert_eq!(one.has_common_slot(&two), o % divisor == p % divisor);
+        }
+    }
+}
+
+/// One request of a list whose order must not matter.
+#[derive(Clone, Copy)]
+struct Open(u16, u8, u8, u16);
+
+fn asked(book: &[u8], open: Open) -> (u8, Vec<u8>) {
+    let Open(id, source, destination, period) = open;
+    let mut out = vec![0; ROOM];
+    let (number, length) = reference::calls::open(book, id, source, destination, period, &mut out);
+    let next = if number == 0 { out[..length].to_vec() } else { book.to_vec() };
+    (number, next)
+}
+
+#[test]
+fn opens_that_are_apart_give_the_same_in_either_order() {
+    let mut dice = Dice(5);
+    let mut tried = 0;
+    while tried < 60 {
+        let book = small_book(&mut dice);
+        let mut any = |id| {
+            let period = u16::from(PERIODS[dice.below(4) as usize]);
+            Open(id, dice.below(6) as u8, dice.below(6) as u8, period)
+        };
+        let (one, two) = (any(100), any(200));
+        if !are_apart(&book.topology, one, two) {
+            continue;
+        }
+        tried += 1;
+        let start = image::write(&book);
+        let (first, between) = asked(&start, one);
+        let (second, end) = asked(&between, two);
+        let (second_alone, other) = asked(&start, two);
+        let (first_after, other_end) = asked(&other, one);
+        assert_eq!((first, second), (first_after, second_alone));
+        assert_eq!(end, other_end);
+    }
+}
+
+/// No hop of one clashes with a hop of the other.
+fn are_apart(topology: &Topology, one: Open, two: Open) -> bool {
+    let hops = |open: Open| -> Vec<Hop> {
+        if open.1 == open.2 {
+            return Vec::new();
+        }
+        let route = planners_route(topology, open.1, open.2).unwrap_or_default();
+        hops_of(&route).collect()
+    };
+    let (ours, theirs) = (hops(one), hops(two));
+    ours.iter().all(|&a| theirs.iter().all(|&b| !clash(topology, a, b)))
+}

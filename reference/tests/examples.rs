@@ -1,0 +1,138 @@
+//! Document 01's worked examples.
+
+mod common;
+
+use common::*;
+use reference::calls;
+use reference::hop::{Hop, clash};
+use reference::listing::listing;
+use reference::plan::Plan;
+use reference::route::planners_route;
+use reference::topology::Topology;
+
+#[test]
+fn p1_only_two_slots_serve_three_hops() {
+    assert_eq!(open_refused(&line_a(4), 1, 3, 0, 1), 9);
+}
+
+#[test]
+fn p2_first_stream() {
+    let stream = stream(&p2(), 1);
+    assert_eq!(stream.route, [3, 2, 1, 0]);
+    assert_eq!(stream.offsets, [2, 3, 5]);
+}
+
+#[test]
+fn p3_second_stream_shares_slot_2() {
+    assert_eq!(stream(&p3(), 1), stream(&p2(), 1));
+    assert_eq!(stream(&p3(), 2).route, [0, 1, 2, 3]);
+    assert_eq!(stream(&p3(), 2).offsets, [2, 6, 7]);
+}
+
+#[test]
+fn p4_no_slot_is_left() {
+    assert_eq!(open_refused(&p3(), 3, 3, 2, 2), 9);
+}
+
+#[test]
+fn p5_a_close_makes_room() {
+    let book = opened(&closed(&p3(), 1), 3, 3, 2, 2);
+    assert_eq!(stream(&book, 3).offsets, [2]);
+}
+
+#[test]
+fn p6_meet_first_in_slot_27() {
+    let plan = Plan { s: 4, c: 1, kinds: 0, d: 0, u: 0 };
+    let (two, five) = (plan.slots_of(3, 2), plan.slots_of(7, 5));
+    assert!(two.has_common_slot(&five));
+    assert_eq!(two.iter().find(|&slot| five.contains(slot)), Some(27));
+}
+
+#[test]
+fn p7_lowest_node_list() {
+    let links = topology(4, &[(0, 1), (0, 2), (1, 3), (2, 3)]);
+    let topology = Topology::read(4, &links).unwrap();
+    assert_eq!(planners_route(&topology, 0, 3), Some(vec![0, 1, 3]));
+}
+
+#[test]
+fn p8_clashes_in_line_a() {
+    let line_a = Topology::read(4, &line(4)).unwrap();
+    let hop = |sender, receiver| Hop { sender, receiver };
+    assert!(clash(&line_a, hop(0, 1), hop(2, 3)));
+    assert!(!clash(&line_a, hop(0, 1), hop(3, 2)));
+}
+
+#[test]
+fn p9_operations_of_node_2() {
+    let table = written(|out| calls::expand(&p2(), 2, out));
+    assert_eq!(table.len(), 3 * 400);
+    let operations: Vec<u8> = table.chunks(3).map(|entry| entry[0]).collect();
+    assert_eq!(operations[..8], [5, 5, 2, 3, 5, 0, 0, 0]);
+    // The plan repeats every 8 slots and so does the stream: all 100 tiles agree.
+    assert!(operations.chunks(8).all(|tiles| *tiles == operations[..8]));
+    let ids: Vec<u16> =
+        table.chunks(3).map(|entry| u16::from_be_bytes([entry[1], entry[2]])).collect();
+    assert_eq!(ids[..8], [0, 0, 1, 1, 0, 0, 0, 0]);
+}
+
+/// The bytes of P10.
+const P10: [u8; 32] = [
+    0x53, 0x4C, 0x42, 0x00, 0x01, 0x04, 0x02, 0x00, 0x01, 0x02, 0x01, 0x02, 0x00, 0x00, 0x00, 0x00,
+    0, 0, 0, 0, 0, 0, 0, 0x02, 0, 0, 0, 0, 0, 0, 0, 0x01,
+];
+
+#[test]
+fn p10_empty_book_of_two_nodes() {
+    assert_eq!(line_a(2), P10);
+}
+
+#[test]
+fn p11_one_row_added() {
+    let mut expected = P10.to_vec();
+    expected[12] = 0x01;
+    expected[14] = 0x01;
+    expected.extend([0x00, 0x07, 0x02, 0x01, 0x01, 0x00, 0x00, 0x02]);
+    assert_eq!(opened(&P10, 7, 1, 0, 2), expected);
+}
+
+#[test]
+fn run_no_input() {
+    assert_eq!(listing(&[]), "refused 14\n");
+}
+
+/// All slots of the cycle are data.
+const OPEN_PLAN: (u8, u8, u16, u8, u8) = (4, 1, 0, 0, 0);
+
+#[test]
+fn run_15_hops_are_accepted_and_16_are_not() {
+    let book = opened(&new_book(OPEN_PLAN, &line(16)), 1, 0, 15, 100);
+    assert_eq!(stream(&book, 1).route, (0..=15).collect::<Vec<u8>>());
+    assert_eq!(stream(&book, 1).offsets, (0..15).collect::<Vec<u16>>());
+    assert_eq!(open_refused(&new_book(OPEN_PLAN, &line(17)), 1, 0, 16, 100), 7);
+}
+
+#[test]
+fn run_64_nodes_stand_and_65_do_not() {
+    assert_eq!(calls::check(&new_book(OPEN_PLAN, &line(64))), (0, 0));
+    let rows = vec![0; 8 * 65];
+    assert_eq!(refused(ROOM, |out| calls::new(4, 1, 0, 0, 0, 65, &rows, out)), 10);
+    let mut image = new_book(OPEN_PLAN, &line(64));
+    image[11] = 65;
+    assert_eq!(calls::check(&image), (10, 0));
+}
+
+#[test]
+fn balance_listing_of_p2() {
+    let expected = "node data used free\n\
+                    0 250 50 200\n\
+                    1 250 100 150\n\
+                    2 250 100 150\n\
+                    3 250 50 200\n";
+    assert_eq!(listing(&p2()), expected);
+}
+
+#[test]
+fn rewrite_gives_the_same_bytes() {
+    assert_eq!(written(|out| calls::rewrite(&p3(), out)), p3());
+}

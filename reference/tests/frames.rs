@@ -1,0 +1,85 @@
+//! Frames, byte by byte.
+
+mod common;
+
+use common::*;
+use reference::frame::{Answer, Call, Request, serve, write_end};
+
+fn bytes_of(request: &Request) -> Vec<u8> {
+    let mut bytes = Vec::new();
+    request.write(&mut bytes).unwrap();
+    bytes
+}
+
+#[test]
+fn a_request_has_every_field_in_its_place() {
+    let request = Request {
+        id: 0x0102,
+        node: 0x03,
+        destination: 0x04,
+        period: 0x0506,
+        s: 0x07,
+        c: 0x08,
+        kinds: 0x090A,
+        d: 0x0B,
+        u: 0x0C,
+        n: 0x0D,
+        bytes: vec![0xEE; 3],
+        room: 0x1011,
+        fill: 0x12,
+        ..Request::blank(Call::Open)
+    };
+    let expected =
+        [3, 1, 2, 3, 4, 5, 6, 7, 8, 9, 10, 11, 12, 13, 0, 3, 0x10, 0x11, 0x12, 0xEE, 0xEE, 0xEE];
+    assert_eq!(bytes_of(&request), expected);
+    assert_eq!(Request::read(&mut &expected[..]).unwrap(), Some(request));
+}
+
+/// The stream of answers to these requests.
+fn served(requests: &[Request]) -> Vec<u8> {
+    let mut input: Vec<u8> = requests.iter().flat_map(bytes_of).collect();
+    write_end(&mut input).unwrap();
+    input.extend([0xFF; 4]);
+    let mut output = Vec::new();
+    serve(&mut &input[..], &mut output).unwrap();
+    output
+}
+
+#[test]
+fn a_new_book_is_answered_with_its_whole_buffer() {
+    let request = Request {
+        s: 4,
+        c: 2,
+        kinds: 1,
+        d: 2,
+        u: 1,
+        n: 2,
+        bytes: line(2),
+        room: 34,
+        fill: FILL,
+        ..Request::blank(Call::New)
+    };
+    let image = [line_a(2), vec![FILL, FILL]].concat();
+    let expected = [&[0, 0, 0, 0, 32, 0, 0, 0, 0, 0, 0, 0, 0], &image[..]].concat();
+    assert_eq!(served(&[request]), expected);
+}
+
+#[test]
+fn check_and_balance_are_answered_without_a_buffer() {
+    let check = Request { bytes: vec![0; 15], ..Request::blank(Call::Check) };
+    let balance = Request { node: 1, bytes: p2(), ..Request::blank(Call::Balance) };
+    let output = served(&[check, balance]);
+    let expected =
+        [[14, 0, 0, 0, 0, 0, 0, 0, 0, 0, 0, 0, 0], [0, 0, 0, 0, 250, 0, 0, 0, 100, 0, 0, 0, 150]];
+    assert_eq!(output, expected.concat());
+}
+
+#[test]
+fn an_answer_reads_as_it_was_written() {
+    let answer =
+        Request { bytes: p2(), room: 99, fill: 7, ..Request::blank(Call::Rewrite) }.answer();
+    let mut bytes = Vec::new();
+    answer.write(&mut bytes).unwrap();
+    assert_eq!(Answer::read(&mut &bytes[..], 99).unwrap(), answer);
+    assert_eq!(answer.written(), p2());
+}
