@@ -9,6 +9,8 @@ use rules::Node;
 use rules::Plan;
 use rules::Tile;
 
+mod interface;
+
 // A node's balance: a number, and data, used and free slots.
 pub struct Balance {
     pub number: u8,

@@ -1,0 +1,110 @@
+// The C interface: the seven calls over bare numbers.
+ghost use mathlib.Core.Path.{_≡_};
+ghost use Rattle.rules.specs.Calls.{New, Check, Rewrite, Open, Close, Expand, Balance};
+use rules::Node;
+use rules::Plan;
+use rules::Slot;
+use rules::Tile;
+
+// Makes a book without streams.
+#[no_mangle]
+pub extern "C" fn lindurask_new(
+    s: u8,
+    c: u8,
+    kinds: u16,
+    d: u8,
+    u: u8,
+    n: u8,
+    topology: &[u8],
+    out: &mut [u8],
+    length: &mut usize,
+) -> u8
+    ensures { λ r. ⌜ New (record { slots = s; tiles = c; kinds = kinds; down = d; up = u }) n (now (topology .entry)) (now (out .entry)) r (now (length .exit)) (now (out .exit)) ⌝ }
+{
+    let plan = Plan {
+        slots: Slot(s as u16),
+        tiles: Tile(c as u16),
+        kinds,
+        down: Slot(d as u16),
+        up: Slot(u as u16),
+    };
+    let answer = crate::new_book(plan, n, topology, out);
+    *length = answer.length;
+    answer.number
+}
+
+// Checks an image.
+#[no_mangle]
+pub extern "C" fn lindurask_check(book: &[u8], length: &mut usize) -> u8
+    ensures { λ r. ⌜ Check (now (book .entry)) r (now (length .exit)) ⌝ }
+{
+    let answer = crate::check(book);
+    *length = answer.length;
+    answer.number
+}
+
+// Writes the image of the same book.
+#[no_mangle]
+pub extern "C" fn lindurask_rewrite(book: &[u8], out: &mut [u8], length: &mut usize) -> u8
+    ensures { λ r. ⌜ Rewrite (now (book .entry)) (now (out .entry)) r (now (length .exit)) (now (out .exit)) ⌝ }
+{
+    let answer = crate::rewrite(book, out);
+    *length = answer.length;
+    answer.number
+}
+
+// Opens a stream.
+#[no_mangle]
+pub extern "C" fn lindurask_open(
+    book: &[u8],
+    id: u16,
+    source: u8,
+    destination: u8,
+    period: u16,
+    out: &mut [u8],
+    length: &mut usize,
+) -> u8
+    ensures { λ r. ⌜ Open (now (book .entry)) id source destination period (now (out .entry)) r (now (length .exit)) (now (out .exit)) ⌝ }
+{
+    let answer = crate::open_stream(book, id, Node(source), Node(destination), Tile(period), out);
+    *length = answer.length;
+    answer.number
+}
+
+// Closes a stream.
+#[no_mangle]
+pub extern "C" fn lindurask_close(book: &[u8], id: u16, out: &mut [u8], length: &mut usize) -> u8
+    ensures { λ r. ⌜ Close (now (book .entry)) id (now (out .entry)) r (now (length .exit)) (now (out .exit)) ⌝ }
+{
+    let answer = crate::close_stream(book, id, out);
+    *length = answer.length;
+    answer.number
+}
+
+// Writes a node's slot table.
+#[no_mangle]
+pub extern "C" fn lindurask_expand(book: &[u8], node: u8, out: &mut [u8], length: &mut usize) -> u8
+    ensures { λ r. ⌜ Expand (now (book .entry)) node (now (out .entry)) r (now (length .exit)) (now (out .exit)) ⌝ }
+{
+    let answer = crate::expand(book, Node(node), out);
+    *length = answer.length;
+    answer.number
+}
+
+// Gives a node's balance.
+#[no_mangle]
+pub extern "C" fn lindurask_balance(
+    book: &[u8],
+    node: u8,
+    held: &mut u32,
+    used: &mut u32,
+    free: &mut u32,
+) -> u8
+    ensures { λ r. ⌜ Balance (now (book .entry)) node r (now (held .exit)) (now (used .exit)) (now (free .exit)) ⌝ }
+{
+    let answer = crate::balance_of(book, Node(node));
+    *held = answer.data;
+    *used = answer.used;
+    *free = answer.free;
+    answer.number
+}
