@@ -3,6 +3,7 @@ ghost use Rattle.rules.specs.Image.{Stored};
 ghost use Rattle.model.specs.Reading.{bookIn};
 ghost use Rattle.finding.specs.Spot.{SpotOf};
 use image::Book;
+use reader::Cut;
 
 // Where the row of an id stands, or between which rows it would.
 pub enum Spot {
@@ -19,14 +20,16 @@ pub fn find(image: &[u8], id: u16) -> Spot
     let mut at = book.rows_start();
     let mut left = book.streams;
     while 0 < left {
-        let here = image::id_at(image, at);
+        let Cut::Row { id: here, next } = reader::row_here(image, at) else {
+            return Spot::Between(at);
+        };
         if id < here {
             return Spot::Between(at);
         }
         if here == id {
             return Spot::Here(at);
         }
-        at = image::next(image, at);
+        at = next;
         left -= 1;
     }
     Spot::Between(at)

@@ -3,8 +3,8 @@ use mathlib.Core.Path.{_≡_, sym, ap, _∙_, subst}
 use mathlib.Core.Bool.{Bool}
 use mathlib.Core.List.{List}
 use Prim.Native.Nat.{ℕ, suc, _+_, _*_, _%_, _<_, _≤_}
-use native.Mathlib.Omega.{arith}
 use native.Mathlib.Numerals.{add-one}
+use native.Mathlib.Omega.{arith}
 use borrow.Author.Tests.{eq-eqb, eqb-true}
 use lib.Dec.{eqb}
 use lib.ListN.{getD}
@@ -18,11 +18,11 @@ use Rattle.rules.specs.declared.Node.{Node}
 use Rattle.rules.proofs.Tests.{alike, tests-eq}
 use Rattle.rules.proofs.Periods.{meet-tests}
 use Rattle.rules.proofs.Written.{length-linksAt}
+use Rattle.clash.specs.Reach.{topology, hop, Between, InReach, ReachOf}
+use Rattle.clash.specs.declared.Reach.{Reach}
 use Rattle.image.specs.Places.{rowAt, nextAt}
 use Rattle.image.specs.declared.Book.{Book}
 use Rattle.image.proofs.Hops.{node-known, offset-within}
-use Rattle.clash.specs.Reach.{topology, hop, Between, InReach, ReachOf}
-use Rattle.clash.specs.declared.Reach.{Reach}
 use Rattle.lawful.specs.Frame.{Framed}
 use Rattle.lawful.specs.Walk.{RowStands}
 use Rattle.lawful.specs.Meeting.{HopAgrees, MeetsInReach, Placed, RowsBehind, MeetsFrom, HopMeetsBehind}

@@ -19,8 +19,8 @@ use Rattle.image.specs.Places.{rowAt, nextAt, rowsFrom, Whole}
 use Rattle.image.proofs.Places.{rows-in, length-rows-from}
 use Rattle.image.proofs.Stands.{read-row, whole-row, next-bytes}
 use Rattle.lawful.specs.Frame.{Framed}
-use Rattle.lawful.specs.Walk.{RowsStand, RowsFill}
-use Rattle.lawful.proofs.Walks.{AllFill}
+use Rattle.lawful.specs.Walk.{RowsStand}
+use Rattle.lawful.proofs.Walks.{RowsFill, AllFill}
 
 -- WHAT IS READ IS WRITTEN AGAIN
 words-written : (n : ℕ) (t : List ℕ) → Bytes t → 2 * n ≤ length t → t ≡ inTurn word (wordsAt n t) ++ drop (2 * n) t

@@ -4,11 +4,11 @@ use mathlib.Core.Logic.{inl, inr}
 use mathlib.Core.Bool.{Bool}
 use mathlib.Core.List.{List}
 use Prim.Native.Nat.{ℕ, zero, suc, _*_, _/_, _^_, _<_, _≤_}
-use native.Mathlib.Omega.{arith}
 use native.Mathlib.Nat.{div-eq-of-lt, div-lt-iff-lt-mul}
-use lib.Pow.{pow-pos}
+use native.Mathlib.Omega.{arith}
 use lib.Dec.{eqb}
 use lib.ListN.{getD}
+use lib.Pow.{pow-pos}
 use Rattle.rules.specs.Words.{_∈_, NoBitFrom, Tests}
 use Rattle.rules.specs.Tiles.{Plan, tileCounts, PlanInRange}
 use Rattle.rules.specs.Topology.{NodesInRange}

@@ -3,8 +3,8 @@ use mathlib.Core.Path.{_≡_, sym, subst}
 use mathlib.Core.Logic.{_⊎_, inl, inr, ⊎-elim}
 use mathlib.Core.List.{List}
 use Prim.Native.Nat.{ℕ, zero, suc, _<_, _≤_, _-_}
-use native.Mathlib.Omega.{arith}
 use native.Mathlib.Numerals.{unary-clauses}
+use native.Mathlib.Omega.{arith}
 use Rattle.image.specs.Places.{nextAt}
 use Rattle.lawful.specs.Walk.{RowStands, RowsStand}
 use Rattle.lawful.specs.Meeting.{SomeFrom}

@@ -2,8 +2,8 @@
 use mathlib.Core.Path.{_≡_, sym, ap, _∙_, subst}
 use mathlib.Core.List.{List}
 use Prim.Native.Nat.{ℕ, zero, suc, _<_, _≤_, _-_}
-use native.Mathlib.Omega.{arith}
 use native.Mathlib.Numerals.{unary-clauses}
+use native.Mathlib.Omega.{arith}
 use lib.Dec.{eqb}
 use lib.ListN.{length, take}
 use Rattle.rules.specs.Words.{Tests}
@@ -14,12 +14,12 @@ use Rattle.rules.specs.Periods.{thePlan}
 use Rattle.rules.specs.Image.{linksAt, planOf, nodesOf, streamsOf, rowsStart, topologyOf}
 use Rattle.rules.proofs.Tests.{alike, tests-eq}
 use Rattle.rules.proofs.Written.{length-linksAt}
+use Rattle.clash.specs.Reach.{topology}
 use Rattle.image.specs.Places.{rowAt, nextAt, Links}
 use Rattle.image.specs.Header.{HeaderOf}
 use Rattle.image.specs.declared.Book.{Book}
-use Rattle.clash.specs.Reach.{topology}
 use Rattle.lawful.specs.Frame.{Framed, ReadFrom}
-use Rattle.lawful.specs.Walk.{RowStands, RowsFill}
+use Rattle.lawful.specs.Walk.{RowStands}
 
 -- WHAT WAS READ IS WHAT THE IMAGE HOLDS
 module _ {s : List ℕ} {b : Book} {links : List ℕ} (o : ReadFrom s b links) where
@@ -48,6 +48,11 @@ pub links-read : {s : List ℕ} {b : Book} {all : List ℕ} → Framed s → Hea
 links-read {s} f h l = record { framed = f; header = h; links-are = l .rows ∙ ap (linksAt s 16) (h .nodes) }
 
 -- THE WALK
+-- n lawful rows stand from the place on, of ids that rise from above `last`, and fill the image
+unfoldable pub RowsFill : List ℕ → ℕ → ℕ → ℕ → Type 0
+RowsFill s zero at last = at ≡ length s
+RowsFill s (suc n) at last = RowStands s at × (last < rowAt s at .id) × RowsFill s n (nextAt s at) (rowAt s at .id)
+
 -- all rows fill the image
 abbrev pub AllFill : List ℕ → Type 0
 AllFill s = RowsFill s (streamsOf s) (rowsStart (nodesOf s)) 0

@@ -8,10 +8,10 @@ use Rattle.rules.specs.Topology.{Topology, SoundTopology}
 use Rattle.rules.specs.Book.{Row, hops, rowHop, rowOffset, MeetsClashing}
 use Rattle.rules.specs.Periods.{InList}
 use Rattle.rules.specs.Image.{planOf, topologyOf}
-use Rattle.image.specs.Places.{rowAt, nextAt}
-use Rattle.image.specs.declared.Book.{Book}
 use Rattle.clash.specs.Reach.{InReach}
 use Rattle.clash.specs.declared.Reach.{Reach}
+use Rattle.image.specs.Places.{rowAt, nextAt}
+use Rattle.image.specs.declared.Book.{Book}
 use Rattle.lawful.specs.Frame.{Framed, ReadFrom}
 use Rattle.lawful.specs.Walk.{RowStands, RowsStand}
 

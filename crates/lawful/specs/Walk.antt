@@ -1,8 +1,6 @@
 -- Rows that stand one after the other in an image. Assumes nothing.
-use mathlib.Core.Path.{_≡_}
 use mathlib.Core.List.{List}
-use Prim.Native.Nat.{ℕ, zero, suc, _<_}
-use lib.ListN.{length}
+use Prim.Native.Nat.{ℕ, zero, suc}
 use Rattle.rules.specs.Words.{_∈_}
 use Rattle.rules.specs.Tiles.{Plan}
 use Rattle.rules.specs.Book.{Row, hops, Offsets, OnData, LawfulRow}
@@ -23,8 +21,3 @@ pub record RowStands (s : List ℕ) (at : ℕ) : Type 0 where
 unfoldable pub RowsStand : List ℕ → ℕ → ℕ → Type 0
 RowsStand s zero at = Unit {0}
 RowsStand s (suc n) at = RowStands s at × RowsStand s n (nextAt s at)
-
--- n lawful rows stand from the place on, of ids that rise from above `last`, and fill the image
-unfoldable pub RowsFill : List ℕ → ℕ → ℕ → ℕ → Type 0
-RowsFill s zero at last = at ≡ length s
-RowsFill s (suc n) at last = RowStands s at × (last < rowAt s at .id) × RowsFill s n (nextAt s at) (rowAt s at .id)

@@ -104,7 +104,7 @@ pub fn put_new(plan: Plan, nodes: u8, topology: &[u8], out: &mut [u8])
     ensures { λ _. ⌜ now (out .exit) ≡ over (now (out .entry)) 0 (encodeHeader (thePlan plan) nodes 0 0 ++ now (topology .entry)) ⌝ }
 {
     let rest = fields(plan, nodes);
-    put_part(b"SLB", out, 0);
+    put_part(&image::MARK, out, 0);
     put_part(&rest, out, 3);
     put_part(topology, out, 16);
 }

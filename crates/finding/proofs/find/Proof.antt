@@ -2,12 +2,18 @@
 use native.Mathlib.Omega.{arith}
 use borrow.Author.Needs.{needs}
 use mathlib.Core.Path.{_≡_, sym, ap, _∙_, subst}
-use Prim.Native.Nat.{ℕ, _<_, _-_}
+use Prim.Native.Nat.{ℕ, _<_}
 use Rattle.rules.specs.Image.{rowsStart}
 use Rattle.image.proofs.Stands.{stands-row}
+use Rattle.reader.specs.Cuts.{CutAt}
 use Rattle.finding.proofs.Ids.{Passed, passed-start, passed-next, vacant-here, taken-here, vacant-end, stored-long}
 use Rattle.finding.proofs.find.Statement.{statement}
 use Rattle.finding.proofs.find.Tie as tie
+use Rattle.finding.proofs.find.Reads as reads
+use Rattle.finding.proofs.find.Lts as lts
+use Rattle.image.proofs.Book.read.Reads as read-reads
+use Rattle.image.proofs.Book.rows_start.Reads as rows-start-reads
+use Rattle.reader.proofs.row_here.Reads as row-here-reads
 
 abbrev Inv-loop : tie.InvT-loop
 Inv-loop image id at₀ left₀ at left = Passed image id at left
@@ -15,36 +21,65 @@ Inv-loop image id at₀ left₀ at left = Passed image id at left
 abbrev μ-loop : tie.MeasureT-loop
 μ-loop image id at₀ left₀ at left = left
 
+-- src/lib.rt:19:9
 read-requires : tie.Need-read-requires Inv-loop μ-loop
 read-requires c κs = stored-long (c .before .pre)
 
+-- src/lib.rt:20:9
+rows-start-requires : tie.Need-rows-start-requires Inv-loop μ-loop
+rows-start-requires c κs = search needs
+
+-- src/lib.rt:22:5
 loop-holds : tie.Need-loop-holds Inv-loop μ-loop
 loop-holds c =
     passed-start (c .before .before .before .pre) (c .rows-start .ensures ∙ ap rowsStart (c .before .read .ensures .nodes)) (c .before .read .ensures .streams)
 
-id-at-requires : tie.Need-id-at-requires Inv-loop μ-loop
-id-at-requires c κs = stands-row (c .loop-test .taken) (c .before .loop .inv .stands) .whole
+-- src/lib.rt:23:43
+row-here-requires : tie.Need-row-here-requires Inv-loop μ-loop
+row-here-requires c κs = search needs
 
+-- src/lib.rt:23:28
+enum-known-here : tie.Need-enum-known-here Inv-loop μ-loop
+enum-known-here c = search needs
+
+-- src/lib.rt:24:13
+enum-told : tie.Need-enum-told Inv-loop μ-loop
+enum-told c = search needs
+
+-- src/lib.rt:24:13
 returns : tie.Need-returns Inv-loop μ-loop
 returns c =
-    vacant-here (c .before .before .loop-test .taken) (c .before .before .before .loop .inv)
-    (subst (λ (n : ℕ). c .before .before .before .before .before .before .before .args .id < n) (c .before .id-at .ensures .0) (c .if1 .taken))
+    absurd (subst (CutAt _ _) (c .enum-told .given .1) (c .before .before .row-here .ensures) (stands-row (c .before .before .before .loop-test .taken) (c .before .before .before .before .loop .inv .stands) .whole))
 
+-- src/lib.rt:27:13
 returns-2 : tie.Need-returns-2 Inv-loop μ-loop
 returns-2 c =
-    taken-here (c .before .before .before .loop-test .taken) (c .before .before .before .before .loop .inv) (sym (c .before .before .id-at .ensures .0) ∙ c .if2 .taken)
+    vacant-here (c .before .before .before .before .before .loop-test .taken) (c .before .before .before .before .before .before .loop .inv)
+    (subst (λ (n : ℕ). c .before .before .before .before .before .before .before .before .before .before .args .id < n) (subst (CutAt (c .before .before .before .before .before .before .before .before .before .before .args .image .now) (c .before .before .before .before .before .before .loop .at)) (c .before .before .here .given .1) (c .before .before .before .before .row-here .ensures) .1) (c .if1 .taken))
 
-next-requires : tie.Need-next-requires Inv-loop μ-loop
-next-requires c κs = stands-row (c .before .before .before .loop-test .taken) (c .before .before .before .before .loop .inv .stands) .whole
+-- src/lib.rt:30:13
+returns-3 : tie.Need-returns-3 Inv-loop μ-loop
+returns-3 c =
+    taken-here (c .before .before .before .before .before .before .loop-test .taken) (c .before .before .before .before .before .before .before .loop .inv) (sym (subst (CutAt (c .before .before .before .before .before .before .before .before .before .before .before .args .image .now) (c .before .before .before .before .before .before .before .loop .at)) (c .before .before .before .here .given .1) (c .before .before .before .before .before .row-here .ensures) .1) ∙ c .if2 .taken)
 
+-- src/lib.rt:33:9
+sub-left : tie.Need-sub-left Inv-loop μ-loop
+sub-left c = omega arith
+
+-- src/lib.rt:22:5
+loop-less : tie.Need-loop-less Inv-loop μ-loop
+loop-less c = omega arith
+
+-- src/lib.rt:22:5
 loop-again : tie.Need-loop-again Inv-loop μ-loop
 loop-again c =
-    let l : c .before .before .before .id-at .result < c .before .before .before .before .before .before .before .before .before .args .id = omega (arith, c .before .before .if1 .left, c .before .if2 .left) in
-    passed-next (c .before .before .before .before .loop-test .taken) (c .before .before .before .before .before .loop .inv) (c .next .ensures .0)
-    (subst (λ (n : ℕ). n < c .before .before .before .before .before .before .before .before .before .args .id) (c .before .before .before .id-at .ensures .0) l)
+    let row = subst (CutAt (c .before .before .before .before .before .before .before .before .before .before .before .args .image .now) (c .before .before .before .before .before .before .before .loop .at)) (c .before .before .before .here .given .1) (c .before .before .before .before .before .row-here .ensures) in
+    let l : c .before .before .before .here .given .0 .0 < c .before .before .before .before .before .before .before .before .before .before .before .args .id = omega (arith, c .before .if1 .left, c .if2 .left) in
+    passed-next (c .before .before .before .before .before .before .loop-test .taken) (c .before .before .before .before .before .before .before .loop .inv) (row .2) (subst (λ (n : ℕ). n < c .before .before .before .before .before .before .before .before .before .before .before .args .id) (row .1) l)
 
-returns-3 : tie.Need-returns-3 Inv-loop μ-loop
-returns-3 c = vacant-end (c .loop-test .left) (c .before .loop .inv)
+-- src/lib.rt:15:1
+returns-4 : tie.Need-returns-4 Inv-loop μ-loop
+returns-4 c = vacant-end (c .loop-test .left) (c .before .loop .inv)
 
 pub find-spec : {M : Type 1} → statement M
 find-spec =
@@ -53,13 +88,15 @@ find-spec =
     Inv-loop
     μ-loop
     read-requires
-    (λ c κs. search needs)
+    rows-start-requires
     loop-holds
-    id-at-requires
+    row-here-requires
+    enum-known-here
+    enum-told
     returns
     returns-2
-    next-requires
-    (λ c. omega arith)
-    (λ c. omega arith)
+    returns-3
+    sub-left
+    loop-less
     loop-again
-    returns-3)
+    returns-4)

@@ -1,7 +1,7 @@
 -- The byte before the nodes is the count of hops. Assumes nothing.
-use Rattle.image.proofs.Places.{row-hops}
 use mathlib.Core.Path.{sym, _∙_}
 use borrow.Author.Needs.{needs}
+use Rattle.image.proofs.Places.{row-hops}
 use Rattle.image.proofs.hops_at.Statement.{statement}
 use Rattle.image.proofs.hops_at.Tie as tie
 

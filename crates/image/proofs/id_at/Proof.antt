@@ -1,7 +1,7 @@
 -- The id is the first number. Assumes nothing.
-use Rattle.image.proofs.Places.{row-id}
 use mathlib.Core.Path.{sym, _∙_}
 use borrow.Author.Needs.{needs}
+use Rattle.image.proofs.Places.{row-id}
 use Rattle.image.proofs.id_at.Statement.{statement}
 use Rattle.image.proofs.id_at.Tie as tie
 

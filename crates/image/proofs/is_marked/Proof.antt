@@ -1,7 +1,7 @@
 -- The first five bytes are compared one by one. Assumes nothing.
-use Rattle.image.proofs.Marks.{not-marked, marked}
 use native.Mathlib.Omega.{arith}
 use borrow.Author.Needs.{needs}
+use Rattle.image.proofs.Marks.{not-marked, marked}
 use Rattle.image.proofs.is_marked.Statement.{statement}
 use Rattle.image.proofs.is_marked.Tie as tie
 
@@ -11,11 +11,13 @@ returns c =
 
 returns-2 : tie.Need-returns-2
 returns-2 c =
-    not-marked (c .before .before .before .before .before .args .image .now) (c .before .before .before .before .before .pre) 1 (omega arith) (c .if2 .taken)
+    let start = c .before .before .before .before .before in
+    not-marked (start .args .image .now) (start .pre) 1 (omega arith) (c .if2 .taken)
 
 returns-3 : tie.Need-returns-3
 returns-3 c =
-    not-marked (c .before .before .before .before .before .before .before .args .image .now) (c .before .before .before .before .before .before .before .pre) 2 (omega arith) (c .if3 .taken)
+    let start = c .before .before .before .before .before .before .before in
+    not-marked (start .args .image .now) (start .pre) 2 (omega arith) (c .if3 .taken)
 
 returns-4 : tie.Need-returns-4
 returns-4 c =

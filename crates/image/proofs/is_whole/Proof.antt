@@ -1,6 +1,6 @@
 -- A row has 5 bytes and 3 for each hop. Assumes nothing.
-use Rattle.image.proofs.Places.{no-front, tests-whole}
 use borrow.Author.Needs.{needs}
+use Rattle.image.proofs.Places.{no-front, tests-whole}
 use Rattle.image.proofs.is_whole.Statement.{statement}
 use Rattle.image.proofs.is_whole.Tie as tie
 

@@ -1,7 +1,7 @@
 -- One row after the other is decoded. Assumes nothing.
-use Rattle.image.proofs.Topologies.{Decoded, decoded-none, decoded-more, decoded-done}
 use Prim.Native.Nat.{_≤_, _-_}
 use native.Mathlib.Omega.{arith}
+use Rattle.image.proofs.Topologies.{Decoded, decoded-none, decoded-more, decoded-done}
 use Rattle.image.proofs.links.Statement.{statement}
 use Rattle.image.proofs.links.Tie as tie
 

@@ -1,7 +1,7 @@
 -- A row is 5 bytes and 3 for each hop. Assumes nothing.
-use Rattle.image.specs.Places.{nextAt}
 use native.Mathlib.Omega.{arith}
 use borrow.Author.Needs.{needs}
+use Rattle.image.specs.Places.{nextAt}
 use Rattle.image.proofs.next.Statement.{statement}
 use Rattle.image.proofs.next.Tie as tie
 

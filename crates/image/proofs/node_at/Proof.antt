@@ -1,9 +1,9 @@
 -- The nodes stand behind the count of hops. Assumes nothing.
-use Prim.Native.Nat.{_+_}
-use Rattle.image.proofs.Places.{row-node, next-hops}
 use mathlib.Core.Path.{sym}
+use Prim.Native.Nat.{_+_}
 use native.Mathlib.Omega.{arith}
 use borrow.Author.Needs.{needs}
+use Rattle.image.proofs.Places.{row-node, next-hops}
 use Rattle.image.proofs.node_at.Statement.{statement}
 use Rattle.image.proofs.node_at.Tie as tie
 

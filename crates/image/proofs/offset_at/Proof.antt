@@ -1,8 +1,8 @@
 -- The offsets stand behind the nodes. Assumes nothing.
-use Rattle.image.proofs.Places.{row-offset, next-hops}
 use mathlib.Core.Path.{sym, _∙_}
 use native.Mathlib.Omega.{arith}
 use borrow.Author.Needs.{needs}
+use Rattle.image.proofs.Places.{row-offset, next-hops}
 use Rattle.image.proofs.offset_at.Statement.{statement}
 use Rattle.image.proofs.offset_at.Tie as tie
 

@@ -1,7 +1,7 @@
 -- The period is the third byte. Assumes nothing.
-use Rattle.image.proofs.Places.{row-period}
 use mathlib.Core.Path.{sym, _∙_}
 use borrow.Author.Needs.{needs}
+use Rattle.image.proofs.Places.{row-period}
 use Rattle.image.proofs.period_at.Statement.{statement}
 use Rattle.image.proofs.period_at.Tie as tie
 

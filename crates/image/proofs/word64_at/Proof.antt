@@ -1,8 +1,8 @@
 -- Eight bytes are four words. Assumes nothing.
-use Prim.Native.Nat.{ℕ, _+_, _*_}
 use mathlib.Core.Path.{ap₂, _∙_}
-use Rattle.image.proofs.Places.{halves}
+use Prim.Native.Nat.{ℕ, _+_, _*_}
 use borrow.Author.Needs.{needs}
+use Rattle.image.proofs.Places.{halves}
 use Rattle.image.proofs.word64_at.Statement.{statement}
 use Rattle.image.proofs.word64_at.Tie as tie
 

@@ -1,9 +1,9 @@
 -- The tests are made in the order of the refusals. Assumes nothing.
-use Rattle.lawful.proofs.Verdicts.{short, unmarked, out-of-range, wrong-length}
-use borrow.Author.Tests.{not-true, not-false}
-use Rattle.rules.proofs.Tests.{fails}
 use native.Mathlib.Omega.{arith}
 use borrow.Author.Needs.{needs}
+use borrow.Author.Tests.{not-true, not-false}
+use Rattle.rules.proofs.Tests.{fails}
+use Rattle.lawful.proofs.Verdicts.{short, unmarked, out-of-range, wrong-length}
 use Rattle.lawful.proofs.verdict.Statement.{statement}
 use Rattle.lawful.proofs.verdict.Tie as tie
 
@@ -19,7 +19,7 @@ returns-3 c =
 
 returns-4 : tie.Need-returns-4
 returns-4 c =
-    wrong-length _ (c .before .before .before .before .before .before .before .if1 .left) (c .before .before .before .before .before .before .is-marked .ensures .yes (not-false _ (c .before .before .before .before .before .if2 .left))) (c .before .before .before .fields-in-range .ensures .yes (not-false _ (c .before .before .if3 .left))) (λ e. c .if4 .taken (omega arith))
+    wrong-length _ (c .before .before .before .before .before .before .before .if1 .left) (c .before .before .before .before .before .before .is-marked .ensures .yes (not-false _ (c .before .before .before .before .before .if2 .left))) (c .before .before .before .fields-in-range .ensures .yes (not-false _ (c .before .before .if3 .left))) (λ e. omega arith)
 
 body-verdict-requires : tie.Need-body-verdict-requires
 body-verdict-requires c κs =

@@ -1,10 +1,10 @@
 -- Each field is tested. Assumes nothing.
-use Rattle.lawful.proofs.Ranges.{tests-fields-rest, fields-plan}
-use Rattle.lawful.proofs.Parts.{part-failed}
-use Rattle.rules.specs.Image.{FieldsInRange}
-use Rattle.rules.proofs.Tests.{said-no}
 use native.Mathlib.Omega.{arith}
 use borrow.Author.Needs.{needs}
+use Rattle.rules.specs.Image.{FieldsInRange}
+use Rattle.rules.proofs.Tests.{said-no}
+use Rattle.lawful.proofs.Ranges.{tests-fields-rest, fields-plan}
+use Rattle.lawful.proofs.Parts.{part-failed}
 use Rattle.lawful.proofs.fields.fields_in_range.Statement.{statement}
 use Rattle.lawful.proofs.fields.fields_in_range.Tie as tie
 
@@ -16,15 +16,18 @@ returns-2 c = said-no (λ (p : FieldsInRange (c .before .before .before .before 
 
 returns-3 : tie.Need-returns-3
 returns-3 c =
-    said-no (λ (p : FieldsInRange (c .before .before .before .before .before .before .before .args .image .now)). c .if3 .taken (p .last))
+    let start = c .before .before .before .before .before .before .before in
+    said-no (λ (p : FieldsInRange (start .args .image .now)). c .if3 .taken (p .last))
 
 returns-4 : tie.Need-returns-4
 returns-4 c =
-    tests-fields-rest (c .before .before .before .before .before .before .before .before .before .before .pre .1) (omega arith) (omega arith) (c .before .before .before .if3 .left) (c .before .before .plan-in-range .ensures .yes (c .before .if4 .taken)) (c .nodes-in-range .ensures)
+    let start = c .before .before .before .before .before .before .before .before .before .before in
+    tests-fields-rest (start .pre .1) (omega arith) (omega arith) (c .before .before .before .if3 .left) (c .before .before .plan-in-range .ensures .yes (c .before .if4 .taken)) (c .nodes-in-range .ensures)
 
 returns-5 : tie.Need-returns-5
 returns-5 c =
-    part-failed (c .before .plan-in-range .ensures) (c .if4 .left) (fields-plan (c .before .before .before .before .before .before .before .before .before .pre .1))
+    let start = c .before .before .before .before .before .before .before .before .before in
+    part-failed (c .before .plan-in-range .ensures) (c .if4 .left) (fields-plan (start .pre .1))
 
 pub fields-in-range-spec : {M : Type 1} → statement M
 fields-in-range-spec =

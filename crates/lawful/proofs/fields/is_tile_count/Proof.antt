@@ -1,8 +1,8 @@
 -- The five counts are told apart. Assumes nothing.
 use mathlib.Core.Logic.{inl, inr}
-use Rattle.lawful.proofs.Ranges.{one-or-two, four-or-five, none-of}
-use Rattle.rules.proofs.Tests.{said-yes, said-no}
 use native.Mathlib.Omega.{arith}
+use Rattle.rules.proofs.Tests.{said-yes, said-no}
+use Rattle.lawful.proofs.Ranges.{one-or-two, four-or-five, none-of}
 use Rattle.lawful.proofs.fields.is_tile_count.Statement.{statement}
 use Rattle.lawful.proofs.fields.is_tile_count.Tie as tie
 

@@ -1,7 +1,7 @@
 -- No bit is left above the tiles. Assumes nothing.
+use native.Mathlib.Omega.{arith}
 use Rattle.rules.proofs.Bytes.{tiles-small}
 use Rattle.lawful.proofs.Ranges.{tests-no-bit}
-use native.Mathlib.Omega.{arith}
 use Rattle.lawful.proofs.fields.kinds_fit.Statement.{statement}
 use Rattle.lawful.proofs.fields.kinds_fit.Tie as tie
 

@@ -1,7 +1,7 @@
 -- Both ends are tested. Assumes nothing.
 use borrow.Author.Tests.{lt-leb}
-use Rattle.lawful.proofs.Parts.{part-failed}
 use Rattle.rules.proofs.Tests.{alike, tests-le}
+use Rattle.lawful.proofs.Parts.{part-failed}
 use Rattle.lawful.proofs.fields.nodes_in_range.Statement.{statement}
 use Rattle.lawful.proofs.fields.nodes_in_range.Tie as tie
 

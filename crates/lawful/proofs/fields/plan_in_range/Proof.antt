@@ -1,11 +1,11 @@
 -- Each field is tested. Assumes nothing.
-use Rattle.lawful.proofs.Parts.{part-failed}
-use Rattle.lawful.proofs.Ranges.{tests-plan-rest}
+use native.Mathlib.Omega.{arith}
+use borrow.Author.Needs.{needs}
 use Rattle.rules.specs.Periods.{thePlan}
 use Rattle.rules.specs.Tiles.{PlanInRange}
 use Rattle.rules.proofs.Tests.{said-no}
-use native.Mathlib.Omega.{arith}
-use borrow.Author.Needs.{needs}
+use Rattle.lawful.proofs.Parts.{part-failed}
+use Rattle.lawful.proofs.Ranges.{tests-plan-rest}
 use Rattle.lawful.proofs.fields.plan_in_range.Statement.{statement}
 use Rattle.lawful.proofs.fields.plan_in_range.Tie as tie
 
@@ -20,14 +20,16 @@ returns-3 c = said-no (λ (p : PlanInRange (thePlan (c .before .before .before .
 
 returns-4 : tie.Need-returns-4
 returns-4 c =
-    said-no (λ (p : PlanInRange (thePlan (c .before .before .before .before .before .before .args .plan))). omega arith)
+    let start = c .before .before .before .before .before .before in
+    said-no (λ (p : PlanInRange (thePlan (start .args .plan))). omega arith)
 
 kinds-fit-requires : tie.Need-kinds-fit-requires
 kinds-fit-requires c κs = c .before .is-tile-count .ensures .yes (c .if5 .taken)
 
 returns-5 : tie.Need-returns-5
 returns-5 c =
-    tests-plan-rest {plan = thePlan (c .before .before .before .before .before .before .before .before .before .before .args .plan)} (omega arith) (omega arith) (omega arith) (omega arith) (c .before .before .is-tile-count .ensures .yes (c .before .if5 .taken)) (c .kinds-fit .ensures)
+    let start = c .before .before .before .before .before .before .before .before .before .before in
+    tests-plan-rest {plan = thePlan (start .args .plan)} (omega arith) (omega arith) (omega arith) (omega arith) (c .before .before .is-tile-count .ensures .yes (c .before .if5 .taken)) (c .kinds-fit .ensures)
 
 returns-6 : tie.Need-returns-6
 returns-6 c = part-failed (c .before .is-tile-count .ensures) (c .if5 .left) (λ p. p .tiles)

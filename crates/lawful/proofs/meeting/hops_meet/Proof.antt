@@ -1,11 +1,11 @@
 -- Each row is tried with those behind it. Assumes nothing.
+use native.Mathlib.Omega.{arith}
+use Rattle.rules.specs.Image.{streamsOf, rowsStart, nodesOf}
+use Rattle.rules.proofs.Tests.{fails, said-yes, said-no}
+use Rattle.lawful.specs.Meeting.{RowMeetsBehind}
 use Rattle.lawful.proofs.Seeking.{Seeks, seeks-start, seeks-row, seeks-behind, seeks-found, seeks-next, seeks-none}
 use Rattle.lawful.proofs.Pairs.{tests-pairs-meet}
 use Rattle.lawful.proofs.Filling.{all-stand}
-use Rattle.lawful.specs.Meeting.{RowMeetsBehind}
-use Rattle.rules.specs.Image.{streamsOf, rowsStart, nodesOf}
-use Rattle.rules.proofs.Tests.{fails, said-yes, said-no}
-use native.Mathlib.Omega.{arith}
 use Rattle.lawful.proofs.meeting.hops_meet.Statement.{statement}
 use Rattle.lawful.proofs.meeting.hops_meet.Tie as tie
 
@@ -26,7 +26,8 @@ row-clashes-requires c κs =
 
 returns : tie.Need-returns Inv-loop μ-loop
 returns c =
-    tests-pairs-meet _ (c .before .before .before .before .before .before .before .pre .2) (said-yes (seeks-found (c .before .before .before .loop .inv) (omega arith) (c .before .row-clashes .ensures .yes (c .if1 .taken))))
+    let start = c .before .before .before .before .before .before .before in
+    tests-pairs-meet _ (start .pre .2) (said-yes (seeks-found (c .before .before .before .loop .inv) (omega arith) (c .before .row-clashes .ensures .yes (c .if1 .taken))))
 
 next-requires : tie.Need-next-requires Inv-loop μ-loop
 next-requires c κs = seeks-row (c .before .before .before .loop .inv) (omega arith) .whole

@@ -1,10 +1,10 @@
 -- Its hops are tried one by one. Assumes nothing.
-use Rattle.lawful.specs.Meeting.{HopAgrees}
-use Rattle.image.specs.Places.{rowAt}
-use borrow.Author.Count.{below-more}
 use Prim.Native.Nat.{ℕ, _<_, _≤_, _-_}
-use Rattle.rules.proofs.Tests.{fails, said-yes, said-no}
 use native.Mathlib.Omega.{arith}
+use borrow.Author.Count.{below-more}
+use Rattle.rules.proofs.Tests.{fails, said-yes, said-no}
+use Rattle.image.specs.Places.{rowAt}
+use Rattle.lawful.specs.Meeting.{HopAgrees}
 use Rattle.lawful.proofs.meeting.row_agrees.Statement.{statement}
 use Rattle.lawful.proofs.meeting.row_agrees.Tie as tie
 
@@ -22,7 +22,8 @@ loop-holds c = (omega arith, λ j l. absurd (omega arith))
 
 hop-agrees-requires : tie.Need-hop-agrees-requires Inv-loop μ-loop
 hop-agrees-requires c κs =
-    (c .before .before .before .before .pre .0, c .before .before .before .before .pre .1, omega arith, c .before .before .before .before .pre .2)
+    let start = c .before .before .before .before in
+    (start .pre .0, start .pre .1, omega arith, start .pre .2)
 
 returns : tie.Need-returns Inv-loop μ-loop
 returns c =

@@ -1,10 +1,10 @@
 -- Its hops are tried one by one. Assumes nothing.
-use Rattle.lawful.proofs.Pairs.{hop-behind, behind-hop}
-use Rattle.lawful.specs.Meeting.{HopMeetsBehind}
-use borrow.Author.Count.{below-more}
 use Prim.Native.Nat.{ℕ, _<_, _≤_, _-_}
-use Rattle.rules.proofs.Tests.{fails, said-yes, said-no}
 use native.Mathlib.Omega.{arith}
+use borrow.Author.Count.{below-more}
+use Rattle.rules.proofs.Tests.{fails, said-yes, said-no}
+use Rattle.lawful.specs.Meeting.{HopMeetsBehind}
+use Rattle.lawful.proofs.Pairs.{hop-behind, behind-hop}
 use Rattle.lawful.proofs.meeting.row_clashes.Statement.{statement}
 use Rattle.lawful.proofs.meeting.row_clashes.Tie as tie
 
@@ -25,7 +25,8 @@ hop-meets-requires c κs = (c .before .before .before .before .before .pre, omeg
 
 returns : tie.Need-returns Inv-loop μ-loop
 returns c =
-    let a = c .before .before .before .before .before .before .before .args in said-yes (behind-hop (a .image .now) (a .at) (a .left) (c .before .before .before .loop .i) (omega arith) (c .before .hop-meets .ensures .yes (c .if1 .taken)))
+    let start = c .before .before .before .before .before .before .before in
+    let a = start .args in said-yes (behind-hop (a .image .now) (a .at) (a .left) (c .before .before .before .loop .i) (omega arith) (c .before .hop-meets .ensures .yes (c .if1 .taken)))
 
 loop-again : tie.Need-loop-again Inv-loop μ-loop
 loop-again c =

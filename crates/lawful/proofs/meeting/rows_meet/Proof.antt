@@ -1,12 +1,12 @@
 -- The rows are tried one by one. Assumes nothing.
-use Rattle.lawful.proofs.Seeking.{Seeks, seeks-start, seeks-row, seeks-found, seeks-next, seeks-none}
-use Rattle.lawful.specs.Meeting.{MeetsInReach}
-use Rattle.image.specs.Places.{rowAt}
-use Rattle.rules.specs.Tiles.{periodAt}
 use mathlib.Core.Path.{refl}
 use Prim.Native.Nat.{ℕ}
-use Rattle.rules.proofs.Tests.{fails, said-yes, said-no}
 use native.Mathlib.Omega.{arith}
+use Rattle.rules.specs.Tiles.{periodAt}
+use Rattle.rules.proofs.Tests.{fails, said-yes, said-no}
+use Rattle.image.specs.Places.{rowAt}
+use Rattle.lawful.specs.Meeting.{MeetsInReach}
+use Rattle.lawful.proofs.Seeking.{Seeks, seeks-start, seeks-row, seeks-found, seeks-next, seeks-none}
 use Rattle.lawful.proofs.meeting.rows_meet.Statement.{statement}
 use Rattle.lawful.proofs.meeting.rows_meet.Tie as tie
 

@@ -1,16 +1,16 @@
 -- Each offset is above the one before it. Assumes nothing.
-use Rattle.lawful.proofs.Rises.{offsets-fit, fit-offsets, AtOffset, offset-none, offset-early, offset-more}
-use Rattle.image.proofs.Places.{whole-sized}
-use Rattle.image.specs.Places.{rowAt}
+use mathlib.Core.Path.{subst, sym}
+use Prim.Native.Nat.{_≤_, _-_}
+use native.Mathlib.Omega.{arith}
+use borrow.Author.Needs.{needs}
+use borrow.Author.Tests.{not-true, not-false}
 use Rattle.rules.specs.Book.{OnData}
 use Rattle.rules.specs.Periods.{thePlan}
 use Rattle.rules.specs.Tiles.{periodAt}
-use Prim.Native.Nat.{_≤_, _-_}
-use mathlib.Core.Path.{subst, sym}
-use borrow.Author.Tests.{not-true, not-false}
-use borrow.Author.Needs.{needs}
 use Rattle.rules.proofs.Tests.{fails, said-yes, said-no}
-use native.Mathlib.Omega.{arith}
+use Rattle.image.specs.Places.{rowAt}
+use Rattle.image.proofs.Places.{whole-sized}
+use Rattle.lawful.proofs.Rises.{offsets-fit, fit-offsets, AtOffset, offset-none, offset-early, offset-more}
 use Rattle.lawful.proofs.rows.offsets_hold.Statement.{statement}
 use Rattle.lawful.proofs.rows.offsets_hold.Tie as tie
 
@@ -28,30 +28,40 @@ offset-at-requires c κs = (c .before .before .before .before .before .pre .0, o
 
 returns : tie.Need-returns Inv-loop μ-loop
 returns c =
-    said-no (λ h. offset-early (thePlan (c .before .before .before .before .before .before .before .before .args .plan)) (periodAt (c .before .before .before .before .before .before .before .before .args .period)) (rowAt (c .before .before .before .before .before .before .before .before .args .image .now) (c .before .before .before .before .before .before .before .before .args .at)) (c .before .before .before .before .loop .inv .1) (c .before .before .offset-at .ensures .0) (c .if1 .taken) (offsets-fit (thePlan (c .before .before .before .before .before .before .before .before .args .plan)) (periodAt (c .before .before .before .before .before .before .before .before .args .period)) (rowAt (c .before .before .before .before .before .before .before .before .args .image .now) (c .before .before .before .before .before .before .before .before .args .at)) (whole-sized _ _ (c .before .before .before .before .before .before .before .before .pre .0) .offsets) h (c .before .before .before .before .loop .i) (omega arith)))
+    let start = c .before .before .before .before .before .before .before .before in
+    let here = c .before .before .before .before in
+    said-no (λ h. offset-early _ _ _ (here .loop .inv .1) (c .before .before .offset-at .ensures .0) (c .if1 .taken) (offsets-fit _ _ _ (whole-sized _ _ (start .pre .0) .offsets) h (here .loop .i) (omega arith)))
 
 returns-2 : tie.Need-returns-2 Inv-loop μ-loop
 returns-2 c =
-    said-no (λ h. omega (arith, offsets-fit (thePlan (c .before .before .before .before .before .before .before .before .before .before .before .args .plan)) (periodAt (c .before .before .before .before .before .before .before .before .before .before .before .args .period)) (rowAt (c .before .before .before .before .before .before .before .before .before .before .before .args .image .now) (c .before .before .before .before .before .before .before .before .before .before .before .args .at)) (whole-sized _ _ (c .before .before .before .before .before .before .before .before .before .before .before .pre .0) .offsets) h (c .before .before .before .before .before .before .before .loop .i) (omega arith) .within, c .before .before .before .before .before .offset-at .ensures, c .before .before .before .before .before .before .before .before .span .ensures))
+    let start = c .before .before .before .before .before .before .before .before .before .before .before in
+    let here = c .before .before .before .before .before .before .before in
+    said-no (λ h. omega (arith, offsets-fit _ _ _ (whole-sized _ _ (start .pre .0) .offsets) h (here .loop .i) (omega arith) .within, c .before .before .before .before .before .offset-at .ensures, c .before .before .before .before .before .before .before .before .span .ensures))
 
 on-data-requires : tie.Need-on-data-requires Inv-loop μ-loop
 on-data-requires c κs =
-    (c .before .before .before .before .before .before .before .before .before .before .before .pre .1, c .before .before .before .before .before .before .before .before .before .before .before .pre .2, omega (arith, c .before .before .before .before .before .before .before .before .span .ensures))
+    let start = c .before .before .before .before .before .before .before .before .before .before .before in
+    (start .pre .1, omega arith, omega (arith, c .before .before .before .before .before .before .before .before .span .ensures))
 
 returns-3 : tie.Need-returns-3 Inv-loop μ-loop
 returns-3 c =
+    let start = c .before .before .before .before .before .before .before .before .before .before .before .before .before in
+    let here = c .before .before .before .before .before .before .before .before .before in
     said-no (λ h. fails (c .before .on-data .ensures) (not-true _ (c .if3 .taken))
-    (subst (OnData (thePlan (c .before .before .before .before .before .before .before .before .before .before .before .before .before .args .plan)) (periodAt (c .before .before .before .before .before .before .before .before .before .before .before .before .before .args .period))) (sym (c .before .before .before .before .before .before .before .offset-at .ensures .0)) (offsets-fit (thePlan (c .before .before .before .before .before .before .before .before .before .before .before .before .before .args .plan)) (periodAt (c .before .before .before .before .before .before .before .before .before .before .before .before .before .args .period)) (rowAt (c .before .before .before .before .before .before .before .before .before .before .before .before .before .args .image .now) (c .before .before .before .before .before .before .before .before .before .before .before .before .before .args .at)) (whole-sized _ _ (c .before .before .before .before .before .before .before .before .before .before .before .before .before .pre .0) .offsets) h (c .before .before .before .before .before .before .before .before .before .loop .i) (omega arith) .on-data)))
+    (subst (OnData (thePlan (start .args .plan)) (periodAt (start .args .period))) (sym (c .before .before .before .before .before .before .before .offset-at .ensures .0)) (offsets-fit _ _ _ (whole-sized _ _ (start .pre .0) .offsets) h (here .loop .i) (omega arith) .on-data)))
 
 loop-again : tie.Need-loop-again Inv-loop μ-loop
-loop-again c = (
-  omega arith,
-  offset-more (thePlan (c .before .before .before .before .before .before .before .before .before .before .before .before .before .before .args .plan)) (periodAt (c .before .before .before .before .before .before .before .before .before .before .before .before .before .before .args .period)) (rowAt (c .before .before .before .before .before .before .before .before .before .before .before .before .before .before .args .image .now) (c .before .before .before .before .before .before .before .before .before .before .before .before .before .before .args .at)) (c .before .before .before .before .before .before .before .before .before .before .loop .inv .1) (c .before .before .before .before .before .before .before .before .offset-at .ensures .0) (c .before .before .before .before .before .before .if1 .left) (omega (arith, c .before .before .before .before .before .before .before .before .before .before .before .span .ensures)) (c .before .before .on-data .ensures .yes (not-false _ (c .before .if3 .left))),
-)
+loop-again c =
+    let start = c .before .before .before .before .before .before .before .before .before .before .before .before .before .before in
+    let here = c .before .before .before .before .before .before .before .before .before .before in (
+      omega (arith, here .loop, c .before .before .before .before .before .before .before .before .before .loop-test),
+      offset-more _ _ _ (here .loop .inv .1) (c .before .before .before .before .before .before .before .before .offset-at .ensures .0) (c .before .before .before .before .before .before .if1 .left) (omega (arith, c .before .before .before .before .before .before .before .before .before .before .before .span .ensures)) (c .before .before .on-data .ensures .yes (not-false _ (c .before .if3 .left))),
+    )
 
 returns-4 : tie.Need-returns-4 Inv-loop μ-loop
 returns-4 c =
-    said-yes (fit-offsets (thePlan (c .before .before .before .before .before .args .plan)) (periodAt (c .before .before .before .before .before .args .period)) (rowAt (c .before .before .before .before .before .args .image .now) (c .before .before .before .before .before .args .at)) (whole-sized _ _ (c .before .before .before .before .before .pre .0) .offsets) (λ i l. c .before .loop .inv .1 .fit i (omega arith)))
+    let start = c .before .before .before .before .before in
+    said-yes (fit-offsets _ _ _ (whole-sized _ _ (start .pre .0) .offsets) (λ i l. c .before .loop .inv .1 .fit i (omega arith)))
 
 pub offsets-hold-spec : {M : Type 1} → statement M
 offsets-hold-spec =

@@ -1,0 +1,21 @@
+-- What a reader finds at its place, and where it goes on. Assumes nothing.
+use mathlib.Core.Path.{_≡_}
+use mathlib.Core.List.{List}
+use Prim.Native.Nat.{ℕ}
+use Rattle.image.specs.Places.{rowAt, nextAt, Whole}
+use Rattle.reader.specs.declared.Cut.{Cut}
+use Rattle.reader.specs.declared.Cut.the-variants.{Row, Nothing}
+
+-- a whole row is at the place, with this id and this place after it; or none is
+abbrev pub CutAt : List ℕ → ℕ → Cut → Type 0
+CutAt s at (Row id next) = Whole s at × (id ≡ rowAt s at .id) × (next ≡ nextAt s at)
+CutAt s at Nothing = Whole s at → ⊥
+
+-- the place after the row at a place, and where there is none the same place
+pub record After (s : List ℕ) (at next : ℕ) : Type 0 where
+  pub row : Whole s at → next ≡ nextAt s at
+  pub none : (Whole s at → ⊥) → next ≡ at
+
+-- what is at the place after
+abbrev pub CutBehind : List ℕ → ℕ → Cut → Type 0
+CutBehind s at c = (next : ℕ) × After s at next × CutAt s next c
