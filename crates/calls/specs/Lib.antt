@@ -1,0 +1,2 @@
+-- What the program keeps between two calls.
+pub mod Streams

@@ -1,0 +1,126 @@
+/*
+ * Lindurask: a slot planner for radio meshes.
+ *
+ * A book holds a site's tile plan, its topology and its accepted streams. It is kept as an
+ * image: plain bytes, big-endian, that can be stored and sent as they are. Every call but
+ * lindurask_new takes an image and checks it in full first; a call that changes the book writes
+ * the image of the new book into a second buffer and leaves the first as it is. Nothing is kept
+ * between calls, so calls may run in several threads at once, on buffers of their own.
+ *
+ * Link with target/staticlib/libplanner.a, which `rt staticlib planner` makes (x86-64 Linux).
+ *
+ *
+ * What a call says back
+ *
+ * The result is a number. The first of its refusals that applies is given:
+ *
+ *    0  done
+ *    1  id is 0
+ *    2  open: id already in the book
+ *    3  close: id not in the book
+ *    4  a node number is N or more
+ *    5  source is destination
+ *    6  period is none of 1, 2, 5, 10, 20, 50, 100
+ *    7  no route of at most 15 hops
+ *    8  64 streams already, or hops would pass 512
+ *    9  no placing exists: no free slots for the stream on its route
+ *   10  a field of bytes 5 to 15 of the image, or an argument of a new book, out of its range
+ *   11  topology: wrong length (new book), a bit from N up, a self-link, a one-way link
+ *   12  output buffer shorter than the answer
+ *   13  image: wrong mark or version
+ *   14  image: under 16 bytes, or not the length that its header gives
+ *   15  image: rows are not lawful, not rising by id, or do not fill it
+ *   16  image: two clashing hops of different streams meet
+ *
+ * An image is tested in the order 14 (under 16 bytes), 13, 10, 14, 11, 15, 16; then a call has
+ * its own refusals, in the order given with it below.
+ *
+ *
+ * What is written
+ *
+ * - Done: the first *length bytes of out are the answer; the bytes behind them are not touched.
+ * - Refused: *length is 0, and no byte of out is touched.
+ * - *length is set by every call that has it, whatever the result. lindurask_check always sets
+ *   it to 0.
+ *
+ *
+ * What the caller sees to
+ *
+ * - A pointer is to as many bytes as the length beside it says, and not null, also where that
+ *   length is 0.
+ * - The input, out, *length and the counts of a balance lie apart: none of them overlaps another.
+ *   To make the new image the current one, swap the two buffers.
+ * - No image is longer than LINDURASK_LONGEST_IMAGE bytes; an output buffer of that size is never
+ *   too short for a book. A table takes 300 x S bytes, S the slots of a tile: at most
+ *   LINDURASK_LONGEST_TABLE.
+ *
+ * Every image is otherwise safe to pass: damaged bytes are refused by number.
+ */
+#ifndef LINDURASK_H
+#define LINDURASK_H
+
+#include <stddef.h>
+#include <stdint.h>
+
+#ifdef __cplusplus
+extern "C" {
+#endif
+
+/* The longest image, in bytes: 64 nodes, 64 streams, 512 hops. */
+#define LINDURASK_LONGEST_IMAGE 2384
+
+/* The longest table, in bytes: 100 tiles of 32 slots, 3 bytes an entry. */
+#define LINDURASK_LONGEST_TABLE 9600
+
+/*
+ * Makes a book without streams, and writes its image of 16 + 8 x n bytes. Refusals: 10, 11, 12.
+ *
+ * s            slots of a tile, 1 to 32
+ * c            tiles after which the plan repeats: 1, 2, 4, 5 or 10
+ * kinds        bit b set if tile b of the plan is downlink, clear if it is uplink; 0 from bit c up
+ * d, u         control slots at the start of a downlink and of an uplink tile, 0 to s
+ * n            nodes, 2 to 64
+ * topology     as it stands in the image: a row of 8 bytes, big-endian, for each node; bit b of
+ *              a node's row set if node b is its neighbour. topology_len is 8 x n
+ */
+uint8_t lindurask_new(uint8_t s, uint8_t c, uint16_t kinds, uint8_t d, uint8_t u, uint8_t n,
+                      const uint8_t *topology, size_t topology_len, uint8_t *out, size_t out_len, size_t *length);
+
+/* Checks an image: 0 if it is that of a lawful book. Writes nothing. Refusals: those of an image. */
+uint8_t lindurask_check(const uint8_t *book, size_t book_len, size_t *length);
+
+/* Writes the image of the same book: the same bytes. Refusals: those of an image, then 12. */
+uint8_t lindurask_rewrite(const uint8_t *book, size_t book_len, uint8_t *out, size_t out_len, size_t *length);
+
+/*
+ * Opens a stream of this id (1 to 65535) from the source to the destination, every `period` tiles, and
+ * writes the image of the book with it. The route is the shortest, the lowest node list among equals;
+ * the slots are the lexicographically first that are free. Refusals: those of an image, then 1, 4, 5,
+ * 6, 2, 7, 8, 9, 12.
+ */
+uint8_t lindurask_open(const uint8_t *book, size_t book_len, uint16_t id, uint8_t source, uint8_t destination,
+                       uint16_t period, uint8_t *out, size_t out_len, size_t *length);
+
+/* Closes the stream of this id, and writes the image of the book without it. Refusals: those of an image, then 1, 3, 12. */
+uint8_t lindurask_close(const uint8_t *book, size_t book_len, uint16_t id, uint8_t *out, size_t out_len, size_t *length);
+
+/*
+ * Writes a node's slot table for the whole cycle: 100 x S entries of 3 bytes, an operation and then the
+ * stream's id, big-endian, 0 where there is none. The operations: 0 sleep, 1 send from above, 2 receive
+ * to buffer, 3 forward from buffer, 4 receive for above, 5 control slot. Refusals: those of an image,
+ * then 4, 12.
+ */
+uint8_t lindurask_expand(const uint8_t *book, size_t book_len, uint8_t node, uint8_t *out, size_t out_len, size_t *length);
+
+/*
+ * Gives a node's balance over the cycle: its data slots, those in which it sends or receives, and
+ * those in which it sleeps; *used + *free_slots = *data. A refusal sets all three to 0. Refusals: those
+ * of an image, then 4.
+ */
+uint8_t lindurask_balance(const uint8_t *book, size_t book_len, uint8_t node, uint32_t *data, uint32_t *used, uint32_t *free_slots);
+
+#ifdef __cplusplus
+}
+#endif
+
+#endif

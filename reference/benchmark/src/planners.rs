@@ -1,0 +1,242 @@
+//! The three planners behind one interface.
+
+use reference::calls;
+
+/// What a call gives back: its number, and the length of its answer.
+pub type Said = (u8, usize);
+
+/// A planner's calls that the jobs make.
+pub trait Planner {
+    fn new_book(&self, plan: &Plan, topology: &[u8], out: &mut [u8]) -> Said;
+    fn check(&self, book: &[u8]) -> Said;
+    fn rewrite(&self, book: &[u8], out: &mut [u8]) -> Said;
+    fn open(&self, book: &[u8], stream: &Stream, out: &mut [u8]) -> Said;
+    fn close(&self, book: &[u8], id: u16, out: &mut [u8]) -> Said;
+    fn expand(&self, book: &[u8], node: u8, out: &mut [u8]) -> Said;
+    fn balance(&self, book: &[u8], node: u8) -> (u8, [u32; 3]);
+}
+
+/// The arguments of a new book beside its topology.
+pub struct Plan {
+    pub s: u8,
+    pub c: u8,
+    pub kinds: u16,
+    pub d: u8,
+    pub u: u8,
+    pub n: u8,
+}
+
+/// The arguments of an open.
+pub struct Stream {
+    pub id: u16,
+    pub source: u8,
+    pub destination: u8,
+    pub period: u16,
+}
+
+/// A planner with the C interface of `include/lindurask.h`, under these names.
+macro_rules! planner_in_c {
+    ($planner:ident, $module:ident, $new:literal, $check:literal, $rewrite:literal, $open:literal,
+     $close:literal, $expand:literal, $balance:literal) => {
+        mod $module {
+            unsafe extern "C" {
+                #[link_name = $new]
+                pub fn new(
+                    s: u8,
+                    c: u8,
+                    kinds: u16,
+                    d: u8,
+                    u: u8,
+                    n: u8,
+                    topology: *const u8,
+                    topology_len: usize,
+                    out: *mut u8,
+                    out_len: usize,
+                    length: *mut usize,
+                ) -> u8;
+                #[link_name = $check]
+                pub fn check(book: *const u8, book_len: usize, length: *mut usize) -> u8;
+                #[link_name = $rewrite]
+                pub fn rewrite(
+                    book: *const u8,
+                    book_len: usize,
+                    out: *mut u8,
+                    out_len: usize,
+                    length: *mut usize,
+                ) -> u8;
+                #[link_name = $open]
+                pub fn open(
+                    book: *const u8,
+                    book_len: usize,
+                    id: u16,
+                    source: u8,
+                    destination: u8,
+                    period: u16,
+                    out: *mut u8,
+                    out_len: usize,
+                    length: *mut usize,
+                ) -> u8;
+                #[link_name = $close]
+                pub fn close(
+                    book: *const u8,
+                    book_len: usize,
+                    id: u16,
+                    out: *mut u8,
+                    out_len: usize,
+                    length: *mut usize,
+                ) -> u8;
+                #[link_name = $expand]
+                pub fn expand(
+                    book: *const u8,
+                    book_len: usize,
+                    node: u8,
+                    out: *mut u8,
+                    out_len: usize,
+                    length: *mut usize,
+                ) -> u8;
+                #[link_name = $balance]
+                pub fn balance(
+                    book: *const u8,
+                    book_len: usize,
+                    node: u8,
+                    data: *mut u32,
+                    used: *mut u32,
+                    free: *mut u32,
+                ) -> u8;
+            }
+        }
+
+        pub struct $planner;
+
+        // Safety, of every call: each pointer goes with the length of its own slice, and a
+        // shared and a mutable slice never overlap.
+        impl Planner for $planner {
+            fn new_book(&self, plan: &Plan, topology: &[u8], out: &mut [u8]) -> Said {
+                let Plan { s, c, kinds, d, u, n } = *plan;
+                let (rows, size) = (topology.as_ptr(), topology.len());
+                said(|length| unsafe {
+                    $module::new(
+                        s,
+                        c,
+                        kinds,
+                        d,
+                        u,
+                        n,
+                        rows,
+                        size,
+                        out.as_mut_ptr(),
+                        out.len(),
+                        length,
+                    )
+                })
+            }
+
+            fn check(&self, book: &[u8]) -> Said {
+                said(|length| unsafe { $module::check(book.as_ptr(), book.len(), length) })
+            }
+
+            fn rewrite(&self, book: &[u8], out: &mut [u8]) -> Said {
+                said(|length| unsafe {
+                    $module::rewrite(book.as_ptr(), book.len(), out.as_mut_ptr(), out.len(), length)
+                })
+            }
+
+            fn open(&self, book: &[u8], stream: &Stream, out: &mut [u8]) -> Said {
+                let Stream { id, source, destination, period } = *stream;
+                let (image, size) = (book.as_ptr(), book.len());
+                said(|length| unsafe {
+                    let (room, most) = (out.as_mut_ptr(), out.len());
+                    $module::open(image, size, id, source, destination, period, room, most, length)
+                })
+            }
+
+            fn close(&self, book: &[u8], id: u16, out: &mut [u8]) -> Said {
+                let (image, size) = (book.as_ptr(), book.len());
+                said(|length| unsafe {
+                    $module::close(image, size, id, out.as_mut_ptr(), out.len(), length)
+                })
+            }
+
+            fn expand(&self, book: &[u8], node: u8, out: &mut [u8]) -> Said {
+                let (image, size) = (book.as_ptr(), book.len());
+                said(|length| unsafe {
+                    $module::expand(image, size, node, out.as_mut_ptr(), out.len(), length)
+                })
+            }
+
+            fn balance(&self, book: &[u8], node: u8) -> (u8, [u32; 3]) {
+                let (mut data, mut used, mut free) = (0, 0, 0);
+                let (image, size) = (book.as_ptr(), book.len());
+                let number =
+                    unsafe { $module::balance(image, size, node, &mut data, &mut used, &mut free) };
+                (number, [data, used, free])
+            }
+        }
+    };
+}
+
+planner_in_c!(
+    Proved,
+    lindurask,
+    "lindurask_new",
+    "lindurask_check",
+    "lindurask_rewrite",
+    "lindurask_open",
+    "lindurask_close",
+    "lindurask_expand",
+    "lindurask_balance"
+);
+
+planner_in_c!(
+    PlainC,
+    fast,
+    "fast_new",
+    "fast_check",
+    "fast_rewrite",
+    "fast_open",
+    "fast_close",
+    "fast_expand",
+    "fast_balance"
+);
+
+/// The number that a call gives, and the length that it sets.
+fn said(call: impl FnOnce(&mut usize) -> u8) -> Said {
+    let mut length = usize::MAX;
+    let number = call(&mut length);
+    (number, length)
+}
+
+pub struct Reference;
+
+impl Planner for Reference {
+    fn new_book(&self, plan: &Plan, topology: &[u8], out: &mut [u8]) -> Said {
+        let Plan { s, c, kinds, d, u, n } = *plan;
+        calls::new(s, c, kinds, d, u, n, topology, out)
+    }
+
+    fn check(&self, book: &[u8]) -> Said {
+        calls::check(book)
+    }
+
+    fn rewrite(&self, book: &[u8], out: &mut [u8]) -> Said {
+        calls::rewrite(book, out)
+    }
+
+    fn open(&self, book: &[u8], stream: &Stream, out: &mut [u8]) -> Said {
+        let Stream { id, source, destination, period } = *stream;
+        calls::open(book, id, source, destination, period, out)
+    }
+
+    fn close(&self, book: &[u8], id: u16, out: &mut [u8]) -> Said {
+        calls::close(book, id, out)
+    }
+
+    fn expand(&self, book: &[u8], node: u8, out: &mut [u8]) -> Said {
+        calls::expand(book, node, out)
+    }
+
+    fn balance(&self, book: &[u8], node: u8) -> (u8, [u32; 3]) {
+        let (number, data, used, free) = calls::balance(book, node);
+        (number, [data, used, free])
+    }
+}

@@ -1,0 +1,44 @@
+//! The site of the jobs: an 8 × 8 grid, tiles of 32 slots, 64 streams of mixed periods.
+
+use crate::planners::{Plan, Stream};
+
+/// Nodes along a side of the grid.
+const SIDE: u8 = 8;
+
+pub const NODES: u8 = SIDE * SIDE;
+
+pub const PLAN: Plan = Plan { s: 32, c: 10, kinds: 0b01_0110_1101, d: 4, u: 2, n: NODES };
+
+/// The grid's rows: a node is linked to those above, below, left and right of it.
+pub fn topology() -> Vec<u8> {
+    (0..NODES).flat_map(|node| row(node).to_be_bytes()).collect()
+}
+
+fn row(node: u8) -> u64 {
+    let (x, y) = (node % SIDE, node / SIDE);
+    let mut row = 0;
+    for other in 0..NODES {
+        let (across, down) = ((other % SIDE).abs_diff(x), (other / SIDE).abs_diff(y));
+        if across + down == 1 {
+            row |= 1 << other;
+        }
+    }
+    row
+}
+
+/// The periods, in tiles, that the streams take in turn.
+const PERIODS: [u16; 11] = [100, 20, 50, 10, 5, 2, 100, 20, 50, 10, 5];
+
+/// The streams, in order of arrival, which is not that of their ids. All find room, with 504 hops.
+pub fn streams() -> Vec<Stream> {
+    (0..64).map(|i| stream(i, i * 61 % 64)).collect()
+}
+
+fn stream(i: u16, source: u16) -> Stream {
+    Stream {
+        id: i * 37 % 64 * 5 + 1,
+        source: source as u8,
+        destination: ((source + 36) % 64) as u8,
+        period: PERIODS[usize::from(i) % PERIODS.len()],
+    }
+}
