@@ -1,0 +1,4 @@
+pub mod Demand
+pub mod Depends
+pub mod Examples
+pub mod Needed
