@@ -1,0 +1,4 @@
+// The balance program without input: under 16 bytes.
+fn main() {
+    listing::run();
+}

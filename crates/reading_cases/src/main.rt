@@ -1,0 +1,4 @@
+// Runs the reading cases: what check and rewrite say.
+fn main() {
+    script::run();
+}

@@ -1,0 +1,164 @@
+// The calls, each by its word and its numbers.
+ghost use Prim.Native.Nat.{_≤_};
+ghost use lib.ListN.{length};
+use answers::Answer;
+use rules::Node;
+use rules::Plan;
+use rules::Slot;
+use rules::Tile;
+
+// The calls.
+pub enum Kind {
+    New,
+    Check,
+    Rewrite,
+    Open,
+    Close,
+    Expand,
+    Balance,
+    Unknown,
+}
+
+// The call that a word names.
+pub fn kind_of(word: &[u8]) -> Kind {
+    if check::same(word, b"new") {
+        return Kind::New;
+    }
+    if check::same(word, b"check") {
+        return Kind::Check;
+    }
+    if check::same(word, b"rewrite") {
+        return Kind::Rewrite;
+    }
+    if check::same(word, b"open") {
+        return Kind::Open;
+    }
+    if check::same(word, b"close") {
+        return Kind::Close;
+    }
+    if check::same(word, b"expand") {
+        return Kind::Expand;
+    }
+    if check::same(word, b"balance") {
+        return Kind::Balance;
+    }
+    Kind::Unknown
+}
+
+// How large each number of a call may be, as a node is one byte and an id two; 0 behind the last.
+pub fn limits(kind: Kind) -> [u16; 7] {
+    match kind {
+        Kind::New => [65535, 65535, 65535, 65535, 65535, 255, 65535],
+        Kind::Rewrite => [65535, 0, 0, 0, 0, 0, 0],
+        Kind::Open => [65535, 255, 255, 65535, 65535, 0, 0],
+        Kind::Close => [65535, 65535, 0, 0, 0, 0, 0],
+        Kind::Expand => [255, 65535, 0, 0, 0, 0, 0],
+        Kind::Balance => [255, 0, 0, 0, 0, 0, 0],
+        Kind::Check => [0; 7],
+        Kind::Unknown => [0; 7],
+    }
+}
+
+// A node number, which its limit keeps below 256.
+fn node(number: u16) -> Node {
+    Node((number % 256) as u8)
+}
+
+// The plan of a new book.
+fn plan(values: [u16; 7]) -> Plan {
+    Plan {
+        slots: Slot(values[0]),
+        tiles: Tile(values[1]),
+        kinds: values[2],
+        down: Slot(values[3]),
+        up: Slot(values[4]),
+    }
+}
+
+// The length of the buffer that is lent to a call.
+fn room(kind: Kind, values: [u16; 7]) -> u16 {
+    match kind {
+        Kind::New => values[6],
+        Kind::Rewrite => values[0],
+        Kind::Open => values[4],
+        Kind::Close => values[1],
+        Kind::Expand => values[1],
+        _ => 0,
+    }
+}
+
+// Makes a book, checks one or writes it again.
+fn call(kind: Kind, values: [u16; 7], image: &[u8], out: &mut [u8]) -> Answer {
+    if let Kind::New = kind {
+        return planner::new_book(plan(values), node(values[5]).0, image, out);
+    }
+    if let Kind::Check = kind {
+        return planner::check(image);
+    }
+    if let Kind::Rewrite = kind {
+        return planner::rewrite(image, out);
+    }
+    call_on(kind, values, image, out)
+}
+
+// Opens or closes a stream, or expands a node's table.
+fn call_on(kind: Kind, values: [u16; 7], image: &[u8], out: &mut [u8]) -> Answer {
+    if let Kind::Open = kind {
+        let from = node(values[1]);
+        let to = node(values[2]);
+        return planner::open_stream(image, values[0], from, to, Tile(values[3]), out);
+    }
+    if let Kind::Close = kind {
+        return planner::close_stream(image, values[0], out);
+    }
+    planner::expand(image, node(values[0]), out)
+}
+
+// Makes a call and prints its answer; gives the length of the image that is then the last.
+pub fn answer(kind: Kind, values: [u16; 7], image: &[u8], last: &mut [u8], kept: usize) -> usize
+    requires { ⌜ kept ≤ length (now last) ⌝ }
+    ensures { λ r. ⌜ r ≤ length (now (last .exit)) ⌝ }
+{
+    if let Kind::Balance = kind {
+        printing::balance(planner::balance_of(image, node(values[0])));
+        return kept;
+    }
+    let mut space = printing::blank();
+    let room = room(kind, values) as usize;
+    answer_in(kind, values, image, &mut space[..room], last, kept)
+}
+
+// The same for a call that has a buffer.
+fn answer_in(
+    kind: Kind,
+    values: [u16; 7],
+    image: &[u8],
+    out: &mut [u8],
+    last: &mut [u8],
+    kept: usize,
+) -> usize
+    requires { ⌜ kept ≤ length (now last) ⌝ }
+    ensures { λ r. ⌜ r ≤ length (now (last .exit)) ⌝ }
+{
+    let said = call(kind, values, image, out);
+    if let Kind::Expand = kind {
+        printing::table(said, out);
+        return kept;
+    }
+    printing::image(said, out);
+    keep(printing::written(said.length, out), last, kept)
+}
+
+// Keeps an image that was written as the last one, and gives the last one's length.
+fn keep(image: &[u8], last: &mut [u8], kept: usize) -> usize
+    requires { ⌜ kept ≤ length (now last) ⌝ }
+    ensures { λ r. ⌜ r ≤ length (now (last .exit)) ⌝ }
+{
+    if image.len() == 0 {
+        return kept;
+    }
+    if last.len() < image.len() {
+        return kept;
+    }
+    bytes::copy(image, last)
+}
