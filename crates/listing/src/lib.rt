@@ -15,7 +15,7 @@ pub fn run() {
 }
 
 // Lists the balance of each node of an image, or says why it is refused.
-fn list(image: &[u8]) {
+pub fn list(image: &[u8]) {
     let answer = planner::check(image);
     if answer.number != 0 {
         io::write_all(STDOUT_FILENO, b"refused");
