@@ -1,0 +1,34 @@
+-- The slots are put one by one. Assumes nothing.
+use Prim.Native.Nat.{_-_}
+use lib.ListN.{length}
+use mathlib.Core.Path.{_≡_}
+use borrow.Author.Needs.{needs}
+use Rattle.pictures.proofs.entries.put_tile.Statement.{statement}
+use Rattle.pictures.proofs.entries.put_tile.Tie as tie
+
+abbrev Inv-loop : tie.InvT-loop
+Inv-loop line₀ at table tile slots width start to₀ place₀ t11 t12 line to place = length line ≡ length line₀
+
+abbrev μ-loop : tie.MeasureT-loop
+μ-loop line₀ at table tile slots width start to₀ place₀ t11 t12 line to place = slots - place
+
+pub put-tile-spec : {M : Type 1} → statement M
+put-tile-spec = tie.close (tie.spec
+    Inv-loop
+    μ-loop
+    (λ c κs. search needs)
+    (λ c. search needs)
+    (λ c κs. search needs)
+    (λ c κs. search needs)
+    (λ c. search needs)
+    (λ c. search needs)
+    (λ c κs. search needs)
+    (λ c κs. search needs)
+    (λ c κs. search needs)
+    (λ c. search needs)
+    (λ c. search needs)
+    (λ c. search needs)
+    (λ c. search needs)
+    (λ c κs. search needs)
+    (λ c. search needs)
+    (λ c. search needs))
