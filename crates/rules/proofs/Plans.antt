@@ -69,3 +69,17 @@ module _ (plan : Plan) (some : 0 < plan .slots) (K o : ℕ) where
 
   pub not-on-data : (turn : ℕ) → turn < repeats K → (Data plan (o + turn * (K * plan .slots)) → ⊥) → OnData plan K o → ⊥
   not-on-data turn l f h = f (h _ record { turn = turn; within = l; at = refl })
+
+-- a tile has no more control slots than both counts allow
+pub control-most : (plan : Plan) (tile most : ℕ) → plan .down ≤ most → plan .up ≤ most → controlSlots plan tile ≤ most
+control-most plan tile most d u = either (eqb (bit (plan .kinds) (tile % plan .tiles)) 1)
+  where
+    either : (b : Bool) → cond b (plan .down) (plan .up) ≤ most
+    either true = d
+    either false = u
+
+-- an offset behind the control slots of both kinds of tile takes only data slots
+pub behind-control : (plan : Plan) → 0 < plan .slots → (K o : ℕ) → plan .down ≤ o % plan .slots → plan .up ≤ o % plan .slots → OnData plan K o
+behind-control plan some K o d u slot t =
+    let e = turn-place plan some K o (t .turn) in
+    subst (Data plan) (sym (t .at)) (control-most plan _ _ (omega (arith, e, d)) (omega (arith, e, u)))
