@@ -5,7 +5,7 @@ pub mod Rises
 pub mod Single
 pub mod Walks
 pub mod Filling
-pub mod Seeking
-pub mod Agreeing
-pub mod Pairs
+pub mod Holding
+pub mod Reaching
+pub mod Comparing
 pub mod Verdicts

@@ -1,66 +1,75 @@
--- Hops of an image's rows that meet a hop. Assumes nothing.
+-- Hops that meet a clashing hop of the rows so far, by the slots that those take. Assumes nothing.
 use mathlib.Core.Path.{_≡_}
 use mathlib.Core.Logic.{_⊎_}
 use mathlib.Core.List.{List}
-use Prim.Native.Nat.{ℕ, zero, suc, _*_, _%_, _<_}
-use Rattle.rules.specs.Tiles.{Meet, periodAt}
-use Rattle.rules.specs.Topology.{Topology, SoundTopology}
-use Rattle.rules.specs.Book.{Row, hops, rowHop, rowOffset, MeetsClashing}
-use Rattle.rules.specs.Periods.{InList}
+use Prim.Native.Nat.{ℕ, _<_}
+use Rattle.rules.specs.Words.{_∈_}
+use Rattle.rules.specs.Tiles.{Takes}
+use Rattle.rules.specs.Topology.{Topology, SoundTopology, Hop, Clash}
+use Rattle.rules.specs.Book.{Row, hops, rowHop, rowOffset}
 use Rattle.rules.specs.Image.{planOf, topologyOf}
-use Rattle.clash.specs.Reach.{InReach}
-use Rattle.clash.specs.declared.Reach.{Reach}
-use Rattle.image.specs.Places.{rowAt, nextAt}
-use Rattle.image.specs.declared.Book.{Book}
-use Rattle.lawful.specs.Frame.{Framed, ReadFrom}
-use Rattle.lawful.specs.Walk.{RowStands, RowsStand}
+use Rattle.taken.specs.Taken.{RepeatsOf, SetForEach, At}
+use Rattle.taken.specs.declared.Repeats.{Repeats}
+use Rattle.image.specs.Places.{rowAt}
+use Rattle.lawful.specs.Frame.{Framed}
+use Rattle.lawful.specs.Walk.{RowStands}
 
--- hop i of the row is in the reach, and its offset agrees by the modulus
-pub record HopAgrees (reach : Reach) (modulus rest : ℕ) (r : Row) (i : ℕ) : Type 0 where
-  pub near : InReach reach (rowHop r i)
-  pub agrees : rowOffset r i % modulus ≡ rest
+-- the ends of a hop: the node that sends, and the one that receives
+abbrev pub sender : Hop → ℕ
+sender h = h .from
 
--- some hop of the row is in the reach, and meets a hop of period K and offset o
-pub record MeetsInReach (reach : Reach) (S : ℕ) (r : Row) (K o : ℕ) : Type 0 where
+abbrev pub receiver : Hop → ℕ
+receiver h = h .to
+
+-- one of the row's first n hops takes the slot, and the node is its end
+pub record HopsTake (end : Hop → ℕ) (S : ℕ) (r : Row) (n slot node : ℕ) : Type 0 where
   pub hop : ℕ
-  pub there : hop < hops r
-  pub near : InReach reach (rowHop r hop)
-  pub meet : Meet S K o (r .period) (rowOffset r hop)
+  pub there : hop < n
+  pub takes : Takes S (r .period) (rowOffset r hop) slot
+  pub is-end : node ≡ end (rowHop r hop)
 
--- some hop of r meets a hop of x that clashes with it
-pub record RowsMeet (T : Topology) (S : ℕ) (r x : Row) : Type 0 where
-  pub hop : ℕ
-  pub there : hop < hops r
-  pub meets : MeetsClashing T S x (r .period) (rowHop r hop) (rowOffset r hop)
+-- the same of all of them
+abbrev pub RowTakes : (Hop → ℕ) → ℕ → Row → ℕ → ℕ → Type 0
+RowTakes end S r slot node = HopsTake end S r (hops r) slot node
 
--- at one of the n rows from the place on P holds, of its place and of how many rows follow it
-unfoldable pub SomeFrom : (ℕ → ℕ → Type 0) → List ℕ → ℕ → ℕ → Type 0
-SomeFrom P s zero at = ⊥
-SomeFrom P s (suc n) at = P at n ⊎ SomeFrom P s n (nextAt s at)
+-- the set of each slot has exactly the ends of the rows' hops that take it
+pub record Holds (end : Hop → ℕ) (S : ℕ) (rows : List Row) (table : List ℕ) : Type 0 where
+  pub size : SetForEach table
+  pub only : (slot node : ℕ) → At table slot node → (r : Row) × (r ∈ rows) × RowTakes end S r slot node
+  pub all : (slot node : ℕ) (r : Row) → r ∈ rows → RowTakes end S r slot node → At table slot node
 
--- a hop has the period at a place, and an offset below it
-pub record Placed (s : List ℕ) (slots period offset : ℕ) : Type 0 where
+-- every hop with the node as its end clashes with h
+abbrev pub EndClashes : (Hop → ℕ) → Topology → Hop → ℕ → Type 0
+EndClashes end T h node = (k : Hop) → end k ≡ node → Clash T h k
+
+-- in a slot that the hop h of period K and offset o takes, the table has a node that is the end of clashing hops
+pub record MeetsEnd (end : Hop → ℕ) (table : List ℕ) (T : Topology) (S K : ℕ) (h : Hop) (o : ℕ) : Type 0 where
+  pub slot : ℕ
+  pub takes : Takes S K o slot
+  pub node : ℕ
+  pub there : At table slot node
+  pub clash : EndClashes end T h node
+
+-- hop i of the row at the place does
+abbrev pub HopMeetsEnd : (Hop → ℕ) → List ℕ → List ℕ → ℕ → ℕ → Type 0
+HopMeetsEnd end table s at i =
+    MeetsEnd end table (topologyOf s) (planOf s .slots) (rowAt s at .period) (rowHop (rowAt s at) i) (rowOffset (rowAt s at) i)
+
+-- it does so in the table of senders or in that of receivers
+abbrev pub HopMeetsTaken : List ℕ → List ℕ → List ℕ → ℕ → ℕ → Type 0
+HopMeetsTaken senders receivers s at i = HopMeetsEnd sender senders s at i ⊎ HopMeetsEnd receiver receivers s at i
+
+-- some hop of the row does
+abbrev pub RowMeetsTaken : List ℕ → List ℕ → List ℕ → ℕ → Type 0
+RowMeetsTaken senders receivers s at = (i : ℕ) × (i < hops (rowAt s at)) × HopMeetsTaken senders receivers s at i
+
+-- a lawful row is at the place, and its period repeats so
+pub record RowPlaced (s : List ℕ) (at : ℕ) (repeats : Repeats) : Type 0 where
   pub framed : Framed s
-  pub slots-are : slots ≡ planOf s .slots
-  pub known : InList period
-  pub within : offset < periodAt period * slots
-
--- a lawful row is at the place, and `left` of them are behind it
-pub record RowsBehind (s : List ℕ) (b : Book) (links : List ℕ) (at left : ℕ) : Type 0 where
-  pub was-read : ReadFrom s b links
-  pub sound : SoundTopology (topologyOf s)
   pub row : RowStands s at
-  pub behind : RowsStand s left (nextAt s at)
+  pub repeats-are : RepeatsOf (planOf s .slots) (rowAt s at .period) repeats
 
--- a hop of one of the n rows from the place on is in the reach, and meets a hop of period K and offset o
-abbrev pub MeetsFrom : Reach → ℕ → ℕ → ℕ → List ℕ → ℕ → ℕ → Type 0
-MeetsFrom reach S K o s n start = SomeFrom (λ (at left : ℕ). MeetsInReach reach S (rowAt s at) K o) s n start
-
--- hop i of the row at the place meets a clashing hop of one of the `left` rows behind it
-abbrev pub HopMeetsBehind : List ℕ → ℕ → ℕ → ℕ → Type 0
-HopMeetsBehind s at left i =
-    SomeFrom (λ (other rest : ℕ). MeetsClashing (topologyOf s) (planOf s .slots) (rowAt s other) (rowAt s at .period) (rowHop (rowAt s at) i) (rowOffset (rowAt s at) i)) s left (nextAt s at)
-
--- some hop of the row at the place does
-abbrev pub RowMeetsBehind : List ℕ → ℕ → ℕ → Type 0
-RowMeetsBehind s at left = SomeFrom (λ (other rest : ℕ). RowsMeet (topologyOf s) (planOf s .slots) (rowAt s at) (rowAt s other)) s left (nextAt s at)
+-- the links are those of the image's topology, a sound one
+pub record LinksRead (s links : List ℕ) : Type 0 where
+  pub links-are : links ≡ topologyOf s .links
+  pub sound : SoundTopology (topologyOf s)

@@ -1,35 +1,35 @@
--- The reach of the hop is found once. Assumes nothing.
-use mathlib.Core.Path.{sym, subst}
+-- The reach of the hop is found once, and looked for in both tables. Assumes nothing.
+use mathlib.Core.Logic.{inl}
 use borrow.Author.Needs.{needs}
-use Rattle.rules.specs.Tiles.{Period}
-use Rattle.rules.proofs.Tests.{said-no}
-use Rattle.lawful.proofs.Agreeing.{between-here, placed-here, tests-behind}
-use Rattle.lawful.proofs.Single.{found-at, found-nowhere}
+use Rattle.rules.proofs.Tests.{said-yes}
+use Rattle.lawful.proofs.Parts.{other-part}
+use Rattle.lawful.proofs.Reaching.{hop-in-cycle, between-here, tests-senders, tests-receivers}
 use Rattle.lawful.proofs.meeting.hop_meets.Statement.{statement}
 use Rattle.lawful.proofs.meeting.hop_meets.Tie as tie
 
 reach-of-requires : tie.Need-reach-of-requires
 reach-of-requires c κs =
-    let start = c .before .before .before .before .before .before .before .before .before .before in
-    between-here (start .pre .0) (start .pre .1) (c .before .before .before .before .before .before .before .node-at .ensures .0) (c .before .before .before .before .before .before .node-at2 .ensures .0)
+    let p = c .before .before .before .before .before .pre in between-here (p .0) (p .1) _ (c .before .before .node-at .ensures .0) (c .before .node-at2 .ensures .0) (p .2)
 
-rows-meet-requires : tie.Need-rows-meet-requires
-rows-meet-requires c κs =
-    let start = c .before .before .before .before .before .before .before .before .before .before .before .before .before in (
-      placed-here (start .pre .0) (start .pre .1) (c .before .before .before .before .before .before .before .before .before .before .node-at .ensures .0) (c .before .before .before .before .before .before .before .before .before .node-at2 .ensures .0) (found-at (c .before .before .before .before .before .before .place-of .ensures) (c .before .before .before .before .period .given .1)) (c .before .before .before .before .before .before .before .period-at .ensures .0) (c .before .before .before .before .before .before .before .before .offset-at .ensures .0),
-      rw (c .next .ensures .0) (start .pre .0 .behind),
-    )
+finds-requires : tie.Need-finds-requires
+finds-requires c κs = let p = c .before .before .before .before .before .before .pre in hop-in-cycle (p .0) (p .2) (c .before .offset-at .ensures .0)
 
 returns : tie.Need-returns
 returns c =
-    let start = c .before .before .before .before .before .before .before .before .before .before .before .before .before .before in
-    tests-behind (start .pre .0) (start .pre .1) (c .before .before .before .before .before .before .before .before .before .before .before .node-at .ensures .0) (c .before .before .before .before .before .before .before .before .before .before .node-at2 .ensures .0) (found-at (c .before .before .before .before .before .before .before .place-of .ensures) (c .before .before .before .before .before .period .given .1)) (c .before .before .before .before .before .before .before .before .period-at .ensures .0) (c .before .before .before .before .before .before .before .before .before .offset-at .ensures .0)
-    (c .before .before .before .reach-of .ensures) (c .before .next .ensures .0) (c .rows-meet .ensures)
+    let p = c .before .before .before .before .before .before .before .before .pre in
+    said-yes (inl (tests-senders (p .0) (p .1) _ (c .before .before .before .before .before .node-at .ensures .0) (c .before .before .before .before .node-at2 .ensures .0) (c .before .before .reach-of .ensures) (c .before .before .before .offset-at .ensures .0) (c .before .finds .ensures) .yes (c .if1 .taken)))
+
+finds-requires-2 : tie.Need-finds-requires-2
+finds-requires-2 c κs = let p = c .before .before .before .before .before .before .before .before .pre in hop-in-cycle (p .0) (p .2) (c .before .before .before .offset-at .ensures .0)
 
 returns-2 : tie.Need-returns-2
 returns-2 c =
-    let start = c .before .before .before .before .before .before .before .before .before in
-    said-no (λ h. found-nowhere (c .before .before .place-of .ensures) (c .enum-told .given .1) (subst Period (sym (c .before .before .before .period-at .ensures .0)) (start .pre .0 .row .lawful .period)))
+    let p = c .before .before .before .before .before .before .before .before .before .pre in
+    let sender = c .before .before .before .before .before .before .node-at .ensures .0 in
+    let receiver = c .before .before .before .before .before .node-at2 .ensures .0 in
+    let reach = c .before .before .before .reach-of .ensures in
+    let offset = c .before .before .before .before .offset-at .ensures .0 in
+    other-part (tests-senders (p .0) (p .1) _ sender receiver reach offset (c .before .before .finds .ensures)) (c .before .if1 .left) (tests-receivers (p .0) (p .1) _ sender receiver reach offset (c .finds2 .ensures))
 
 pub hop-meets-spec : {M : Type 1} → statement M
 hop-meets-spec =
@@ -39,12 +39,8 @@ hop-meets-spec =
     (λ c. search needs)
     (λ c κs. search needs)
     (λ c κs. search needs)
-    (λ c κs. search needs)
-    (λ c κs. search needs)
-    (λ c. search needs)
     reach-of-requires
-    (λ c κs. search needs)
-    rows-meet-requires
-    (λ c. search needs)
+    finds-requires
     returns
+    finds-requires-2
     returns-2)

@@ -1,47 +1,48 @@
--- The offsets are compared by the modulus of the two periods. Assumes nothing.
-use mathlib.Core.Path.{_≡_, sym, _∙_, subst}
+-- Its hops are tried one by one. Assumes nothing.
+use Prim.Native.Nat.{ℕ, _<_, _≤_, _-_}
 use native.Mathlib.Omega.{arith}
-use borrow.Author.Needs.{needs}
-use Rattle.rules.specs.Tiles.{periodAt, Period}
-use Rattle.rules.proofs.Tests.{said-no}
-use Rattle.image.specs.Places.{rowAt}
-use Rattle.lawful.proofs.Agreeing.{tests-meets-row}
-use Rattle.lawful.proofs.Single.{found-at, found-nowhere}
+use borrow.Author.Count.{below-more}
+use Rattle.rules.proofs.Tests.{fails, said-yes, said-no}
+use Rattle.lawful.specs.Meeting.{HopMeetsTaken}
 use Rattle.lawful.proofs.meeting.row_meets.Statement.{statement}
 use Rattle.lawful.proofs.meeting.row_meets.Tie as tie
 
-modulus-requires : tie.Need-modulus-requires
-modulus-requires c κs =
-    let start = c .before .before .before .before .before .before in
-    let p = start .pre .0 in
-    (omega (arith, p .framed .fields .plan .some), omega (arith, p .framed .fields .plan .most), p .known, found-at (c .before .before .before .place-of .ensures) (c .before .other .given .1) .0)
+abbrev Inv-loop : tie.InvT-loop
+Inv-loop image links at repeats senders receivers h i₀ i =
+    (i ≤ h) × ((j : ℕ) → j < i → HopMeetsTaken senders receivers image at j → ⊥)
 
-row-agrees-requires : tie.Need-row-agrees-requires
-row-agrees-requires c κs =
-    let start = c .before .before .before .before .before .before .before .before .before in
-    (start .pre .0 .framed, start .pre .1, c .before .before .modulus .ensures .some)
+abbrev μ-loop : tie.MeasureT-loop
+μ-loop image links at repeats senders receivers h i₀ i = h - i
 
-returns : tie.Need-returns
-returns c =
-    let start = c .before .before .before .before .before .before .before .before .before .before in
-    let p = found-at (c .before .before .before .before .before .before .before .place-of .ensures) (c .before .before .before .before .before .other .given .1) in
-    let e : periodAt (c .before .before .before .before .before .other .given .0 .0) ≡ rowAt (start .args .image .now) (start .args .at) .period = p .1 ∙ c .before .before .before .before .before .before .before .before .period-at .ensures .0 in
-    tests-meets-row (start .pre .0) (start .pre .1) (p .0, e) (c .before .before .before .modulus .ensures) (c .row-agrees .ensures)
+hops-at-requires : tie.Need-hops-at-requires Inv-loop μ-loop
+hops-at-requires c κs = c .before .before .pre .0 .row .whole
 
-returns-2 : tie.Need-returns-2
-returns-2 c =
-    said-no (λ h. found-nowhere (c .before .before .place-of .ensures) (c .enum-told .given .1) (subst Period (sym (c .before .before .before .period-at .ensures .0)) (c .before .before .before .before .before .pre .1 .lawful .period)))
+loop-holds : tie.Need-loop-holds Inv-loop μ-loop
+loop-holds c = (omega arith, λ j l. absurd (omega arith))
+
+hop-meets-requires : tie.Need-hop-meets-requires Inv-loop μ-loop
+hop-meets-requires c κs = let p = c .before .before .before .before .before .pre in (p .0, p .1, omega arith)
+
+returns : tie.Need-returns Inv-loop μ-loop
+returns c = said-yes (c .before .before .before .loop .i, omega arith, c .before .hop-meets .ensures .yes (c .if1 .taken))
+
+loop-again : tie.Need-loop-again Inv-loop μ-loop
+loop-again c = (omega arith, below-more _ _ (c .before .before .before .loop .inv .1) (fails (c .before .hop-meets .ensures) (c .if1 .left)))
+
+returns-2 : tie.Need-returns-2 Inv-loop μ-loop
+returns-2 c = said-no (λ h. c .before .loop .inv .1 (h .0) (omega (arith, h .1)) (h .2))
 
 pub row-meets-spec : {M : Type 1} → statement M
 row-meets-spec =
     tie.close
     (tie.spec
-    (λ c κs. search needs)
-    (λ c κs. search needs)
-    (λ c. search needs)
-    modulus-requires
-    (λ c. search needs)
-    row-agrees-requires
-    (λ c. search needs)
+    Inv-loop
+    μ-loop
+    hops-at-requires
+    loop-holds
+    hop-meets-requires
     returns
+    (λ c. omega arith)
+    (λ c. omega arith)
+    loop-again
     returns-2)
