@@ -53,6 +53,7 @@
  * - No image is longer than LINDURASK_LONGEST_IMAGE bytes; an output buffer of that size is never
  *   too short for a book. A table takes 300 x S bytes, S the slots of a tile: at most
  *   LINDURASK_LONGEST_TABLE.
+ * - A call takes up to 60 KB of stack, and nothing from the heap.
  *
  * Every image is otherwise safe to pass: damaged bytes are refused by number.
  */
