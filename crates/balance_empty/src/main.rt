@@ -1,4 +1,0 @@
-// The balance program without input: under 16 bytes.
-fn main() {
-    listing::run();
-}

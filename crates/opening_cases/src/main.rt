@@ -1,4 +1,0 @@
-// Runs the opening cases: what making a book, opening and closing say.
-fn main() {
-    script::run();
-}

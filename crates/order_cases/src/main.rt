@@ -1,4 +1,0 @@
-// Runs the order cases: opens and closes in several orders.
-fn main() {
-    script::run();
-}

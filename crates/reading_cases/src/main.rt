@@ -1,4 +1,0 @@
-// Runs the reading cases: what check and rewrite say.
-fn main() {
-    script::run();
-}

@@ -1,0 +1,12 @@
+# Sourced: runner PROGRAM sets `run` to the words that run the program on this machine. A program is for x86-64;
+# elsewhere the kit's emulator runs it, under the kit's C library.
+runner() { # PROGRAM
+    local machine tools
+    machine=$(uname -m)
+    run=("$1")
+    if [ "$machine" != x86_64 ]; then
+        tools=$(dirname -- "$(dirname -- "$(rt doc)")")/on/$machine/toolchain
+        run=("$tools/bin/qemu-x86_64" "$tools/lib/ld-linux-x86-64.so.2" --library-path "$tools/lib" "$1")
+    fi
+    [ -x "${run[0]}" ]
+}
