@@ -1,11 +1,1 @@
-pub mod Parts
-pub mod Ranges
-pub mod Nodes
-pub mod Rises
-pub mod Single
-pub mod Walks
-pub mod Filling
-pub mod Holding
-pub mod Reaching
-pub mod Comparing
 pub mod Verdicts

@@ -11,7 +11,8 @@ use Rattle.rules.specs.Image.{headerLength, mark, version, word, imageLength, n
 use Rattle.rules.proofs.Written.{Bytes, stored}
 use Rattle.model.specs.Reading.{rowsIn, bookIn}
 use Rattle.model.proofs.Reading.{rows-are}
-use Rattle.lawful.specs.Frame.{Framed, Verdict}
+use Rattle.rows.specs.Frame.{Framed}
+use Rattle.lawful.specs.Verdict.{Verdict}
 
 module _ (s : List ℕ) where
   pub short : length s < headerLength → Verdict s 14

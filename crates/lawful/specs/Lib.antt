@@ -1,3 +1,1 @@
-pub mod Frame
-pub mod Walk
-pub mod Meeting
+pub mod Verdict

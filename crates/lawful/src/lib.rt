@@ -4,12 +4,9 @@ ghost use mathlib.Core.List.{_++_};
 ghost use lib.ListN.{take};
 ghost use Rattle.rules.specs.Image.{mark, version, word};
 ghost use Rattle.image.specs.Header.{HeaderOf};
-ghost use Rattle.lawful.specs.Frame.{Framed, Verdict};
+ghost use Rattle.rows.specs.Frame.{Framed};
+ghost use Rattle.lawful.specs.Verdict.{Verdict};
 use image::Book;
-
-pub mod fields;
-pub mod meeting;
-pub mod rows;
 
 // The number of an image whose header is in order: 11, 15, 16 or 0.
 fn body_verdict(image: &[u8], book: Book) -> u8

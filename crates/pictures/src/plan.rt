@@ -5,7 +5,7 @@ use words::text;
 
 // How many slots of the tile are control.
 pub fn control(plan: Plan, tile: u16) -> usize {
-    if !lawful::fields::plan_in_range(plan) {
+    if !fields::plan_in_range(plan) {
         return 0;
     }
     rules::control_slots(plan, Tile(tile)).0 as usize

@@ -25,7 +25,7 @@ use Rattle.answers.specs.Reply.{Reply}
 use Rattle.answers.proofs.Replies.{reply-refused, reply-next, reply-done}
 use Rattle.closing.specs.Close.{ClosedImage, Closes}
 use Rattle.opening.specs.Open.{OpenedImage, Opens}
-use Rattle.lawful.specs.Frame.{Verdict}
+use Rattle.lawful.specs.Verdict.{Verdict}
 
 module _ (s : List ℕ) {n : ℕ} (v : Verdict s n) where
   -- the image is refused

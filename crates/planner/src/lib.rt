@@ -24,10 +24,10 @@ pub fn new_book(plan: Plan, nodes: u8, topology: &[u8], out: &mut [u8]) -> Answe
     ensures { λ r. ⌜ New (thePlan plan) nodes (now (topology .entry)) (now (out .entry)) (r .number) (r .length) (now (out .exit)) ⌝ }
 {
     let n = nodes as usize;
-    if !lawful::fields::plan_in_range(plan) {
+    if !fields::plan_in_range(plan) {
         return answers::refused(10);
     }
-    if !lawful::fields::nodes_in_range(n) {
+    if !fields::nodes_in_range(n) {
         return answers::refused(10);
     }
     if topology.len() != 8 * n {

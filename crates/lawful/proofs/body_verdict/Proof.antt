@@ -5,8 +5,8 @@ use borrow.Author.Needs.{needs}
 use borrow.Author.Tests.{not-true, not-false}
 use Rattle.rules.specs.Topology.{SoundTopology}
 use Rattle.rules.proofs.Tests.{fails}
+use Rattle.rows.proofs.Walks.{links-read, nodes-read, topology-read}
 use Rattle.lawful.proofs.Verdicts.{unsound, no-rows, meeting-hops, lawful-book}
-use Rattle.lawful.proofs.Walks.{links-read, nodes-read, topology-read}
 use Rattle.lawful.proofs.body_verdict.Statement.{statement}
 use Rattle.lawful.proofs.body_verdict.Tie as tie
 

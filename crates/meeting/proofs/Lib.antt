@@ -1,0 +1,3 @@
+pub mod Holding
+pub mod Reaching
+pub mod Comparing
