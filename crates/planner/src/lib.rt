@@ -140,7 +140,7 @@ pub fn balance_of(image: &[u8], node: Node) -> Balance
     if book.nodes <= node.0 as usize {
         return no_balance(4);
     }
-    let counts = tables::count(image, book, node);
+    let counts = balances::count(image, book, node);
     Balance {
         number: 0,
         data: counts.data,

@@ -1,10 +1,9 @@
 -- The entries of hops and rows, one after the other, are the node's table. Assumes nothing.
 use mathlib.Core.Path.{_≡_, refl, sym, ap, ap₂, _∙_, subst}
-use mathlib.Core.Logic.{_⊎_, inl, inr, ⊎-elim}
+use mathlib.Core.Logic.{_⊎_, inl, inr}
 use mathlib.Core.List.{List, [], _∷_, _++_}
 use Prim.Native.Nat.{ℕ, suc, _+_, _*_, _/_, _%_, _<_, _≤_}
 use native.Mathlib.Decide.{ℕ-discrete, decLt}
-use native.Mathlib.Numerals.{add-one}
 use native.Mathlib.Omega.{arith}
 use native.Mathlib.Nat.{mul-assoc}
 use lib.ListN.{length, getD, take, drop, take-append-drop, length-take, length-drop}
@@ -22,12 +21,13 @@ use Rattle.rules.proofs.Meeting.{cycle-period}
 use Rattle.rules.proofs.Entries.{does-touches}
 use Rattle.model.specs.Reading.{rowsIn, bookIn}
 use Rattle.image.specs.Places.{rowAt}
-use Rattle.tables.specs.Entries.{entryAt, whereWorking, Now, Over, Repeated, Idle, IdleBelow, HopEntry, RowEntry, RowsEntry, OperationIn, StreamOf, Filled}
+use Rattle.operations.specs.Operations.{whereWorking, OperationIn}
+use Rattle.tables.specs.Entries.{entryAt, Now, Over, Repeated, Idle, IdleBelow, HopEntry, RowEntry, RowsEntry, StreamOf, Filled}
 use Rattle.tables.specs.declared.Stream.{Stream}
 use Rattle.tables.specs.Entries.Now.{given, kept}
 use Rattle.tables.specs.Entries.Idle.{sleeps, controls}
-use Rattle.tables.specs.Entries.OperationIn.{end, none}
-use Rattle.tables.proofs.Working.{working, does-work}
+use Rattle.operations.specs.Operations.OperationIn.{end, none}
+use Rattle.operations.proofs.Working.{working, does-work}
 use Rattle.tables.proofs.Writing.{Gives, over-none, over-then, over-same}
 
 -- ONE HOP
@@ -43,22 +43,6 @@ touches-does {node} {i} {r} l (inr e) = go (ℕ-discrete (suc i) (hops r))
     go : Dec (suc i ≡ hops r) → (operation : ℕ) × Does node r i operation
     go (yes z) = (4, delivers e z)
     go (no z) = (2, receives e (omega arith))
-
-module _ {node i : ℕ} {r : Row} where
-  pub sent : node ≡ getD (r .route) i 0 → i ≡ 0 → OperationIn node r i 1
-  sent e z = end (sends e z)
-
-  pub forwarded : node ≡ getD (r .route) i 0 → (i ≡ 0 → ⊥) → OperationIn node r i 3
-  forwarded e z = end (forwards e (omega arith))
-
-  pub delivered : node ≡ getD (r .route) (i + 1) 0 → i + 1 ≡ hops r → OperationIn node r i 4
-  delivered e l = end (delivers (e ∙ ap (λ (k : ℕ). getD (r .route) k 0) (add-one i)) (omega arith))
-
-  pub received : node ≡ getD (r .route) (i + 1) 0 → i < hops r → (i + 1 ≡ hops r → ⊥) → OperationIn node r i 2
-  received e l f = end (receives (e ∙ ap (λ (k : ℕ). getD (r .route) k 0) (add-one i)) (omega arith))
-
-  pub no-end : (node ≡ getD (r .route) i 0 → ⊥) → (node ≡ getD (r .route) (i + 1) 0 → ⊥) → OperationIn node r i 0
-  no-end f g = none (λ t. ⊎-elim f (λ e. g (e ∙ ap (λ (k : ℕ). getD (r .route) k 0) (sym (add-one i)))) t)
 
 it-does : {node i operation : ℕ} {r : Row} → OperationIn node r i operation → 1 ≤ operation → Does node r i operation
 it-does (end d) l = d

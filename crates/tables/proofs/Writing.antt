@@ -9,7 +9,8 @@ use native.Mathlib.Nat.{mul-le-mul-right, le-antisymm}
 use lib.ListN.{length, getD, take, drop, set, length-set, length-take, length-drop}
 use lib.Seq.{drop-cons, getD-set-same, getD-set-other, getD-take, getD-drop, drop-set-lt, ext-getD}
 use Rattle.rules.specs.Image.{word}
-use Rattle.tables.specs.Entries.{Entries, entryAt, whereWorking, Now, Over, Only, Put, InTurn}
+use Rattle.operations.specs.Operations.{whereWorking}
+use Rattle.tables.specs.Entries.{Entries, entryAt, Now, Over, Only, Put, InTurn}
 use Rattle.tables.specs.Entries.Now.{given, kept}
 
 -- what E has for a slot, F has too

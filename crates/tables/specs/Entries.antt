@@ -1,31 +1,23 @@
 -- What is written of a table: the entries of some of its slots. Assumes nothing.
 use mathlib.Core.Path.{_≡_}
-use mathlib.Core.Bool.{Bool, cond, _&&_}
+use mathlib.Core.Bool.{cond}
 use mathlib.Core.List.{List, _∷_, _++_}
 use Prim.Native.Nat.{ℕ, _+_, _*_, _<_}
-use lib.Dec.{leb, ltb}
+use lib.Dec.{ltb}
 use lib.ListN.{length, take, drop}
 use Rattle.rules.specs.Words.{_∈_}
 use Rattle.rules.specs.Tiles.{Plan, Data, Control, Takes, repeats}
-use Rattle.rules.specs.Topology.{Touches}
-use Rattle.rules.specs.Book.{Row, hops, rowHop, rowOffset}
+use Rattle.rules.specs.Book.{Row, hops, rowOffset}
 use Rattle.rules.specs.Image.{word, planOf}
 use Rattle.rules.specs.Table.{Does, TableOf}
 use Rattle.model.specs.Reading.{bookIn}
 use Rattle.image.specs.Places.{rowAt}
+use Rattle.operations.specs.Operations.{whereWorking}
 use Rattle.tables.specs.declared.Stream.{Stream}
 
 -- the three bytes of the slot's entry
 abbrev pub entryAt : List ℕ → ℕ → List ℕ
 entryAt table slot = take 3 (drop (3 * slot) table)
-
--- the operation is one of 1 to 4, in which a node works for a stream
-abbrev pub isWorking : ℕ → Bool
-isWorking operation = leb 1 operation && leb operation 4
-
--- n in these operations, and 0 in the others
-abbrev pub whereWorking : ℕ → ℕ → ℕ
-whereWorking operation n = cond (isWorking operation) n 0
 
 -- entries of slots: a slot, an operation and a stream id
 abbrev pub Entries : Type 1
@@ -94,11 +86,6 @@ pub record RowsEntry (S node : ℕ) (rows : List Row) (slot operation id : ℕ) 
   pub row : Row
   pub there : row ∈ rows
   pub entry : RowEntry S node row (hops row) slot operation id
-
--- the node's operation in hop i of the row, 0 where it is no end
-pub data OperationIn (node : ℕ) (r : Row) (i : ℕ) : ℕ → Type 0 where
-  end : {operation : ℕ} → Does node r i operation → OperationIn node r i operation
-  none : (Touches node (rowHop r i) → ⊥) → OperationIn node r i 0
 
 -- the id, the slots of the period, the repeats and the hops of the row at a place of an image
 pub record StreamOf (s : List ℕ) (at : ℕ) (stream : Stream) : Type 0 where

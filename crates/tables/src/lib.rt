@@ -1,35 +1,24 @@
-// A node's slot table for the whole cycle, and its balance.
+// A node's slot table for the whole cycle.
 ghost use mathlib.Core.Path.{_≡_};
 ghost use mathlib.Core.Bool.{cond};
 ghost use Prim.Native.Nat.{ℕ, _+_, _*_, _≤_, _<_};
 ghost use lib.Dec.{ltb};
 ghost use lib.ListN.{length};
-ghost use Rattle.rules.specs.Tiles.{PlanInRange, Period, repeats, cycleTiles, cycleSlots};
+ghost use Rattle.rules.specs.Tiles.{PlanInRange, cycleSlots};
 ghost use Rattle.rules.specs.Periods.{thePlan};
 ghost use Rattle.rules.specs.Book.{hops};
 ghost use Rattle.rules.specs.Image.{planOf, Stored};
-ghost use Rattle.rules.specs.Table.{tableLength, used, BalanceOf};
+ghost use Rattle.rules.specs.Table.{tableLength};
 ghost use Rattle.model.specs.Reading.{bookIn};
-ghost use Rattle.image.specs.Places.{rowAt, Whole, RowHere};
+ghost use Rattle.image.specs.Places.{rowAt, RowHere};
 ghost use Rattle.image.specs.Header.{HeaderOf};
-ghost use Rattle.tables.specs.Entries.{whereWorking, Over, Put, Repeated, TileEntry, IdleBelow, OperationIn, HopEntry, RowEntry, StreamOf, Filled};
-ghost use Rattle.tables.specs.Counts.{Counted, TallyOf, DataSlots, hopsUsed};
+ghost use Rattle.operations.specs.Operations.{whereWorking};
+ghost use Rattle.tables.specs.Entries.{Over, Put, Repeated, TileEntry, IdleBelow, HopEntry, RowEntry, StreamOf, Filled};
 use image::Book;
 use rules::Node;
-use rules::Place;
 use rules::Plan;
 use rules::Slot;
 use rules::Tile;
-
-// The cycle is always 100 tiles.
-const CYCLE: u16 = 100;
-
-// Slots of the cycle: data slots, those in which the node works, and those in which it sleeps.
-pub struct Counts {
-    pub data: u32,
-    pub used: u32,
-    pub free: u32,
-}
 
 // A count as a length.
 fn wide(x: u16) -> usize
@@ -38,30 +27,12 @@ fn wide(x: u16) -> usize
     x as usize
 }
 
-// A count as a sum.
-fn wide32(x: u16) -> u32
-    ensures { λ r. ⌜ (r ≡ x) × (r < 65536) ⌝ }
-{
-    x as u32
-}
-
-// The number n in the operations 1 to 4, which have a stream, and 0 in the others.
-fn where_working(operation: u8, n: u16) -> u16
-    ensures { λ r. ⌜ r ≡ whereWorking operation n ⌝ }
-{
-    match operation {
-        0 => 0,
-        1..=4 => n,
-        _ => 0,
-    }
-}
-
 // Writes the entry of a slot.
 fn put(out: &mut [u8], slot: usize, operation: u8, id: u16)
     requires { ⌜ 3 * slot + 3 ≤ length (now out) ⌝ }
     ensures { λ r. ⌜ Put slot operation id (now (out .entry)) (now (out .exit)) ⌝ }
 {
-    let stream = where_working(operation, id);
+    let stream = operations::where_working(operation, id);
     let at = 3 * slot;
     out[at] = operation;
     out[at + 1] = (stream / 256) as u8;
@@ -109,23 +80,11 @@ fn blank(plan: Plan, out: &mut [u8])
     let slots = wide(plan.slots.0);
     let mut start: usize = 0;
     let mut tile: u16 = 0;
-    while tile < CYCLE {
+    while tile < operations::CYCLE {
         let control = rules::control_slots(plan, Tile(tile));
         blank_tile(out, start, slots, wide(control.0));
         start += slots;
         tile += 1;
-    }
-}
-
-// How often a stream of the period comes in a cycle.
-fn repeats_of(period: Tile) -> u16
-    requires { ⌜ Period (period .0) ⌝ }
-    ensures { λ r. ⌜ (r ≡ repeats (period .0)) × (r ≤ cycleTiles) ⌝ }
-{
-    let place = rules::place_of(period);
-    match place {
-        Place::At(i) => rules::repeats_at(i),
-        Place::Nowhere => 0,
     }
 }
 
@@ -146,29 +105,9 @@ fn stream_at(image: &[u8], at: usize, slots: Slot) -> Stream
     Stream {
         id: image::id_at(image, at),
         step: wide(period.0) * wide(slots.0),
-        turns: wide(repeats_of(period)),
+        turns: wide(operations::repeats_of(period)),
         hops: image::hops_at(image, at),
     }
-}
-
-// What the node does in hop i of the row at a place, 0 where it is no end of it.
-fn operation_at(image: &[u8], at: usize, node: Node, i: usize, last: usize) -> u8
-    requires { ⌜ Whole (now image) at × (i < last) × (last ≡ hops (rowAt (now image) at)) ⌝ }
-    ensures { λ r. ⌜ OperationIn (node .0) (rowAt (now (image .entry)) at) i r ⌝ }
-{
-    if node.0 == image::node_at(image, at, i).0 {
-        if i == 0 {
-            return 1;
-        }
-        return 3;
-    }
-    if node.0 == image::node_at(image, at, i + 1).0 {
-        if i + 1 == last {
-            return 4;
-        }
-        return 2;
-    }
-    0
 }
 
 // Writes the node's entries in hop i of the row at a place.
@@ -178,7 +117,7 @@ fn hop(image: &[u8], at: usize, stream: Stream, node: Node, i: usize, out: &mut 
     ensures { λ r. ⌜ Over (cycleSlots (planOf (now (image .entry)))) (HopEntry (planOf (now (image .entry)) .slots) (node .0) (rowAt (now (image .entry)) at) i) (now (out .entry)) (now (out .exit)) ⌝ }
 {
     let offset = image::offset_at(image, at, i);
-    let operation = operation_at(image, at, node, i, stream.hops);
+    let operation = operations::operation_at(image, at, node, i, stream.hops);
     match operation {
         1..=4 => repeat(
             out,
@@ -212,7 +151,7 @@ pub fn table_length(plan: Plan) -> usize
     requires { ⌜ PlanInRange (thePlan plan) ⌝ }
     ensures { λ r. ⌜ r ≡ tableLength (thePlan plan) ⌝ }
 {
-    3 * (wide(CYCLE) * wide(plan.slots.0))
+    3 * (wide(operations::CYCLE) * wide(plan.slots.0))
 }
 
 // Writes the node's table: 100 tiles, three bytes a slot.
@@ -230,107 +169,4 @@ pub fn fill(image: &[u8], book: Book, node: Node, out: &mut [u8])
         at = image::next(image, at);
         left -= 1;
     }
-}
-
-// The data slots of the cycle: those of the plan's tiles, as often as the plan comes.
-fn data_slots(plan: Plan) -> u32
-    requires { ⌜ PlanInRange (thePlan plan) ⌝ }
-    ensures { λ r. ⌜ DataSlots (thePlan plan) r ⌝ }
-{
-    let tiles = plan.tiles.0;
-    let slots = plan.slots.0;
-    let mut sum: u32 = 0;
-    let mut tile: u16 = 0;
-    while tile < tiles {
-        let control = rules::control_slots(plan, Tile(tile));
-        sum += wide32(slots - control.0);
-        tile += 1;
-    }
-    sum * wide32(CYCLE / tiles)
-}
-
-// The repeats of the hops of the row at a place that touch the node.
-fn row_used(image: &[u8], at: usize, node: Node) -> u32
-    requires { ⌜ RowHere (now image) at ⌝ }
-    ensures { λ r. ⌜ (r ≡ hopsUsed (node .0) (rowAt (now (image .entry)) at) (hops (rowAt (now (image .entry)) at))) ⌝ }
-{
-    let last = image::hops_at(image, at);
-    let turns = repeats_of(image::period_at(image, at));
-    let mut sum: u32 = 0;
-    let mut i = 0;
-    while i < last {
-        let operation = operation_at(image, at, node, i, last);
-        sum += wide32(where_working(operation, turns));
-        i += 1;
-    }
-    sum
-}
-
-// The repeats of all hops that touch the node.
-fn used_slots(image: &[u8], book: Book, node: Node) -> u32
-    requires { ⌜ Stored (now image) (bookIn (now image)) × HeaderOf (now image) book ⌝ }
-    ensures { λ r. ⌜ r ≡ used (bookIn (now (image .entry))) (node .0) ⌝ }
-{
-    let mut sum: u32 = 0;
-    let mut at = book.rows_start();
-    let mut left = book.streams;
-    while 0 < left {
-        sum += row_used(image, at, node);
-        at = image::next(image, at);
-        left -= 1;
-    }
-    sum
-}
-
-// The node's balance, without its table.
-pub fn count(image: &[u8], book: Book, node: Node) -> Counts
-    requires { ⌜ Stored (now image) (bookIn (now image)) × HeaderOf (now image) book ⌝ }
-    ensures { λ r. ⌜ BalanceOf (bookIn (now (image .entry))) (node .0) (r .data) (r .used) (r .free) ⌝ }
-{
-    let all = data_slots(book.plan);
-    let used = used_slots(image, book, node);
-    Counts {
-        data: all,
-        used,
-        free: all - used,
-    }
-}
-
-// The counts with one entry more.
-fn with_entry(counts: Counts, operation: u8) -> Counts
-    requires { ⌜ (counts .data < 65536) × (counts .data ≡ counts .used + counts .free) ⌝ }
-    ensures { λ r. ⌜ Counted counts operation r ⌝ }
-{
-    match operation {
-        0 => Counts {
-            data: counts.data + 1,
-            used: counts.used,
-            free: counts.free + 1,
-        },
-        1..=4 => Counts {
-            data: counts.data + 1,
-            used: counts.used + 1,
-            free: counts.free,
-        },
-        _ => counts,
-    }
-}
-
-// Counts the entries of a table of that many slots by their operation.
-pub fn tally(table: &[u8], slots: Slot) -> Counts
-    requires { ⌜ 3 * slots .0 ≤ length (now table) ⌝ }
-    ensures { λ r. ⌜ TallyOf (now (table .entry)) (slots .0) r ⌝ }
-{
-    let n = wide(slots.0);
-    let mut counts = Counts {
-        data: 0,
-        used: 0,
-        free: 0,
-    };
-    let mut slot = 0;
-    while slot < n {
-        counts = with_entry(counts, table[3 * slot]);
-        slot += 1;
-    }
-    counts
 }

@@ -4,7 +4,7 @@ use Prim.Native.Nat.{ℕ, _+_, _-_, _≤_}
 use native.Mathlib.Omega.{arith}
 use lib.ListN.{length}
 use Rattle.tables.specs.Entries.{Over, TileEntry}
-use Rattle.tables.proofs.Working.{no-id}
+use Rattle.operations.proofs.Working.{no-id}
 use Rattle.tables.proofs.Writing.{turn-none, turn-more, turn-all}
 use Rattle.tables.proofs.blank_tile.Statement.{statement}
 use Rattle.tables.proofs.blank_tile.Tie as tie

@@ -8,7 +8,8 @@ use Rattle.rules.specs.Table.{tableLength}
 use Rattle.image.specs.Places.{Stands}
 use Rattle.image.proofs.Stands.{stands-row}
 use Rattle.tables.proofs.Hops.{filled}
-use Rattle.tables.proofs.Walks.{stands-first, stands-on, Follows, follows-first, follows-on, follows-end}
+use Rattle.image.proofs.Walks.{stands-first, stands-on}
+use Rattle.tables.proofs.Walks.{Follows, follows-first, follows-on, follows-end}
 use Rattle.tables.proofs.fill.Statement.{statement}
 use Rattle.tables.proofs.fill.Tie as tie
 

@@ -3,7 +3,8 @@ use mathlib.Core.Path.{_≡_, refl}
 use Prim.Native.Nat.{_+_, _*_, _-_, _≤_}
 use native.Mathlib.Omega.{arith}
 use lib.ListN.{length}
-use Rattle.tables.specs.Entries.{whereWorking, Over, Repeated}
+use Rattle.operations.specs.Operations.{whereWorking}
+use Rattle.tables.specs.Entries.{Over, Repeated}
 use Rattle.tables.proofs.Writing.{turn-none, turn-more, turn-all, turn-room}
 use Rattle.tables.proofs.repeat.Statement.{statement}
 use Rattle.tables.proofs.repeat.Tie as tie

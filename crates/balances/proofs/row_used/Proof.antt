@@ -6,11 +6,11 @@ use native.Mathlib.Nat.{le-antisymm}
 use borrow.Author.Needs.{needs}
 use Rattle.rules.specs.Tiles.{Period, repeats}
 use Rattle.image.specs.Places.{rowAt}
-use Rattle.tables.specs.Counts.{hopsUsed}
-use Rattle.tables.proofs.Working.{working-most}
-use Rattle.tables.proofs.Balances.{used-more}
-use Rattle.tables.proofs.row_used.Statement.{statement}
-use Rattle.tables.proofs.row_used.Tie as tie
+use Rattle.balances.specs.Counts.{hopsUsed}
+use Rattle.operations.proofs.Working.{working-most}
+use Rattle.balances.proofs.Balances.{used-more}
+use Rattle.balances.proofs.row_used.Statement.{statement}
+use Rattle.balances.proofs.row_used.Tie as tie
 
 abbrev Inv-loop : tie.InvT-loop
 Inv-loop image at node last turns sum₀ i₀ sum i = (i ≤ last) × (sum ≤ 100 * i) × (sum ≡ hopsUsed (node .0) (rowAt image at) i)

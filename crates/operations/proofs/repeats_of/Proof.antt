@@ -6,8 +6,8 @@ use Rattle.rules.specs.Periods.{InList, PlaceOf}
 use Rattle.rules.specs.declared.Place.{Place}
 use Rattle.rules.specs.declared.Place.the-variants.{At, Nowhere}
 use borrow.Author.Needs.{needs}
-use Rattle.tables.proofs.repeats_of.Statement.{statement}
-use Rattle.tables.proofs.repeats_of.Tie as tie
+use Rattle.operations.proofs.repeats_of.Statement.{statement}
+use Rattle.operations.proofs.repeats_of.Tie as tie
 
 place-in : {K i : ℕ} {p : Place} → PlaceOf K p → p ≡ At i → InList i × (periodAt i ≡ K)
 place-in {K} h e = subst (PlaceOf K) e h

@@ -3,10 +3,11 @@ use native.Mathlib.Omega.{arith}
 use Rattle.model.specs.Reading.{bookIn}
 use Rattle.image.specs.Places.{Stands}
 use Rattle.image.proofs.Stands.{stands-row}
-use Rattle.tables.proofs.Balances.{used-most}
-use Rattle.tables.proofs.Walks.{stands-first, stands-on, Sums, sums-first, sums-most, sums-on, sums-end}
-use Rattle.tables.proofs.used_slots.Statement.{statement}
-use Rattle.tables.proofs.used_slots.Tie as tie
+use Rattle.balances.proofs.Balances.{used-most}
+use Rattle.image.proofs.Walks.{stands-first, stands-on}
+use Rattle.balances.proofs.Walks.{Sums, sums-first, sums-most, sums-on, sums-end}
+use Rattle.balances.proofs.used_slots.Statement.{statement}
+use Rattle.balances.proofs.used_slots.Tie as tie
 
 abbrev Inv-loop : tie.InvT-loop
 Inv-loop image node sum₀ at₀ left₀ sum at left = Stands image at left × Sums image (node .0) sum at left

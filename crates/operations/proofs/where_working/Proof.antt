@@ -1,8 +1,8 @@
 -- The operations 1 to 4 have the number, and the others none. Assumes nothing.
 use native.Mathlib.Omega.{arith}
-use Rattle.tables.proofs.Working.{working, sleeping, controlling}
-use Rattle.tables.proofs.where_working.Statement.{statement}
-use Rattle.tables.proofs.where_working.Tie as tie
+use Rattle.operations.proofs.Working.{working, sleeping, controlling}
+use Rattle.operations.proofs.where_working.Statement.{statement}
+use Rattle.operations.proofs.where_working.Tie as tie
 
 returns : tie.Need-returns
 returns c = sleeping _ _ (c .match .keys1)

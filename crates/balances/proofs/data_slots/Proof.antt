@@ -8,10 +8,10 @@ use Rattle.rules.specs.Table.{sumBelow}
 use Rattle.rules.specs.Periods.{thePlan}
 use Rattle.rules.proofs.Plans.{tiles-some}
 use Rattle.rules.proofs.Bytes.{tiles-small}
-use Rattle.tables.specs.Counts.{DataSlots}
-use Rattle.tables.proofs.Balances.{dataIn, data-slots, sum-more}
-use Rattle.tables.proofs.data_slots.Statement.{statement}
-use Rattle.tables.proofs.data_slots.Tie as tie
+use Rattle.balances.specs.Counts.{DataSlots}
+use Rattle.balances.proofs.Balances.{dataIn, data-slots, sum-more}
+use Rattle.balances.proofs.data_slots.Statement.{statement}
+use Rattle.balances.proofs.data_slots.Tie as tie
 
 abbrev Inv-loop : tie.InvT-loop
 Inv-loop plan tiles slots sum₀ tile₀ sum tile = (tile ≤ tiles) × (sum ≤ 32 * tile) × (sum ≡ sumBelow tile (dataIn (thePlan plan)))

@@ -22,11 +22,10 @@ use Rattle.model.proofs.Tests.{tests-data, tests-touches}
 use Rattle.model.proofs.Sums.{sum-ext, sum-all, sum-blocks}
 use Rattle.model.proofs.Tables.{counted, balance-computed}
 use Rattle.model.proofs.Balances.{count-sum, used-and-free}
-use Rattle.tables.specs.Entries.{whereWorking, OperationIn}
-use Rattle.tables.specs.Entries.OperationIn.{end, none}
-use Rattle.tables.specs.Counts.{hopsUsed, DataSlots}
-use Rattle.tables.proofs.Working.{working, does-work}
-use Rattle.tables.proofs.Tallies.{balance-is}
+use Rattle.operations.specs.Operations.{whereWorking, OperationIn}
+use Rattle.operations.specs.Operations.OperationIn.{end, none}
+use Rattle.balances.specs.Counts.{hopsUsed, DataSlots}
+use Rattle.operations.proofs.Working.{working, does-work}
 
 -- DATA SLOTS
 -- of the numbers below n those from c on
@@ -121,4 +120,4 @@ module _ (b : Book) (w : LawfulBook b) (node : ℕ) where
     used-fits = omega (arith, with-free)
 
     pub balance-of : BalanceOf b node d u (d - u)
-    balance-of = balance-is refl refl (omega (arith, with-free)) with-count
+    balance-of = let f : freeCount b node ≡ d - u = omega (arith, with-free) in subst (BalanceOf b node d u) f with-count

@@ -7,7 +7,7 @@ use borrow.Author.Tests.{le-leb, lt-leb}
 use Rattle.rules.specs.Book.{Row}
 use Rattle.rules.specs.Table.{Does}
 use Rattle.rules.specs.Table.Does.{sends, receives, forwards, delivers}
-use Rattle.tables.specs.Entries.{isWorking, whereWorking}
+use Rattle.operations.specs.Operations.{isWorking, whereWorking}
 
 pub working : (operation n : ℕ) → 1 ≤ operation → operation ≤ 4 → n ≡ whereWorking operation n
 working operation n h k = rw (le-leb 1 operation h, le-leb operation 4 k)

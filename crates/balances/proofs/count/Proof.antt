@@ -3,9 +3,9 @@ use mathlib.Core.Path.{sym, subst}
 use borrow.Author.Needs.{needs}
 use Rattle.rules.specs.Tiles.{PlanInRange}
 use Rattle.model.specs.Reading.{bookIn}
-use Rattle.tables.proofs.Balances.{used-fits, balance-of}
-use Rattle.tables.proofs.count.Statement.{statement}
-use Rattle.tables.proofs.count.Tie as tie
+use Rattle.balances.proofs.Balances.{used-fits, balance-of}
+use Rattle.balances.proofs.count.Statement.{statement}
+use Rattle.balances.proofs.count.Tie as tie
 
 data-slots-requires : tie.Need-data-slots-requires
 data-slots-requires c κs = subst PlanInRange (sym (c .before .pre .1 .plan)) (c .before .pre .0 .lawful .plan)

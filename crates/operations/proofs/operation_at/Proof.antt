@@ -2,9 +2,9 @@
 use mathlib.Core.Path.{sym, _∙_}
 use native.Mathlib.Omega.{arith}
 use borrow.Author.Needs.{needs}
-use Rattle.tables.proofs.Hops.{sent, forwarded, delivered, received, no-end}
-use Rattle.tables.proofs.operation_at.Statement.{statement}
-use Rattle.tables.proofs.operation_at.Tie as tie
+use Rattle.operations.proofs.Ends.{sent, forwarded, delivered, received, no-end}
+use Rattle.operations.proofs.operation_at.Statement.{statement}
+use Rattle.operations.proofs.operation_at.Tie as tie
 
 returns : tie.Need-returns
 returns c = sent (c .before .if1 .taken ∙ c .before .before .before .before .node-at .ensures .0) (c .if2 .taken)
