@@ -1,6 +1,6 @@
 // A site's plan and links as a person types them: what a line says, and what all lines say together.
 ghost use Prim.Native.Nat.{_≤_};
-use crate::links;
+
 use rules::Plan;
 use rules::Slot;
 use rules::Tile;

@@ -1,3 +1,2 @@
-// A site's plan and links as a person types them, and the links as rows, bytes and words.
+// A site's plan and links as a person types them.
 pub mod draft;
-pub mod links;

@@ -5,7 +5,6 @@ use desk::files::Got;
 use desk::printing;
 use drafts::draft;
 use drafts::draft::Draft;
-use drafts::links;
 use showing::reading;
 use words::scan;
 use words::text;

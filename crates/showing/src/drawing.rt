@@ -5,7 +5,6 @@ use crate::reading::Loaded;
 use desk::arguments;
 use desk::arguments::Asked;
 use desk::printing;
-use drafts::links;
 use pictures::picture;
 use pictures::picture::View;
 use pictures::plan;

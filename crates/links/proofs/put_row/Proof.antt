@@ -3,8 +3,8 @@ use mathlib.Core.Path.{refl}
 use native.Mathlib.Omega.{arith}
 use borrow.Author.Needs.{needs}
 use Rattle.writer.proofs.Laws.{then}
-use Rattle.drafts.proofs.links.put_row.Statement.{statement}
-use Rattle.drafts.proofs.links.put_row.Tie as tie
+use Rattle.links.proofs.put_row.Statement.{statement}
+use Rattle.links.proofs.put_row.Tie as tie
 
 returns : tie.Need-returns
 returns c =

@@ -4,8 +4,8 @@ use native.Mathlib.Omega.{arith}
 use borrow.Author.Needs.{needs}
 use lib.ListN.{length}
 use lib.Seq.{getD-set-same, getD-set-other}
-use Rattle.drafts.proofs.links.with_neighbour.Statement.{statement}
-use Rattle.drafts.proofs.links.with_neighbour.Tie as tie
+use Rattle.links.proofs.with_neighbour.Statement.{statement}
+use Rattle.links.proofs.with_neighbour.Tie as tie
 
 returns : tie.Need-returns
 returns c = record { added = λ h k. absurd (omega arith); others = λ i n. refl }

@@ -6,10 +6,10 @@ use borrow.Author.Needs.{needs}
 use lib.ListN.{length, take}
 use Rattle.rules.specs.Image.{inTurn, word64}
 use Rattle.writer.specs.Over.{over}
-use Rattle.drafts.proofs.Topologies.{rows-turn, rows-done}
+use Rattle.links.proofs.Topologies.{rows-turn, rows-done}
 use Rattle.writer.proofs.Laws.{over-nil}
-use Rattle.drafts.proofs.links.topology.Statement.{statement}
-use Rattle.drafts.proofs.links.topology.Tie as tie
+use Rattle.links.proofs.topology.Statement.{statement}
+use Rattle.links.proofs.topology.Tie as tie
 
 abbrev Inv-loop : tie.InvT-loop
 Inv-loop rows out₀ i₀ out i = (i ≤ 64) × (length out ≡ 512) × (length out₀ ≡ 512) × (out ≡ over out₀ 0 (inTurn word64 (take i rows)))

@@ -4,7 +4,7 @@ ghost use Prim.Native.Nat.{_+_, _≤_};
 ghost use lib.ListN.{length};
 ghost use Rattle.rules.specs.Image.{inTurn, word64};
 ghost use Rattle.writer.specs.Over.{over};
-ghost use Rattle.drafts.specs.Links.{WithNeighbour};
+ghost use Rattle.links.specs.Links.{WithNeighbour};
 use words::text;
 
 // The rows with b a neighbour of a.
