@@ -16,7 +16,7 @@ pub const FIRST: usize = 3;
 // A number that need not be there.
 pub enum Asked {
     All,
-    One(u32),
+    One(u16),
     Other,
 }
 
@@ -49,26 +49,25 @@ pub fn command(i: usize) -> Command {
     usage::named(text::front(&word, n))
 }
 
-// Takes a number.
+// Takes a number from 0 to 65535.
 pub fn number(i: usize) -> Number {
     let mut space = [0u8; 32];
     let n = os::arg(i, &mut space);
     scan::read_number(text::front(&space, n))
 }
 
-// Takes the number of a node, a tile or a period, and most for one that is larger; 65536 where the word is no number.
-pub fn at_most(i: usize, most: u32) -> u32 {
-    scan::at_most(number(i), most, 65536)
+// Takes a number, and most for one that is larger.
+pub fn at_most(i: usize, most: u16) -> Number {
+    scan::at_most(number(i), most)
 }
 
 // Takes the number that may follow the book, and most for one that is larger.
-pub fn one_asked(most: u32) -> Asked {
+pub fn one_asked(most: u16) -> Asked {
     if count() < 2 {
         return Asked::All;
     }
-    let n = at_most(FIRST, most);
-    if n == 65536 {
+    let Number::Is(n) = at_most(FIRST, most) else {
         return Asked::Other;
-    }
+    };
     Asked::One(n)
 }

@@ -8,6 +8,8 @@ use rules::Tile;
 use showing::reading;
 use showing::reading::Loaded;
 use streams::Stream;
+use words::scan;
+use words::scan::Number;
 use words::text;
 
 // What an open asks for.
@@ -18,14 +20,14 @@ struct Request {
     pub period: u16,
 }
 
-// Takes the id that the command line names, and 65536 where it is none.
-fn id_asked() -> u32 {
-    arguments::at_most(arguments::FIRST, 65536)
-}
-
 // Says what an id is.
 fn no_id() -> u8 {
     printing::misused(b"lindurask: an id is a number from 1 to 65535\n")
+}
+
+// Says what a period is.
+fn no_period() -> u8 {
+    printing::misused(b"lindurask: a period is a number of tiles: 1, 2, 5, 10, 20, 50 or 100\n")
 }
 
 // Prints a stream's route and offsets.
@@ -113,26 +115,23 @@ fn open_asked(asked: Request) -> u8 {
 
 // Opens a stream.
 pub fn open() -> u8 {
-    let id = id_asked();
-    let source = arguments::at_most(4, 255);
-    let destination = arguments::at_most(5, 255);
-    let period = arguments::at_most(6, 65535);
-    if id == 65536 {
+    let Number::Is(id) = arguments::number(arguments::FIRST) else {
         return no_id();
-    }
-    if source == 65536 || destination == 65536 {
-        return printing::misused(b"lindurask: a node is a number, from 0 on\n");
-    }
-    if period == 65536 {
-        return printing::misused(
-            b"lindurask: a period is a number of tiles: 1, 2, 5, 10, 20, 50 or 100\n",
-        );
-    }
+    };
+    let Number::Is(source) = arguments::at_most(4, 255) else {
+        return reading::no_node();
+    };
+    let Number::Is(destination) = arguments::at_most(5, 255) else {
+        return reading::no_node();
+    };
+    let Number::Is(period) = arguments::at_most(6, 65535) else {
+        return no_period();
+    };
     open_asked(Request {
-        id: (id % 65536) as u16,
-        source: (source % 256) as u8,
-        destination: (destination % 256) as u8,
-        period: (period % 65536) as u16,
+        id,
+        source: scan::as_byte(source),
+        destination: scan::as_byte(destination),
+        period,
     })
 }
 
@@ -161,9 +160,8 @@ fn close_asked(id: u16) -> u8 {
 
 // Closes a stream.
 pub fn close() -> u8 {
-    let id = id_asked();
-    if id == 65536 {
+    let Number::Is(id) = arguments::number(arguments::FIRST) else {
         return no_id();
-    }
-    close_asked((id % 65536) as u16)
+    };
+    close_asked(id)
 }

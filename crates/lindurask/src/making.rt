@@ -5,6 +5,7 @@ use desk::files::Got;
 use desk::printing;
 use drafts::draft;
 use drafts::draft::Draft;
+use drafts::faults;
 use showing::reading;
 use words::scan;
 use words::text;
@@ -28,12 +29,12 @@ fn put_number(line: &mut [u8], at: usize, number: u8) -> usize {
 // Says what is wrong with the text and in which line.
 fn say_fault(path: &[u8], made: Draft) -> u8 {
     let fault = made.fault;
-    let number = draft::number(fault);
+    let number = faults::number(fault);
     let mut line = [0u8; 4608];
     let mut n = text::put(&mut line, 0, path);
     n = put_line(&mut line, n, made.line);
     n = put_number(&mut line, n, number);
-    n = draft::put_fault(&mut line, n, fault);
+    n = faults::put_fault(&mut line, n, fault);
     n = text::put(&mut line, n, b"\n");
     printing::misused(text::front(&line, n));
     if number == 0 {
@@ -64,7 +65,7 @@ fn new_from(made: Draft) -> u8 {
     let nodes = made.nodes;
     let answer = planner::new_book(
         draft::plan(made),
-        (nodes % 256) as u8,
+        scan::as_byte(nodes),
         text::front(&bytes, 8 * nodes as usize),
         &mut out,
     );

@@ -34,18 +34,21 @@ fn print_plan(plan: Plan) -> bool {
     all
 }
 
-// Prints the links in a line, where there is one to print.
+// Prints that there is nothing of a kind.
+fn print_none() -> bool {
+    printing::print(b"  none\n", 7)
+}
+
+// Prints the links in a line.
 fn print_line(line: &mut [u8], n: usize) -> bool {
-    if n <= 1 {
-        return true;
-    }
     let end = text::put(line, n, b"\n");
     printing::print(line, end)
 }
 
-// A line that fills up: its length, and whether all before it went out.
+// A line that fills up: its length, whether one before it was full, and whether all before it went out.
 struct Filled {
     pub at: usize,
+    pub later: bool,
     pub all: bool,
 }
 
@@ -55,13 +58,26 @@ fn with_pair(line: &mut [u8], filled: Filled, image: &[u8], nodes: usize, pair: 
     if at < 72 {
         return Filled {
             at,
+            later: filled.later,
             all: filled.all,
         };
     }
     Filled {
         at: 1,
+        later: true,
         all: print_line(line, at) & filled.all,
     }
+}
+
+// Prints the links that are left in the line, or that the site has none.
+fn print_rest(line: &mut [u8], filled: Filled) -> bool {
+    if 1 < filled.at {
+        return print_line(line, filled.at);
+    }
+    if filled.later {
+        return true;
+    }
+    print_none()
 }
 
 // Prints the links, each once.
@@ -69,6 +85,7 @@ fn print_links(image: &[u8]) -> bool {
     let mut line = [b' '; 128];
     let mut filled = Filled {
         at: 1,
+        later: false,
         all: printing::print(b"\nLinks\n", 7),
     };
     let nodes = streams::header(image).nodes;
@@ -77,7 +94,7 @@ fn print_links(image: &[u8]) -> bool {
         filled = with_pair(&mut line, filled, image, nodes, pair);
         pair += 1;
     }
-    print_line(&mut line, filled.at) & filled.all
+    print_rest(&mut line, filled) & filled.all
 }
 
 // Prints a stream: its letter and its title, its route, its offsets.
@@ -92,10 +109,9 @@ fn print_stream(image: &[u8], stream: Stream, place: usize) -> bool {
     printing::print(&line, n)
 }
 
-// Prints the streams.
-fn print_streams(image: &[u8]) -> bool {
-    let count = streams::header(image).streams;
-    let mut all = printing::print(b"\nStreams\n", 9);
+// Prints so many streams, one below the other.
+fn print_each(image: &[u8], count: usize) -> bool {
+    let mut all = true;
     let mut stream = streams::first(image);
     let mut place = 0;
     while place < count {
@@ -104,6 +120,16 @@ fn print_streams(image: &[u8]) -> bool {
         place += 1;
     }
     all
+}
+
+// Prints the streams, or that the book has none.
+fn print_streams(image: &[u8]) -> bool {
+    let head = printing::print(b"\nStreams\n", 9);
+    let count = streams::header(image).streams;
+    if count == 0 {
+        return print_none() & head;
+    }
+    print_each(image, count) & head
 }
 
 // Prints the lines above the picture.
@@ -256,18 +282,23 @@ fn show_from(image: &[u8], from: u16) -> u8 {
     printing::ended(print_picture(image, from) & counts & plan & links & streams)
 }
 
+// Says what a tile is.
+fn no_tile() -> u8 {
+    printing::misused(b"lindurask: a tile is a number from 0 to 99\n")
+}
+
 // Draws the book as asked.
 fn show_on(image: &[u8]) -> u8 {
     let asked = arguments::one_asked(100);
     match asked {
         Asked::All => show_from(image, 0),
         Asked::One(tile) => {
-            if tile == 100 {
-                return printing::misused(b"lindurask: a tile is a number from 0 to 99\n");
+            if 100 <= tile {
+                return no_tile();
             }
-            show_from(image, (tile % 100) as u16)
+            show_from(image, tile)
         }
-        Asked::Other => printing::misused(b"lindurask: a tile is a number from 0 to 99\n"),
+        Asked::Other => no_tile(),
     }
 }
 

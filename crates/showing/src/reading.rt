@@ -5,6 +5,7 @@ use desk::files;
 use desk::printing;
 use pictures::entries;
 use rules::Node;
+use words::scan;
 use words::text;
 
 // A lawful book's length, or how the command ended.
@@ -57,6 +58,11 @@ pub fn print_counts(image: &[u8]) -> bool {
         &numbers,
     );
     printing::print(&line, n)
+}
+
+// Says what a node is.
+pub fn no_node() -> u8 {
+    printing::misused(b"lindurask: a node is a number, from 0 on\n")
 }
 
 // Says that a book is lawful, or how it is refused.
@@ -126,8 +132,8 @@ fn balance_on(image: &[u8]) -> u8 {
             let head = print_balance_head();
             printing::ended(head && print_balances(image))
         }
-        Asked::One(node) => balance_of_one(image, (node % 256) as u8),
-        Asked::Other => printing::misused(b"lindurask: a node is a number, from 0 on\n"),
+        Asked::One(node) => balance_of_one(image, scan::as_byte(node)),
+        Asked::Other => no_node(),
     }
 }
 
@@ -227,8 +233,8 @@ fn table_on(image: &[u8]) -> u8 {
             let letters = print_letters();
             printing::ended(print_tables(image) & letters)
         }
-        Asked::One(node) => table_of_one(image, (node % 256) as u8),
-        Asked::Other => printing::misused(b"lindurask: a node is a number, from 0 on\n"),
+        Asked::One(node) => table_of_one(image, scan::as_byte(node)),
+        Asked::Other => no_node(),
     }
 }
 

@@ -1,7 +1,7 @@
 -- Decimal numbers as text. Assumes nothing.
 use mathlib.Core.Path.{_≡_}
 use mathlib.Core.List.{List, [], _∷_}
-use Prim.Native.Nat.{ℕ, _+_, _*_, _-_, _≤_, _<_}
+use Prim.Native.Nat.{ℕ, _+_, _*_, _-_, _≤_, _<_, min}
 use lib.ListN.{length, getD}
 use Rattle.words.specs.declared.scan.Number.{Number}
 use Rattle.words.specs.declared.scan.Number.the-variants.{Is, Large, Other}
@@ -29,3 +29,9 @@ abbrev pub Reads : List ℕ → Number → Type 0
 Reads word (Is v) = (0 < length word) × Digits word × (value word ≡ v) × (v < 65536)
 Reads word Large = (0 < length word) × Digits word × (65536 ≤ value word)
 Reads word Other = 0 < length word → Digits word → ⊥
+
+-- a number kept at most `most`
+abbrev pub atMost : Number → ℕ → Number
+atMost (Is v) most = Is (min v most)
+atMost Large most = Is most
+atMost Other most = Other

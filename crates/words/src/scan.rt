@@ -1,16 +1,15 @@
 // The words of a line, and the numbers among them.
 ghost use mathlib.Core.Path.{_≡_};
-ghost use mathlib.Core.Logic.{_⊎_};
 ghost use Prim.Native.Nat.{_+_, _*_, _-_, _<_, _≤_, min};
 ghost use lib.ListN.{length};
 ghost use Rattle.rules.specs.Words.{Tests};
-ghost use Rattle.words.specs.Numbers.{Digit, Reads};
+ghost use Rattle.words.specs.Numbers.{Digit, Reads, atMost};
 ghost use Rattle.words.specs.Text.{FirstFrom};
 use crate::text;
 
-// What a word says as a number.
+// What a word says as a number: one from 0 to 65535, a larger one, or none.
 pub enum Number {
-    Is(u32),
+    Is(u16),
     Large,
     Other,
 }
@@ -67,18 +66,25 @@ pub fn read_number(word: &[u8]) -> Number
     if value == 65536 {
         return Number::Large;
     }
-    Number::Is(value)
+    Number::Is(value as u16)
 }
 
-// The number, and most for one that is larger, where it is one at all; otherwise other.
-pub fn at_most(number: Number, most: u32, other: u32) -> u32
-    ensures { λ r. ⌜ (r ≤ most) ⊎ (r ≡ other) ⌝ }
+// The number, and most for one that is larger; what is no number stays so.
+pub fn at_most(number: Number, most: u16) -> Number
+    ensures { λ r. ⌜ r ≡ atMost number most ⌝ }
 {
     match number {
-        Number::Is(n) => { if n < most { n } else { most } }
-        Number::Large => most,
-        Number::Other => other,
+        Number::Is(n) => Number::Is(if n < most { n } else { most }),
+        Number::Large => Number::Is(most),
+        Number::Other => Number::Other,
     }
+}
+
+// The number as a byte, and 255 for one that is larger.
+pub fn as_byte(n: u16) -> u8
+    ensures { λ r. ⌜ r ≡ min n 255 ⌝ }
+{
+    if n < 255 { n as u8 } else { 255 }
 }
 
 // Whether a byte parts words.

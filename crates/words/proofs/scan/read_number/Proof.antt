@@ -63,4 +63,5 @@ read-number-spec = tie.close (tie.spec
     (λ c. search needs)
     loop-again
     returns-3
+    (λ c. omega (arith, exact (c .before .before .loop .inv) (c .before .loop-test .left) (c .if3 .left) .1))
     returns-4)
