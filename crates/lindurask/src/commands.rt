@@ -1,10 +1,7 @@
 // Which command was asked for.
-use crate::changing;
 use crate::making;
 use desk::arguments;
 use desk::printing;
-use showing::drawing;
-use showing::reading;
 use words::text;
 use words::usage;
 use words::usage::Command;
@@ -26,7 +23,7 @@ pub fn run() -> u8 {
     match command {
         Command::New => making::new(),
         Command::Check => reading::check(),
-        Command::Show => drawing::show(),
+        Command::Show => showing::show(),
         Command::Open => changing::open(),
         Command::Close => changing::close(),
         Command::Table => reading::table(),

@@ -1,5 +1,4 @@
 // The command line of the planner: makes, checks, changes and shows books in files.
-mod changing;
 mod commands;
 mod making;
 

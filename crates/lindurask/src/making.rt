@@ -6,7 +6,6 @@ use desk::printing;
 use drafts::draft;
 use drafts::draft::Draft;
 use drafts::faults;
-use showing::reading;
 use words::scan;
 use words::text;
 

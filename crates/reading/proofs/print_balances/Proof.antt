@@ -1,17 +1,17 @@
 -- The nodes are gone through one by one. Assumes nothing.
 use Prim.Native.Nat.{_-_}
 use borrow.Author.Needs.{needs}
-use Rattle.showing.proofs.drawing.print_rows.Statement.{statement}
-use Rattle.showing.proofs.drawing.print_rows.Tie as tie
+use Rattle.reading.proofs.print_balances.Statement.{statement}
+use Rattle.reading.proofs.print_balances.Tie as tie
 
 abbrev Inv-loop : tie.InvT-loop
-Inv-loop image view all₀ node₀ all node = Unit {0}
+Inv-loop image all₀ node₀ all node = Unit {0}
 
 abbrev μ-loop : tie.MeasureT-loop
-μ-loop image view all₀ node₀ all node = 64 - node
+μ-loop image all₀ node₀ all node = 64 - node
 
-pub print-rows-spec : {M : Type 1} → statement M
-print-rows-spec = tie.close (tie.spec
+pub print-balances-spec : {M : Type 1} → statement M
+print-balances-spec = tie.close (tie.spec
     Inv-loop
     μ-loop
     (λ c. search needs)

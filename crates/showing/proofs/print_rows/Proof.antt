@@ -1,17 +1,17 @@
 -- The nodes are gone through one by one. Assumes nothing.
 use Prim.Native.Nat.{_-_}
 use borrow.Author.Needs.{needs}
-use Rattle.showing.proofs.reading.print_tables.Statement.{statement}
-use Rattle.showing.proofs.reading.print_tables.Tie as tie
+use Rattle.showing.proofs.print_rows.Statement.{statement}
+use Rattle.showing.proofs.print_rows.Tie as tie
 
 abbrev Inv-loop : tie.InvT-loop
-Inv-loop image all₀ node₀ all node = Unit {0}
+Inv-loop image view all₀ node₀ all node = Unit {0}
 
 abbrev μ-loop : tie.MeasureT-loop
-μ-loop image all₀ node₀ all node = 64 - node
+μ-loop image view all₀ node₀ all node = 64 - node
 
-pub print-tables-spec : {M : Type 1} → statement M
-print-tables-spec = tie.close (tie.spec
+pub print-rows-spec : {M : Type 1} → statement M
+print-rows-spec = tie.close (tie.spec
     Inv-loop
     μ-loop
     (λ c. search needs)

@@ -1,8 +1,8 @@
 -- The tiles are printed one by one. Assumes nothing.
 use Prim.Native.Nat.{_-_}
 use borrow.Author.Needs.{needs}
-use Rattle.showing.proofs.drawing.print_plan.Statement.{statement}
-use Rattle.showing.proofs.drawing.print_plan.Tie as tie
+use Rattle.showing.proofs.print_plan.Statement.{statement}
+use Rattle.showing.proofs.print_plan.Tie as tie
 
 abbrev Inv-loop : tie.InvT-loop
 Inv-loop plan n all₀ tiles tile₀ all tile = Unit {0}

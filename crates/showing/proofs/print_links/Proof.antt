@@ -3,8 +3,8 @@ use Prim.Native.Nat.{_-_}
 use lib.ListN.{length}
 use mathlib.Core.Path.{_≡_}
 use borrow.Author.Needs.{needs}
-use Rattle.showing.proofs.drawing.print_links.Statement.{statement}
-use Rattle.showing.proofs.drawing.print_links.Tie as tie
+use Rattle.showing.proofs.print_links.Statement.{statement}
+use Rattle.showing.proofs.print_links.Tie as tie
 
 abbrev Inv-loop : tie.InvT-loop
 Inv-loop image line₀ filled₀ nodes pair₀ line filled pair = length line ≡ 128

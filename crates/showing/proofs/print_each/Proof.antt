@@ -1,8 +1,8 @@
 -- The streams are printed one by one. Assumes nothing.
 use Prim.Native.Nat.{_-_}
 use borrow.Author.Needs.{needs}
-use Rattle.showing.proofs.drawing.print_each.Statement.{statement}
-use Rattle.showing.proofs.drawing.print_each.Tie as tie
+use Rattle.showing.proofs.print_each.Statement.{statement}
+use Rattle.showing.proofs.print_each.Tie as tie
 
 abbrev Inv-loop : tie.InvT-loop
 Inv-loop image count all₀ stream₀ place₀ all stream place = Unit {0}

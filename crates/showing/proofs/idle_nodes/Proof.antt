@@ -1,8 +1,8 @@
 -- The nodes are counted one by one. Assumes nothing.
 use Prim.Native.Nat.{_-_, _≤_}
 use borrow.Author.Needs.{needs}
-use Rattle.showing.proofs.drawing.idle_nodes.Statement.{statement}
-use Rattle.showing.proofs.drawing.idle_nodes.Tie as tie
+use Rattle.showing.proofs.idle_nodes.Statement.{statement}
+use Rattle.showing.proofs.idle_nodes.Tie as tie
 
 abbrev Inv-loop : tie.InvT-loop
 Inv-loop image idle₀ node₀ idle node = idle ≤ node

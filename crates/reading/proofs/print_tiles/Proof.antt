@@ -1,8 +1,8 @@
 -- The tiles are printed one by one. Assumes nothing.
 use Prim.Native.Nat.{_-_}
 use borrow.Author.Needs.{needs}
-use Rattle.showing.proofs.reading.print_tiles.Statement.{statement}
-use Rattle.showing.proofs.reading.print_tiles.Tie as tie
+use Rattle.reading.proofs.print_tiles.Statement.{statement}
+use Rattle.reading.proofs.print_tiles.Tie as tie
 
 abbrev Inv-loop : tie.InvT-loop
 Inv-loop table slots width all₀ tile₀ all tile = Unit {0}

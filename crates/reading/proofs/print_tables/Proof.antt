@@ -1,8 +1,8 @@
 -- The nodes are gone through one by one. Assumes nothing.
 use Prim.Native.Nat.{_-_}
 use borrow.Author.Needs.{needs}
-use Rattle.showing.proofs.reading.print_balances.Statement.{statement}
-use Rattle.showing.proofs.reading.print_balances.Tie as tie
+use Rattle.reading.proofs.print_tables.Statement.{statement}
+use Rattle.reading.proofs.print_tables.Tie as tie
 
 abbrev Inv-loop : tie.InvT-loop
 Inv-loop image all₀ node₀ all node = Unit {0}
@@ -10,8 +10,8 @@ Inv-loop image all₀ node₀ all node = Unit {0}
 abbrev μ-loop : tie.MeasureT-loop
 μ-loop image all₀ node₀ all node = 64 - node
 
-pub print-balances-spec : {M : Type 1} → statement M
-print-balances-spec = tie.close (tie.spec
+pub print-tables-spec : {M : Type 1} → statement M
+print-tables-spec = tie.close (tie.spec
     Inv-loop
     μ-loop
     (λ c. search needs)

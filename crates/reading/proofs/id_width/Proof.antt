@@ -1,7 +1,7 @@
 -- The streams are walked one by one. Assumes nothing.
 use borrow.Author.Needs.{needs}
-use Rattle.showing.proofs.reading.id_width.Statement.{statement}
-use Rattle.showing.proofs.reading.id_width.Tie as tie
+use Rattle.reading.proofs.id_width.Statement.{statement}
+use Rattle.reading.proofs.id_width.Tie as tie
 
 abbrev Inv-loop : tie.InvT-loop
 Inv-loop image stream₀ left₀ stream left = Unit {0}
