@@ -2,11 +2,9 @@
 ghost use mathlib.Core.Path.{_≡_};
 ghost use Prim.Native.Nat.{_+_, _≤_};
 ghost use lib.ListN.{length};
-ghost use Rattle.calls.specs.Streams.{Within, Refilled};
+ghost use Rattle.engine.specs.Streams.{Within, Refilled};
 use libc::STDIN_FILENO;
 use libc::STDOUT_FILENO;
-
-mod frame;
 
 // The most frames of a run.
 const FRAMES: u64 = 4_000_000;
@@ -89,13 +87,13 @@ fn answer(frame: &[u8], answers: &mut [u8], held: usize) -> usize
     requires { ⌜ (19 ≤ length (now frame)) × (held ≤ length (now answers)) × (16397 ≤ length (now answers)) ⌝ }
     ensures { λ r. ⌜ r ≤ length (now (answers .entry)) ⌝ }
 {
-    let room = frame::room(frame);
-    let start = make_room(answers, held, frame::REPLY + room);
-    let at = start + frame::REPLY;
+    let room = frames::room(frame);
+    let start = make_room(answers, held, frames::REPLY + room);
+    let at = start + frames::REPLY;
     let end = at + room;
-    frame::fill(frame, &mut answers[at..end]);
-    let reply = frame::call(frame, &mut answers[at..end]);
-    frame::put_reply(&mut answers[start..at], reply);
+    frames::fill(frame, &mut answers[at..end]);
+    let reply = frames::call(frame, &mut answers[at..end]);
+    frames::put_reply(&mut answers[start..at], reply);
     end
 }
 
@@ -116,14 +114,14 @@ fn turn(input: &mut [u8], answers: &mut [u8], s: Streams) -> Streams
     requires { ⌜ Within (now input) (now answers) s × (16397 ≤ length (now answers)) ⌝ }
     ensures { λ r. ⌜ Within (now (input .entry)) (now (answers .entry)) r ⌝ }
 {
-    let head = supply(input, answers, s, frame::HEAD);
+    let head = supply(input, answers, s, frames::HEAD);
     let start = head.start;
     let end = head.end;
-    if end - start < frame::HEAD {
+    if end - start < frames::HEAD {
         return head;
     }
-    let size = frame::size(&input[start..end]);
-    if size < frame::HEAD {
+    let size = frames::size(&input[start..end]);
+    if size < frames::HEAD {
         return ended(head);
     }
     let whole = supply(input, answers, head, size);

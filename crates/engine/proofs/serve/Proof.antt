@@ -2,9 +2,9 @@
 use borrow.Author.Needs.{needs}
 use mathlib.Core.Path.{_≡_}
 use lib.ListN.{length}
-use Rattle.calls.specs.Streams.{Within}
-use Rattle.calls.proofs.serve.Statement.{statement}
-use Rattle.calls.proofs.serve.Tie as tie
+use Rattle.engine.specs.Streams.{Within}
+use Rattle.engine.proofs.serve.Statement.{statement}
+use Rattle.engine.proofs.serve.Tie as tie
 
 abbrev Inv-loop : tie.InvT-loop
 Inv-loop input₀ answers₀ streams₀ frames₀ input answers streams frames = Within input answers streams × (length input ≡ length input₀) × (length answers ≡ length answers₀)

@@ -3,8 +3,8 @@ use native.Mathlib.Omega.{arith}
 use mathlib.Core.Path.{sym}
 use lib.Seq.{length-take-le}
 use borrow.Author.Needs.{needs}
-use Rattle.calls.proofs.main.Statement.{statement}
-use Rattle.calls.proofs.main.Tie as tie
+use Rattle.engine.proofs.main.Statement.{statement}
+use Rattle.engine.proofs.main.Tie as tie
 
 large-buffer-requires : tie.Need-large-buffer-requires
 large-buffer-requires c κs = search needs

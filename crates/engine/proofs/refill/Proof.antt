@@ -4,8 +4,8 @@ use borrow.Author.Needs.{needs}
 use borrow.Author.Tests.{ltb-true}
 use mathlib.Core.Path.{sym}
 use lib.Seq.{length-take-le}
-use Rattle.calls.proofs.refill.Statement.{statement}
-use Rattle.calls.proofs.refill.Tie as tie
+use Rattle.engine.proofs.refill.Statement.{statement}
+use Rattle.engine.proofs.refill.Tie as tie
 
 slice-aggregate-write-all : tie.Need-slice-aggregate-write-all
 slice-aggregate-write-all c = sym (length-take-le _ _ (omega arith))

@@ -3,8 +3,8 @@ use native.Mathlib.Omega.{arith}
 use borrow.Author.Needs.{needs}
 use mathlib.Core.Path.{sym}
 use lib.Seq.{length-take-le}
-use Rattle.calls.proofs.make_room.Statement.{statement}
-use Rattle.calls.proofs.make_room.Tie as tie
+use Rattle.engine.proofs.make_room.Statement.{statement}
+use Rattle.engine.proofs.make_room.Tie as tie
 
 slice-aggregate-write-all : tie.Need-slice-aggregate-write-all
 slice-aggregate-write-all c = sym (length-take-le _ _ (omega arith))

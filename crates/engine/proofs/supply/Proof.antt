@@ -5,9 +5,9 @@ use borrow.Author.Tests.{not-false}
 use Prim.Native.Nat.{_-_}
 use mathlib.Core.Path.{_≡_, refl}
 use lib.ListN.{length}
-use Rattle.calls.specs.Streams.{Within}
-use Rattle.calls.proofs.supply.Statement.{statement}
-use Rattle.calls.proofs.supply.Tie as tie
+use Rattle.engine.specs.Streams.{Within}
+use Rattle.engine.proofs.supply.Statement.{statement}
+use Rattle.engine.proofs.supply.Tie as tie
 
 abbrev Inv-loop : tie.InvT-loop
 Inv-loop input₀ answers need streams₀ input streams = Within input₀ answers streams × (length input ≡ length input₀)

@@ -4,7 +4,7 @@ use mathlib.Core.List.{List}
 use mathlib.Core.Path.{_≡_}
 use Prim.Native.Nat.{ℕ, _+_, _<_, _≤_}
 use lib.ListN.{length}
-use Rattle.calls.specs.declared.Streams.{Streams}
+use Rattle.engine.specs.declared.Streams.{Streams}
 
 -- both lie within their buffers
 pub record Within (input answers : List ℕ) (s : Streams) : Type 0 where
