@@ -88,9 +88,7 @@ pub fn lock(file: &File) -> io::Result<bool> {
 /// Gives a file without a name this name; never replaces another file.
 pub fn give_name(file: &File, name: &CStr) -> io::Result<()> {
     let unnamed = CString::new(format!("/proc/self/fd/{}", file.as_raw_fd()))?;
-    done(unsafe {
-        linkat(AT_FDCWD, unnamed.as_ptr(), AT_FDCWD, name.as_ptr(), AT_SYMLINK_FOLLOW)
-    })
+    done(unsafe { linkat(AT_FDCWD, unnamed.as_ptr(), AT_FDCWD, name.as_ptr(), AT_SYMLINK_FOLLOW) })
 }
 
 /// Renames a file, where the new name is free.

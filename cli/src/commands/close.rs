@@ -1,0 +1,48 @@
+//! Closes a stream.
+
+use super::{Command, Report};
+use crate::book::Stream;
+use crate::describe;
+use crate::engine::Engine;
+use crate::files::Held;
+use crate::frame;
+use crate::loaded::{accepted, decode, is_of_book};
+use crate::text::{count, plain};
+use crate::trouble::Trouble;
+use crate::words::Words;
+
+pub const CLOSE: Command = Command {
+    name: "close",
+    operands: "BOOK ID",
+    takes: [2, 2],
+    choices: &[],
+    summary: "close a stream",
+    explains: "Closes the stream, and says what it gives back. No other stream changes.",
+    example: "lindurask close kiln.book 7",
+    run,
+};
+
+/// What was closed and what it gives back.
+fn closed(stream: &Stream) -> String {
+    let slots = count(stream.repeats(), "slot");
+    let hops = count(stream.hops() as u64, "hop");
+    describe::stream("closed ", stream)
+        + &format!("     gives back {slots} in a cycle for each of {hops}\n")
+}
+
+fn run(words: &Words) -> Result<Report, Trouble> {
+    let id = words.id(1)?;
+    let mut engine = Engine::start()?;
+    let held = Held::open(&words.operands[0])?;
+    let answer = engine.ask(frame::close(&held.bytes, id))?;
+    let about = if is_of_book(answer.number) { plain(words.path(0)) } else { format!("id {id}") };
+    let bytes = accepted(answer, about)?.bytes;
+    let (before, after) = (decode(&held.bytes)?, decode(&bytes)?);
+    engine.finish()?;
+    let stream = before.stream(id).filter(|_| after.stream(id).is_none());
+    let text = stream
+        .map(closed)
+        .ok_or_else(|| Trouble::Failed("the engine closed another stream".into()))?;
+    held.replace(&bytes)?;
+    Ok(Report { text, changed: true, ..Report::default() })
+}

@@ -1,0 +1,90 @@
+//! The commands: how each is written, what it says of itself, and what it does.
+
+mod balance;
+mod check;
+mod close;
+mod help;
+mod new;
+mod open;
+mod page;
+mod quote;
+mod replan;
+mod show;
+mod table;
+
+use crate::trouble::Trouble;
+use crate::words::{Choice, Words};
+
+/// What a command that is done prints, and how it ends.
+#[derive(Default)]
+pub struct Report {
+    pub text: String,
+    pub warnings: Vec<String>,
+    /// A file was made or changed.
+    pub changed: bool,
+    /// The answer is no, and was given in full.
+    pub refused: bool,
+}
+
+impl From<String> for Report {
+    fn from(text: String) -> Report {
+        Report { text, ..Report::default() }
+    }
+}
+
+pub struct Command {
+    pub name: &'static str,
+    pub operands: &'static str,
+    /// The fewest and the most operands.
+    pub takes: [usize; 2],
+    pub choices: &'static [Choice],
+    pub summary: &'static str,
+    pub explains: &'static str,
+    pub example: &'static str,
+    pub run: fn(&Words) -> Result<Report, Trouble>,
+}
+
+/// All commands, in the order in which help lists them.
+pub const COMMANDS: [Command; 11] = [
+    new::NEW,
+    check::CHECK,
+    show::SHOW,
+    open::OPEN,
+    close::CLOSE,
+    quote::QUOTE,
+    table::TABLE,
+    balance::BALANCE,
+    replan::REPLAN,
+    page::PAGE,
+    help::HELP,
+];
+
+/// The command of this name.
+pub fn named(name: &std::ffi::OsStr) -> Option<&'static Command> {
+    const ALL: &[Command] = &COMMANDS;
+    ALL.iter().find(|command| name == command.name)
+}
+
+impl Command {
+    /// How it is written.
+    pub fn usage(&self) -> String {
+        let mut said = format!("lindurask {} {}", self.name, self.operands);
+        for choice in self.choices {
+            match choice.value {
+                Some(value) => said += &format!(" [{} {value}]", choice.name),
+                None => said += &format!(" [{}]", choice.name),
+            }
+        }
+        said
+    }
+
+    /// What it says of itself.
+    pub fn explained(&self) -> String {
+        format!("{}\n{}\n\nExample: {}\n", self.usage(), self.explains, self.example)
+    }
+
+    /// Says how it is written, to one who wrote it otherwise.
+    pub fn misused(&self) -> Trouble {
+        Trouble::Misused(format!("usage: {}", self.usage()))
+    }
+}

@@ -1,0 +1,80 @@
+//! Makes a book from a plan in words.
+
+use super::{Command, Report};
+use crate::describe;
+use crate::engine::Engine;
+use crate::files;
+use crate::frame;
+use crate::loaded::decode;
+use crate::plan::{Fault, Plan};
+use crate::text::plain;
+use crate::trouble::Trouble;
+use crate::words::Words;
+use std::path::Path;
+
+pub const NEW: Command = Command {
+    name: "new",
+    operands: "BOOK PLAN",
+    takes: [2, 2],
+    choices: &[],
+    summary: "make a book from a plan in words",
+    explains: "\
+Makes the book of a site without streams, from a plan in words. PLAN is a file,
+or - for standard input. A file that is there already is never replaced.
+The plan has a line for each of these; # starts a comment:
+
+  slots 4          slots in a tile, 1 to 32
+  tiles down up    the plan's tiles in turn: 1, 2, 4, 5 or 10 of them
+  control 2 1      control slots of a downlink and of an uplink tile
+  nodes 4          nodes of the site, 2 to 64, numbered from 0
+  link 0 1         a link; one line for each",
+    example: "lindurask new kiln.book kiln.plan",
+    run,
+};
+
+/// Says what is wrong with a plan, and in which line.
+fn said_of(path: &Path, fault: &Fault) -> String {
+    let name = if path == Path::new("-") { "standard input".into() } else { plain(path) };
+    match fault.line {
+        0 => format!("{name}: {}", fault.words),
+        line => format!("{name}, line {line}: {}", fault.words),
+    }
+}
+
+/// A refusal of a plan, with the line that it is about.
+fn refused(path: &Path, plan: &Plan, number: u8) -> Trouble {
+    match plan.explain(number) {
+        None => Trouble::refused(number, plain(path)),
+        Some(Fault { line, words }) => {
+            let about = said_of(path, &Fault { line, words: String::new() });
+            let about = about.trim_end_matches([':', ' ']).to_string();
+            Trouble::Refused { number, about, words: Some(words) }
+        }
+    }
+}
+
+/// Reads a plan, and has the engine make the bytes of its book.
+pub fn planned(engine: &mut Engine, path: &Path) -> Result<Vec<u8>, Trouble> {
+    let plan = Plan::read(&files::read_plan(path)?);
+    let plan = plan.map_err(|fault| Trouble::Misused(said_of(path, &fault)))?;
+    let answer = engine.ask(frame::new(&plan.site()))?;
+    match answer.number {
+        0 => Ok(answer.bytes),
+        number => Err(refused(path, &plan, number)),
+    }
+}
+
+/// A line for each node that no link reaches.
+pub fn warnings(book: &crate::book::Book) -> Vec<String> {
+    book.cut_off().map(|node| format!("warning: node {node} has no link")).collect()
+}
+
+fn run(words: &Words) -> Result<Report, Trouble> {
+    let mut engine = Engine::start()?;
+    let bytes = planned(&mut engine, words.path(1))?;
+    let book = decode(&bytes)?;
+    engine.finish()?;
+    files::make(words.path(0), &bytes)?;
+    let text = format!("made: {}", describe::counts(&book));
+    Ok(Report { text, warnings: warnings(&book), changed: true, ..Report::default() })
+}

@@ -1,0 +1,40 @@
+//! Draws a book as a page for a browser.
+
+use super::{Command, Report};
+use crate::files;
+use crate::loaded::Loaded;
+use crate::page::page;
+use crate::text::plain;
+use crate::trouble::Trouble;
+use crate::words::Words;
+
+pub const PAGE: Command = Command {
+    name: "page",
+    operands: "BOOK [FILE]",
+    takes: [1, 2],
+    choices: &[],
+    summary: "draw a book as a page for a browser",
+    explains: "\
+Draws the book as one HTML page: the site and its routes, the slots of the
+cycle, the streams, and what each node has left. The page goes to FILE, or to
+standard output. A file that is there already is never replaced.",
+    example: "lindurask page kiln.book kiln.html",
+    run,
+};
+
+fn run(words: &Words) -> Result<Report, Trouble> {
+    let path = words.path(0);
+    let mut loaded = Loaded::read(path)?;
+    let nodes = loaded.nodes(None)?;
+    let balances = loaded.balances(&nodes)?;
+    loaded.engine.finish()?;
+    let title = plain(path.file_name().unwrap_or(path.as_os_str()));
+    let drawn = page(&title, &loaded.book, &balances);
+    if words.operands.len() < 2 {
+        return Ok(drawn.into());
+    }
+    let file = words.path(1);
+    files::make(file, drawn.as_bytes())?;
+    let text = format!("made: {}\n", plain(file));
+    Ok(Report { text, changed: true, ..Report::default() })
+}

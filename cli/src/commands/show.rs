@@ -1,0 +1,179 @@
+//! Draws a book for a person.
+
+use super::{Command, Report};
+use crate::book::{Balance, Book, CYCLE};
+use crate::colour::Colour;
+use crate::describe;
+use crate::frame;
+use crate::json;
+use crate::loaded::{accepted, Loaded};
+use crate::picture::{label, Picture};
+use crate::text::{count, row};
+use crate::trouble::Trouble;
+use crate::words::{Words, JSON, NODE, NO_LISTS, STREAM};
+
+pub const SHOW: Command = Command {
+    name: "show",
+    operands: "BOOK [TILE]",
+    takes: [1, 2],
+    choices: &[STREAM, NODE, NO_LISTS, JSON],
+    summary: "draw a book: plan, links, streams, slots",
+    explains: "\
+Draws the book: its plan, its links, its streams with period, route, offsets
+and latency, and for each node that carries a stream a row of slots. The
+picture starts at tile 0, or at TILE, and stops where it repeats or is full.
+With --stream only that stream and the nodes of its route are shown, with --node
+only that node and the streams through it, with --no-lists only the picture.",
+    example: "lindurask show kiln.book --stream 7",
+    run,
+};
+
+/// What is to be shown of a book.
+enum Part {
+    All,
+    Stream(u16),
+    Node(u8),
+}
+
+/// The part that was asked for, which the engine says is there.
+fn part(words: &Words, loaded: &mut Loaded) -> Result<Part, Trouble> {
+    if let Some(id) = words.chosen_stream()? {
+        let answer = loaded.engine.ask(frame::close(&loaded.bytes, id))?;
+        accepted(answer, format!("id {id}"))?;
+        return Ok(Part::Stream(id));
+    }
+    if let Some(node) = words.chosen_node()? {
+        loaded.nodes(Some(node))?;
+        return Ok(Part::Node(node.node()));
+    }
+    Ok(Part::All)
+}
+
+impl Part {
+    /// The places of the streams that are part of it.
+    fn streams<'a>(&'a self, book: &'a Book) -> impl Iterator<Item = usize> + 'a {
+        (0..book.streams.len()).filter(move |&place| match self {
+            Part::All => true,
+            Part::Stream(id) => book.streams[place].id == *id,
+            Part::Node(node) => book.streams[place].passes(*node),
+        })
+    }
+
+    /// The node has a row in the picture.
+    fn has_row(&self, book: &Book, node: u8, balance: &Balance) -> bool {
+        match self {
+            Part::All => balance.used != 0,
+            Part::Stream(id) => book.stream(*id).is_some_and(|stream| stream.passes(node)),
+            Part::Node(own) => node == *own,
+        }
+    }
+}
+
+fn plan(book: &Book, colour: Colour) -> String {
+    let title = format!(
+        "Plan: {} a tile, {}; # is a control slot, . a data slot",
+        count(book.slots, "slot"),
+        count(book.tiles, "tile")
+    );
+    let tile = |tile: u16| {
+        let kind = if book.is_down(tile) { "downlink" } else { "uplink" };
+        let control = usize::from(book.control(tile));
+        let data = usize::from(book.slots) - control;
+        format!("  tile {tile}  {kind:<8}  {}{}\n", "#".repeat(control), ".".repeat(data))
+    };
+    let tiles: String = (0..book.tiles.into()).map(tile).collect();
+    format!("\n{}\n{tiles}", colour.title(&title))
+}
+
+/// Words in lines, or that there is nothing.
+fn or_none(lines: String) -> String {
+    if lines.trim().is_empty() {
+        return "  none\n".into();
+    }
+    lines
+}
+
+fn links(book: &Book, colour: Colour) -> String {
+    let pairs = book.pairs().map(|(a, b)| format!("{a}-{b}"));
+    format!("\n{}\n{}", colour.title("Links"), or_none(row(" ", pairs)))
+}
+
+fn streams(book: &Book, part: &Part, colour: Colour) -> String {
+    let stream = |place: usize| {
+        let letters = format!("{:<3}", label(book, place));
+        let before = format!("  {}", colour.stream(Some(place), &letters));
+        describe::stream(&before, &book.streams[place])
+    };
+    format!("\n{}\n{}", colour.title("Streams"), or_none(part.streams(book).map(stream).collect()))
+}
+
+/// A node's links and balance.
+fn node(book: &Book, node: u8, balance: Balance, colour: Colour) -> String {
+    let Balance { data, used, free } = balance;
+    let title = colour.title(&format!("Node {node}"));
+    let links = or_none(row("  linked to", book.neighbours(node)));
+    format!("\n{title}\n{links}  data {data}, used {used}, free {free}\n")
+}
+
+/// The lists above the picture.
+fn lists(book: &Book, part: &Part, balances: &[Balance], colour: Colour) -> String {
+    let head = match part {
+        Part::All => plan(book, colour) + &links(book, colour),
+        Part::Stream(_) => String::new(),
+        Part::Node(own) => node(book, *own, balances[usize::from(*own)], colour),
+    };
+    head + &streams(book, part, colour)
+}
+
+/// The nodes that have no row because they carry no stream.
+fn idle(part: &Part, balances: &[Balance]) -> String {
+    let idle = balances.iter().filter(|balance| balance.used == 0).count() as u64;
+    match part {
+        Part::All if idle != 0 => {
+            format!("  Left out: {} without a stream.\n", count(idle, "node"))
+        }
+        _ => String::new(),
+    }
+}
+
+fn in_json(book: &Book, part: &Part) -> String {
+    let pairs = book.pairs().map(|(a, b)| json::array([a, b]));
+    let streams = part.streams(book).map(|place| json::stream(&book.streams[place]));
+    json::answer([
+        ("version", book.version.to_string()),
+        ("plan", json::plan(book)),
+        ("nodes", book.nodes().to_string()),
+        ("links", json::array(pairs)),
+        ("streams", json::array(streams)),
+    ])
+}
+
+fn run(words: &Words) -> Result<Report, Trouble> {
+    let from = words.tile_if(1, CYCLE)?.unwrap_or(0);
+    if words.has(&STREAM) && words.has(&NODE) {
+        return Err(SHOW.misused());
+    }
+    let mut loaded = Loaded::read(words.path(0))?;
+    let part = part(words, &mut loaded)?;
+    let nodes = loaded.nodes(None)?;
+    let balances = loaded.balances(&nodes)?;
+    let tables = loaded.tables(&nodes)?;
+    loaded.engine.finish()?;
+    let book = &loaded.book;
+    if words.has(&JSON) {
+        return Ok(in_json(book, &part).into());
+    }
+    let colour = Colour::for_output();
+    let rows = nodes.iter().zip(&tables).zip(&balances);
+    let rows = rows.filter(|((&node, _), balance)| part.has_row(book, node, balance));
+    let rows = rows.map(|((&node, table), _)| (node, table.as_slice())).collect();
+    let picture = Picture { book, rows, from, colour };
+    let mut text = describe::counts(book);
+    if !words.has(&NO_LISTS) {
+        text += &lists(book, &part, &balances, colour);
+    }
+    text += &picture.draw();
+    text += &idle(&part, &balances);
+    text += &picture.rest();
+    Ok(text.into())
+}

@@ -1,0 +1,151 @@
+//! Frames: what is put to the engine and what it answers, as bytes. All numbers are big-endian.
+
+/// Bytes of a request before its book or topology.
+const REQUEST_HEAD: usize = 19;
+/// Bytes of an answer before its output buffer.
+pub const ANSWER_HEAD: usize = 13;
+/// The longest run of bytes that a request carries.
+pub const MOST_BYTES: usize = 4096;
+/// What every byte of an output buffer is before the call.
+const FILL: u8 = 0xA5;
+/// Room for any book.
+const BOOK_ROOM: u16 = 4096;
+/// Bytes of a table's entry: an operation and a stream's id.
+pub const ENTRY: usize = 3;
+/// Room for the table of 32 slots in each of 100 tiles.
+const TABLE_ROOM: u16 = 9600;
+
+/// The calls that are put, by their number.
+#[derive(Clone, Copy, PartialEq, Eq)]
+#[repr(u8)]
+enum Call {
+    New = 0,
+    Check = 1,
+    Open = 3,
+    Close = 4,
+    Expand = 5,
+    Balance = 6,
+    End = 255,
+}
+
+/// What a new book is made from.
+pub struct Site {
+    pub slots: u8,
+    pub tiles: u8,
+    pub kinds: u16,
+    pub down: u8,
+    pub up: u8,
+    pub nodes: u8,
+    /// A row of neighbours for each node, as in a book.
+    pub links: Vec<u8>,
+}
+
+/// What an open asks for.
+#[derive(Clone, Copy)]
+pub struct Wish {
+    pub id: u16,
+    pub source: u8,
+    pub destination: u8,
+    pub period: u16,
+}
+
+/// A call in bytes, and the room that it gives for the answer.
+pub struct Request {
+    pub bytes: Vec<u8>,
+    pub room: usize,
+}
+
+/// What a call gave back.
+pub struct Answer {
+    /// 0, or why it was refused.
+    pub number: u8,
+    /// The length and two zeros, or data, used and free.
+    pub counts: [u32; 3],
+    /// What was written.
+    pub bytes: Vec<u8>,
+}
+
+/// A call with all its fields 0 and these bytes behind them.
+fn blank(call: Call, bytes: &[u8], room: u16) -> Request {
+    let mut head = vec![0; REQUEST_HEAD];
+    head[0] = call as u8;
+    head[14..16].copy_from_slice(&(bytes.len() as u16).to_be_bytes());
+    head[16..18].copy_from_slice(&room.to_be_bytes());
+    head[18] = FILL;
+    head.extend(bytes);
+    Request { bytes: head, room: room.into() }
+}
+
+pub fn new(site: &Site) -> Request {
+    let mut request = blank(Call::New, &site.links, BOOK_ROOM);
+    let head = &mut request.bytes;
+    head[7..9].copy_from_slice(&[site.slots, site.tiles]);
+    head[9..11].copy_from_slice(&site.kinds.to_be_bytes());
+    head[11..14].copy_from_slice(&[site.down, site.up, site.nodes]);
+    request
+}
+
+pub fn check(book: &[u8]) -> Request {
+    blank(Call::Check, book, 0)
+}
+
+pub fn open(book: &[u8], wish: Wish) -> Request {
+    let mut request = blank(Call::Open, book, BOOK_ROOM);
+    let head = &mut request.bytes;
+    head[1..3].copy_from_slice(&wish.id.to_be_bytes());
+    head[3..5].copy_from_slice(&[wish.source, wish.destination]);
+    head[5..7].copy_from_slice(&wish.period.to_be_bytes());
+    request
+}
+
+pub fn close(book: &[u8], id: u16) -> Request {
+    let mut request = blank(Call::Close, book, BOOK_ROOM);
+    request.bytes[1..3].copy_from_slice(&id.to_be_bytes());
+    request
+}
+
+pub fn expand(book: &[u8], node: u8) -> Request {
+    let mut request = blank(Call::Expand, book, TABLE_ROOM);
+    request.bytes[3] = node;
+    request
+}
+
+pub fn balance(book: &[u8], node: u8) -> Request {
+    let mut request = blank(Call::Balance, book, 0);
+    request.bytes[3] = node;
+    request
+}
+
+/// The frame that ends the stream.
+pub fn end() -> Request {
+    let mut bytes = vec![0; REQUEST_HEAD];
+    bytes[0] = Call::End as u8;
+    Request { bytes, room: 0 }
+}
+
+impl Request {
+    fn is(&self, call: Call) -> bool {
+        self.bytes[0] == call as u8
+    }
+
+    /// Reads the answer to this request; none where the bytes cannot be one.
+    pub fn read(&self, head: &[u8; ANSWER_HEAD], mut out: Vec<u8>) -> Option<Answer> {
+        let count = |at: usize| u32::from_be_bytes(head[at..at + 4].try_into().expect("four"));
+        let answer =
+            Answer { number: head[0], counts: [count(1), count(5), count(9)], bytes: vec![] };
+        let length = if self.is(Call::Balance) { 0 } else { answer.counts[0] as usize };
+        let told = answer.number == 0 || answer.counts == [0; 3];
+        let others = self.is(Call::Balance) || answer.counts[1..] == [0; 2];
+        let known = crate::refusals::words(answer.number).is_some();
+        if !told
+            || !others
+            || !known
+            || out.len() < length
+            || out[length..].iter().any(|&b| b != FILL)
+        {
+            return None;
+        }
+        out.truncate(length);
+        Some(Answer { bytes: out, ..answer })
+    }
+}

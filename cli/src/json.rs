@@ -1,0 +1,96 @@
+//! Answers for programs, in JSON.
+
+use crate::book::{Balance, Book, Stream};
+use crate::trouble::{meaning, Trouble};
+use std::fmt::Display;
+
+/// A text in quotes.
+pub fn string(text: &str) -> String {
+    let mut said = String::from('"');
+    for c in text.chars() {
+        match c {
+            '"' | '\\' => said.extend(['\\', c]),
+            c if c.is_control() => said.push_str(&format!("\\u{:04x}", c as u32)),
+            c => said.push(c),
+        }
+    }
+    said.push('"');
+    said
+}
+
+/// Values in a row.
+pub fn array(values: impl IntoIterator<Item = impl Display>) -> String {
+    let values: Vec<String> = values.into_iter().map(|value| value.to_string()).collect();
+    format!("[{}]", values.join(","))
+}
+
+/// Values by name.
+pub fn object<'a>(fields: impl IntoIterator<Item = (&'a str, String)>) -> String {
+    let field = |(name, value): (&str, String)| format!("{}:{value}", string(name));
+    let fields: Vec<String> = fields.into_iter().map(field).collect();
+    format!("{{{}}}", fields.join(","))
+}
+
+/// How many nodes, streams and hops a book has.
+pub fn counts(book: &Book) -> Vec<(&'static str, String)> {
+    vec![
+        ("version", book.version.to_string()),
+        ("nodes", book.nodes().to_string()),
+        ("streams", book.streams.len().to_string()),
+        ("hops", book.hops().to_string()),
+    ]
+}
+
+/// A stream's route, offsets and latency.
+pub fn way(stream: &Stream) -> Vec<(&'static str, String)> {
+    vec![
+        ("route", array(&stream.nodes)),
+        ("offsets", array(&stream.offsets)),
+        ("latency", stream.latency().to_string()),
+    ]
+}
+
+pub fn stream(stream: &Stream) -> String {
+    let head = [("id", stream.id.to_string()), ("period", stream.period.to_string())];
+    object(head.into_iter().chain(way(stream)))
+}
+
+pub fn plan(book: &Book) -> String {
+    let kind = |tile| string(if book.is_down(tile) { "down" } else { "up" });
+    let control = object([("down", book.down.to_string()), ("up", book.up.to_string())]);
+    object([
+        ("slots", book.slots.to_string()),
+        ("tiles", array((0..book.tiles.into()).map(kind))),
+        ("control", control),
+    ])
+}
+
+pub fn balance(node: u8, balance: Balance) -> String {
+    object([
+        ("node", node.to_string()),
+        ("data", balance.data.to_string()),
+        ("used", balance.used.to_string()),
+        ("free", balance.free.to_string()),
+    ])
+}
+
+/// A refusal's number and words.
+pub fn refusal(number: u8, words: &str) -> Vec<(&'static str, String)> {
+    vec![("refused", number.to_string()), ("words", string(words))]
+}
+
+/// The object that stands for an answer that is a refusal; none for other trouble.
+pub fn trouble(trouble: &Trouble) -> Option<String> {
+    let Trouble::Refused { number, about, words } = trouble else { return None };
+    let words = words.as_deref().unwrap_or_else(|| meaning(*number));
+    let mut fields = refusal(*number, words);
+    if !about.is_empty() {
+        fields.push(("about", string(about)));
+    }
+    Some(object(fields) + "\n")
+}
+
+/// A whole answer: one object in a line.
+pub fn answer<'a>(fields: impl IntoIterator<Item = (&'a str, String)>) -> String {
+    object(fields) + "\n"
+}

@@ -1,0 +1,84 @@
+//! A book that the engine called lawful, with the engine still there to be asked.
+
+use crate::book::{Balance, Book, CYCLE};
+use crate::engine::Engine;
+use crate::files;
+use crate::frame::{self, Answer, Request};
+use crate::table::{self, Entry};
+use crate::text::plain;
+use crate::trouble::Trouble;
+use std::path::Path;
+
+pub struct Loaded {
+    pub bytes: Vec<u8>,
+    pub book: Book,
+    pub engine: Engine,
+}
+
+/// What the engine gave, or its refusal.
+pub fn accepted(answer: Answer, about: impl Into<String>) -> Result<Answer, Trouble> {
+    match answer.number {
+        0 => Ok(answer),
+        number => Err(Trouble::refused(number, about)),
+    }
+}
+
+/// The engine called bytes good that cannot be read here.
+fn unreadable() -> Trouble {
+    Trouble::Failed("the engine says what is no answer; nothing is changed".into())
+}
+
+/// Reads bytes that the engine gave or called lawful.
+pub fn decode(bytes: &[u8]) -> Result<Book, Trouble> {
+    Book::decode(bytes).ok_or_else(unreadable)
+}
+
+/// A refusal is about the book itself and not about what was asked of it.
+pub fn is_of_book(number: u8) -> bool {
+    matches!(number, 10 | 11 | 13..=16)
+}
+
+impl Loaded {
+    /// Reads the book of this name, and has it checked.
+    pub fn read(path: &Path) -> Result<Loaded, Trouble> {
+        let mut engine = Engine::start()?;
+        let bytes = files::read_book(path)?;
+        let answer = engine.ask(frame::check(&bytes))?;
+        accepted(answer, plain(path))?;
+        let book = decode(&bytes)?;
+        Ok(Loaded { bytes, book, engine })
+    }
+
+    /// The nodes that were asked for: one, or all. The engine says whether the site has that one.
+    pub fn nodes(&mut self, one: Option<crate::words::Number>) -> Result<Vec<u8>, Trouble> {
+        let Some(number) = one else { return Ok((0..self.book.nodes()).collect()) };
+        let answer = self.engine.ask(frame::balance(&self.bytes, number.node()))?;
+        accepted(answer, format!("node {}", number.0))?;
+        Ok(vec![number.node()])
+    }
+
+    /// Asks the same of several nodes.
+    fn ask_of(
+        &mut self,
+        nodes: &[u8],
+        request: fn(&[u8], u8) -> Request,
+    ) -> Result<Vec<Answer>, Trouble> {
+        let requests: Vec<_> = nodes.iter().map(|&node| request(&self.bytes, node)).collect();
+        let answers = self.engine.ask_all(&requests)?;
+        answers.into_iter().map(|answer| accepted(answer, "")).collect()
+    }
+
+    pub fn balances(&mut self, nodes: &[u8]) -> Result<Vec<Balance>, Trouble> {
+        let balance = |answer: Answer| {
+            let [data, used, free] = answer.counts;
+            Balance { data, used, free }
+        };
+        Ok(self.ask_of(nodes, frame::balance)?.into_iter().map(balance).collect())
+    }
+
+    pub fn tables(&mut self, nodes: &[u8]) -> Result<Vec<Vec<Entry>>, Trouble> {
+        let entries = usize::from(CYCLE) * usize::from(self.book.slots);
+        let table = |answer: Answer| table::decode(&answer.bytes, entries).ok_or_else(unreadable);
+        self.ask_of(nodes, frame::expand)?.into_iter().map(table).collect()
+    }
+}

@@ -1,0 +1,126 @@
+//! The picture of a book: a row for each node, its slots tile by tile, and who sends when.
+
+use crate::book::{Book, CYCLE};
+use crate::colour::Colour;
+use crate::table::{Entry, Work};
+use crate::text::{count, WIDTH};
+
+/// Columns before the first tile of a row.
+const MARGIN: usize = 11;
+/// Letters of the alphabet: with more streams a stream has two letters.
+const LETTERS: usize = 26;
+/// A tile narrower than this has its number only where that ends in 0 or 5.
+const NARROW: usize = 3;
+
+/// What a picture shows: a table for each node in it, and the tiles.
+pub struct Picture<'a> {
+    pub book: &'a Book,
+    pub rows: Vec<(u8, &'a [Entry])>,
+    pub from: u16,
+    pub colour: Colour,
+}
+
+/// How many letters stand for a stream of the book.
+fn letters(book: &Book) -> usize {
+    if book.streams.len() <= LETTERS {
+        1
+    } else {
+        2
+    }
+}
+
+/// The letters of the stream at a place.
+pub fn label(book: &Book, place: usize) -> String {
+    let letter = |n: usize| char::from(b'A' + (n % LETTERS) as u8);
+    match letters(book) {
+        1 => letter(place).to_string(),
+        _ => [letter(place / LETTERS), letter(place)].iter().collect(),
+    }
+}
+
+impl Picture<'_> {
+    /// Columns of a tile.
+    fn width(&self) -> usize {
+        usize::from(self.book.slots) * letters(self.book)
+    }
+
+    /// The first tile that is not shown: as many as fit are, up to where the picture repeats.
+    fn end(&self) -> u16 {
+        let most = (WIDTH - MARGIN - 1) / (self.width() + 1);
+        let whole = self.book.repeats_after();
+        let stop = if whole <= self.from { CYCLE } else { whole };
+        stop.min(self.from + most as u16)
+    }
+
+    /// A line above the rows: a text for each tile.
+    fn heading(&self, title: &str, text: impl Fn(u16) -> String) -> String {
+        let width = self.width();
+        let cell = |tile| {
+            let text = text(tile);
+            // A number that is wider than its tile takes the place of the border.
+            let border = if width < text.len() { "" } else { "|" };
+            format!("{text:<width$}{border}")
+        };
+        let cells: String = (self.from..self.end()).map(cell).collect();
+        format!("  {title:<8}|{cells}\n")
+    }
+
+    fn tile_number(&self, tile: u16) -> String {
+        if self.width() < NARROW && tile % 5 != 0 {
+            return String::new();
+        }
+        tile.to_string()
+    }
+
+    /// The mark of a slot.
+    fn mark(&self, entry: Entry) -> String {
+        let repeat = |mark: &str| mark.repeat(letters(self.book));
+        let place = self.book.streams.iter().position(|stream| stream.id == entry.id);
+        let label = |place: Option<usize>| place.map_or(repeat("?"), |p| label(self.book, p));
+        match entry.work() {
+            Work::Sleep => repeat("."),
+            Work::Control => self.colour.faint(&repeat("#")),
+            Work::Sends => self.colour.stream(place, &label(place)),
+            Work::Receives => self.colour.stream(place, &label(place).to_lowercase()),
+        }
+    }
+
+    fn row(&self, node: u8, table: &[Entry]) -> String {
+        let slots = usize::from(self.book.slots);
+        let tiles = table.chunks(slots).take(self.end().into()).skip(self.from.into());
+        let marks = |tile: &[Entry]| tile.iter().map(|&entry| self.mark(entry)).collect::<String>();
+        let tiles: String = tiles.map(|tile| marks(tile) + "|").collect();
+        format!("  node {node:>2} |{tiles}\n")
+    }
+
+    /// What the marks mean.
+    fn legend(&self) -> &'static str {
+        match letters(self.book) {
+            1 => "Who sends when: a capital sends, a small letter receives, # control, . sleep",
+            _ => "Who sends when: capitals send, small letters receive, ## control, .. sleep",
+        }
+    }
+
+    /// The whole picture.
+    pub fn draw(&self) -> String {
+        let kind = |tile| if self.book.is_down(tile) { "d" } else { "u" }.to_string();
+        let mut said = format!("\n{}\n", self.colour.title(self.legend()));
+        said += &self.heading("tile", |tile| self.tile_number(tile));
+        said += &self.heading("kind", kind);
+        said.extend(self.rows.iter().map(|(node, table)| self.row(*node, table)));
+        said
+    }
+
+    /// After how many tiles the picture repeats, and which tiles are left out.
+    pub fn rest(&self) -> String {
+        let whole = self.book.repeats_after();
+        let mut said = format!("  The picture repeats after {}.\n", count(whole, "tile"));
+        let end = self.end();
+        if end < whole {
+            said += &format!(
+                "  Left out: the tiles from {end} on; lindurask show BOOK {end} goes on there.\n"
+            );
+        }
+        said
+    }
+}

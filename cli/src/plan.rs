@@ -1,0 +1,219 @@
+//! A site's plan and links as a person types them: read line by line, and explained where the engine refuses it.
+
+use crate::book::MOST_NODES;
+use crate::frame::Site;
+
+/// The mark that some editors put before a text.
+const BYTE_ORDER_MARK: &[u8] = b"\xef\xbb\xbf";
+/// The numbers by which the engine refuses a plan and its links.
+const OUT_OF_RANGE: u8 = 10;
+const UNSOUND_LINKS: u8 = 11;
+/// What a line may start with.
+const STARTS: &str = "a line starts with slots, tiles, control, nodes or link";
+
+/// What is wrong, in which line; line 0 is the whole.
+#[derive(Debug, PartialEq, Eq)]
+pub struct Fault {
+    pub line: usize,
+    pub words: String,
+}
+
+/// A value and the line that says it.
+#[derive(Clone)]
+struct Said<T> {
+    line: usize,
+    value: T,
+}
+
+/// What all lines say together.
+#[derive(Default)]
+pub struct Plan {
+    slots: Option<Said<u64>>,
+    tiles: Option<Said<Vec<bool>>>,
+    control: Option<Said<(u64, u64)>>,
+    nodes: Option<Said<u64>>,
+    links: Vec<Said<(u64, u64)>>,
+}
+
+fn fault<T>(line: usize, words: impl Into<String>) -> Result<T, Fault> {
+    Err(Fault { line, words: words.into() })
+}
+
+/// A number in digits; one that is very large is the largest there is.
+pub fn number(word: &[u8]) -> Option<u64> {
+    if word.is_empty() || !word.iter().all(u8::is_ascii_digit) {
+        return None;
+    }
+    let digit = |n: u64, &c: &u8| n.saturating_mul(10).saturating_add(u64::from(c - b'0'));
+    Some(word.iter().fold(0, digit))
+}
+
+/// The words of a line as so many numbers.
+fn numbers<const N: usize>(words: &[&[u8]]) -> Option<[u64; N]> {
+    let found = words.iter().map(|word| number(word)).collect::<Option<Vec<_>>>()?;
+    found.try_into().ok()
+}
+
+/// The kinds of tiles that words name: true for downlink.
+fn kinds(words: &[&[u8]]) -> Option<Vec<bool>> {
+    let kind = |word: &&[u8]| match *word {
+        b"down" | b"downlink" => Some(true),
+        b"up" | b"uplink" => Some(false),
+        _ => None,
+    };
+    words.iter().map(kind).collect()
+}
+
+/// Keeps a value that is said once.
+fn keep<T>(place: &mut Option<Said<T>>, line: usize, value: T) -> Result<(), Fault> {
+    if let Some(before) = place {
+        return fault(line, format!("this was said in line {} before", before.line));
+    }
+    *place = Some(Said { line, value });
+    Ok(())
+}
+
+impl Plan {
+    /// Reads a plan: a byte-order mark, carriage returns and tabs are blanks, # starts a comment.
+    pub fn read(text: &[u8]) -> Result<Plan, Fault> {
+        let text = text.strip_prefix(BYTE_ORDER_MARK).unwrap_or(text);
+        let mut plan = Plan::default();
+        for (place, line) in text.split(|&b| b == b'\n').enumerate() {
+            let said = line.split(|&b| b == b'#').next().unwrap_or_default();
+            let words = said.split(u8::is_ascii_whitespace).filter(|word| !word.is_empty());
+            plan.take(place + 1, &words.collect::<Vec<_>>())?;
+        }
+        plan.whole()
+    }
+
+    /// Takes what one line says.
+    fn take(&mut self, line: usize, words: &[&[u8]]) -> Result<(), Fault> {
+        let Some((&head, rest)) = words.split_first() else { return Ok(()) };
+        match head {
+            b"slots" => match numbers(rest) {
+                Some([n]) => keep(&mut self.slots, line, n),
+                None => fault(line, "write slots and one number, as in: slots 4"),
+            },
+            b"tiles" => match kinds(rest) {
+                Some(kinds) => keep(&mut self.tiles, line, kinds),
+                None => fault(line, "write down or up for each tile, as in: tiles down up"),
+            },
+            b"control" => match numbers(rest) {
+                Some([down, up]) => keep(&mut self.control, line, (down, up)),
+                None => fault(
+                    line,
+                    "write control and two numbers, for downlink and uplink tiles, as in: control 2 1",
+                ),
+            },
+            b"nodes" => match numbers(rest) {
+                Some([n]) => keep(&mut self.nodes, line, n),
+                None => fault(line, "write nodes and one number, as in: nodes 4"),
+            },
+            b"link" => match numbers(rest) {
+                Some([a, b]) => {
+                    self.links.push(Said { line, value: (a, b) });
+                    Ok(())
+                }
+                None => fault(line, "write link and two nodes, as in: link 0 1"),
+            },
+            _ => fault(line, STARTS),
+        }
+    }
+
+    /// The plan, if nothing is missing.
+    fn whole(self) -> Result<Plan, Fault> {
+        let there = [
+            ("slots", self.slots.is_some()),
+            ("tiles", self.tiles.is_some()),
+            ("control", self.control.is_some()),
+            ("nodes", self.nodes.is_some()),
+        ];
+        match there.iter().find(|(_, there)| !there) {
+            Some((name, _)) => fault(0, format!("there is no line {name}")),
+            None => Ok(self),
+        }
+    }
+
+    /// What the engine makes a book of. A number that a field cannot hold is the largest that it holds, which no
+    /// site has.
+    pub fn site(&self) -> Site {
+        let byte = |n: u64| u8::try_from(n).unwrap_or(u8::MAX);
+        let (Some(slots), Some(tiles)) = (&self.slots, &self.tiles) else { unreachable!() };
+        let (Some(control), Some(nodes)) = (&self.control, &self.nodes) else { unreachable!() };
+        let kinds =
+            tiles.value.iter().take(16).rev().fold(0, |bits, &down| bits << 1 | u16::from(down));
+        Site {
+            slots: byte(slots.value),
+            tiles: byte(tiles.value.len() as u64),
+            kinds,
+            down: byte(control.value.0),
+            up: byte(control.value.1),
+            nodes: byte(nodes.value),
+            links: self.topology(nodes.value),
+        }
+    }
+
+    /// The rows of neighbours. A link to a node that no row can hold makes a row too many, which the engine refuses.
+    fn topology(&self, nodes: u64) -> Vec<u8> {
+        let count = nodes.min(MOST_NODES as u64) as usize;
+        let mut rows = vec![0u64; count];
+        for link in &self.links {
+            let (a, b) = link.value;
+            for (from, to) in [(a, b), (b, a)] {
+                match rows.get_mut(from as usize) {
+                    Some(row) if to < MOST_NODES as u64 => *row |= 1 << to,
+                    _ => rows.resize(rows.len().max(count + 1), 0),
+                }
+            }
+        }
+        rows.iter().flat_map(|row| row.to_be_bytes()).collect()
+    }
+
+    /// The line that the engine's refusal is about, and what is wrong with it.
+    pub fn explain(&self, number: u8) -> Option<Fault> {
+        match number {
+            OUT_OF_RANGE => self.out_of_range(),
+            UNSOUND_LINKS => self.links.iter().find_map(|link| self.unsound(link)),
+            _ => None,
+        }
+    }
+
+    fn out_of_range(&self) -> Option<Fault> {
+        let slots = self.slots.as_ref()?;
+        let tiles = self.tiles.as_ref()?;
+        let control = self.control.as_ref()?;
+        let nodes = self.nodes.as_ref()?;
+        let (down, up) = control.value;
+        let mut faults = [
+            (slots.line, !(1..=32).contains(&slots.value), "a tile has 1 to 32 slots"),
+            (
+                tiles.line,
+                ![1, 2, 4, 5, 10].contains(&tiles.value.len()),
+                "a plan has 1, 2, 4, 5 or 10 tiles",
+            ),
+            (nodes.line, !(2..=64).contains(&nodes.value), "a site has 2 to 64 nodes"),
+            (
+                control.line,
+                down.max(up) > slots.value,
+                "there are more control slots than slots in a tile",
+            ),
+        ];
+        faults.sort_by_key(|&(line, ..)| line);
+        let (line, _, words) = faults.into_iter().find(|&(_, wrong, _)| wrong)?;
+        Some(Fault { line, words: words.into() })
+    }
+
+    /// What is wrong with a link.
+    fn unsound(&self, link: &Said<(u64, u64)>) -> Option<Fault> {
+        let nodes = self.nodes.as_ref()?.value;
+        let (a, b) = link.value;
+        let words = match [a, b].into_iter().find(|&node| nodes <= node) {
+            Some(node) => {
+                format!("the site has no node {node}; they count from 0 to {}", nodes - 1)
+            }
+            None if a == b => format!("no node links to itself (node {a})"),
+            None => return None,
+        };
+        Some(Fault { line: link.line, words })
+    }
+}

@@ -1,4 +1,0 @@
-// The desk: the words of the command line, books in files, and lines to standard output and standard error.
-pub mod arguments;
-pub mod files;
-pub mod printing;
