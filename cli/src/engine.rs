@@ -122,20 +122,24 @@ impl Engine {
 
     /// Puts the requests, and gives the answer to each.
     pub fn ask_all(&mut self, requests: &[Request]) -> Result<Vec<Answer>, Trouble> {
-        let (input, output) = (&mut self.input, &mut self.output);
-        thread::scope(|scope| {
-            scope.spawn(move || {
-                let all: Vec<u8> = requests.iter().flat_map(|r| &r.bytes).copied().collect();
-                // Where this fails the engine has ended, and the reading below says so.
+        let all: Vec<u8> = requests.iter().flat_map(|r| &r.bytes).copied().collect();
+        let Engine { child, input, output } = self;
+        // Where the writing fails the engine has ended, and the reading says so.
+        let answers = thread::scope(|scope| {
+            if requests.len() == 1 {
                 let _ = input.write_all(&all);
-            });
+            } else {
+                scope.spawn(|| input.write_all(&all));
+            }
             let answers = requests.iter().map(|request| Engine::read_answer(output, request));
             let answers = answers.collect::<Result<Vec<_>, _>>();
             if answers.is_err() {
-                let _ = self.child.kill();
+                let _ = child.kill();
+                let _ = child.wait();
             }
             answers
-        })
+        });
+        answers
     }
 
     fn read_answer(output: &mut ChildStdout, request: &Request) -> Result<Answer, Trouble> {

@@ -1,0 +1,22 @@
+# Completion for bash: commands, options, and files where a book or a plan stands.
+_lindurask() {
+    local word=${COMP_WORDS[COMP_CWORD]} before=${COMP_WORDS[COMP_CWORD - 1]} command=${COMP_WORDS[1]-} choices=
+    COMPREPLY=()
+    local commands='new check show open close quote table balance replan page help'
+    if [ "$COMP_CWORD" = 1 ]; then
+        mapfile -t COMPREPLY < <(compgen -W "$commands --help --version" -- "$word")
+        return
+    fi
+    case $command in
+    check | quote | table | balance) choices='--json --help' ;;
+    show) choices='--stream --node --no-lists --json --help' ;;
+    *) choices=--help ;;
+    esac
+    case $command:$before:$word in
+    help:*) mapfile -t COMPREPLY < <(compgen -W "$commands" -- "$word") ;;
+    *:--stream:* | *:--node:*) ;;
+    *:*:-*) mapfile -t COMPREPLY < <(compgen -W "$choices" -- "$word") ;;
+    *) compopt -o filenames 2>/dev/null; mapfile -t COMPREPLY < <(compgen -f -- "$word") ;;
+    esac
+}
+complete -F _lindurask lindurask
