@@ -1,0 +1,136 @@
+"""Words and refusals: each is said in full, by its number, with the node, id or period that is meant."""
+import os
+
+from tool import ROOT, check
+
+USAGE = {
+    "new": "BOOK PLAN",
+    "check": "BOOK [--json]",
+    "show": "BOOK [TILE] [--stream ID] [--node NODE] [--no-lists] [--json]",
+    "open": "BOOK ID SOURCE DESTINATION PERIOD",
+    "close": "BOOK ID",
+    "quote": "BOOK SOURCE DESTINATION [--json]",
+    "table": "BOOK [NODE] [--json]",
+    "balance": "BOOK [NODE] [--json]",
+    "replan": "BOOK PLAN NEW",
+    "page": "BOOK [FILE]",
+    "help": "[COMMAND]",
+}
+NO_ID = "lindurask: an id is a number from 1 to 65535\n"
+NO_NODE = "lindurask: a node is a number, from 0 on\n"
+NO_PERIOD = "lindurask: a period is a number of tiles: 1, 2, 5, 10, 20, 50 or 100\n"
+NO_TILE = "lindurask: a tile is a number from 0 to 99\n"
+
+
+def refusals(room):
+    one = room.get("kiln.book")
+
+    def refused(text, *words):
+        room.says(1, "refused %s\n" % text, *words)
+    refused("1: a stream's id is never 0 (id 0)", "open", "kiln.book", "0", "1", "2", "5")
+    refused("1: a stream's id is never 0 (id 0)", "close", "kiln.book", "0")
+    refused("1: a stream's id is never 0 (id 0)", "show", "kiln.book", "--stream", "0")
+    refused("2: a stream of this id is in the book already (id 5)", "open", "kiln.book", "5", "1", "2", "5")
+    refused("3: no stream of this id is in the book (id 8)", "close", "kiln.book", "8")
+    refused("3: no stream of this id is in the book (id 65535)", "show", "kiln.book", "--stream", "65535")
+    for words, node in [(["open", "kiln.book", "8", "8", "2", "5"], "8"), (["open", "kiln.book", "8", "1", "64", "5"], "64"),
+                        (["open", "kiln.book", "8", "99999999999", "1", "5"], "99999999999"), (["open", "kiln.book", "8", "9", "10", "5"], "9"),
+                        (["quote", "kiln.book", "1", "256"], "256"), (["table", "kiln.book", "255"], "255"), (["balance", "kiln.book", "8"], "8"),
+                        (["balance", "kiln.book", "257"], "257"), (["show", "kiln.book", "--node", "8"], "8")]:
+        refused("4: the site has no node of this number (node %s)" % node, *words)
+    refused("5: source and destination are the same node (node 1)", "open", "kiln.book", "8", "1", "1", "5")
+    refused("5: source and destination are the same node (node 1)", "quote", "kiln.book", "1", "1")
+    refused("6: a period is 1, 2, 5, 10, 20, 50 or 100 tiles (period 3)", "open", "kiln.book", "8", "1", "2", "3")
+    refused("6: a period is 1, 2, 5, 10, 20, 50 or 100 tiles (period 65537)", "open", "kiln.book", "8", "1", "2", "65537")
+    room.put("apart.plan", b"slots 4\ntiles up\ncontrol 0 4\nnodes 3\nlink 0 1\n")
+    room.says(0, "made: 3 nodes, 0 streams of at most 64, 0 hops of at most 512\nlindurask: warning: node 2 has no link\n", "new", "apart.book", "apart.plan")
+    refused("7: no route of at most 15 hops between these nodes (from node 0 to node 2, period 100)", "open", "apart.book", "1", "0", "2", "100")
+    refused("7: no route of at most 15 hops between these nodes (from node 0 to node 2)", "quote", "apart.book", "0", "2")
+    refused("9: no free slots for this stream (from node 0 to node 1, period 100)", "open", "apart.book", "1", "0", "1", "100")
+    refused("8: the book is full: 64 streams or 512 hops (from node 1 to node 2, period 100)", "open", "site.book", "100", "1", "2", "100")
+    refused("8: the book is full: 64 streams or 512 hops (from node 1 to node 2)", "quote", "site.book", "1", "2")
+    none = "".join("period %3d: refused 9: no free slots for this stream\n" % k for k in [1, 2, 5, 10, 20, 50, 100])
+    room.says(1, "from node 1 to node 0\n" + none, "quote", "apart.book", "1", "0")
+    room.says(1, '{"refused":4,"words":"the site has no node of this number","about":"node 8"}\n', "balance", "kiln.book", "8", "--json")
+    check(room.get("kiln.book") == one, "a refusal changed the book")
+
+
+def images(room):
+    """A book that is none, by every number that a book has."""
+    good = room.get("kiln.book")
+    row = good.index(bytes([0, 1, 10, 7]))
+    second = good.index(bytes([0, 2, 20, 7]))
+    # Stream 5 goes 6 to 7 in slot 4; in slot 2 node 7 sends for stream 1.
+    clash = good[:-1] + b"\x02"
+    cases = [(b"", "14: the book is cut short, or not as long as its head says"), (good[:15], "14: the book is cut short, or not as long as its head says"),
+             (good[:-1], "14: the book is cut short, or not as long as its head says"), (good + b"x", "14: the book is cut short, or not as long as its head says"),
+             (good + bytes(100000), "14: the book is cut short, or not as long as its head says"),
+             (b"X" + good[1:], "13: this is no book of version 1: its mark or its version is wrong"),
+             (good[:4] + b"\x09" + good[5:], "13: this is no book of version 1: its mark or its version is wrong"),
+             (good[:5] + b"\x21" + good[6:], "10: a number of the plan or of the book's head is out of its range"),
+             (good[:16] + bytes(7) + b"\x03" + good[24:], "11: the links are not sound: a self-link, a one-way link or no such node"),
+             (good[:row + 2] + b"\x03" + good[row + 3:], "15: the rows of the book's streams are not lawful"),
+             (good[:second + 1] + b"\x01" + good[second + 2:], "15: the rows of the book's streams are not lawful"),
+             (clash, "16: hops of two streams clash and meet in a slot")]
+    for place, (data, words) in enumerate(cases):
+        room.put("bad.book", data)
+        line = "refused %s (bad.book)\n" % words
+        room.says(1, line, "check", "bad.book")
+        command = [["open", "bad.book", "8", "1", "2", "5"], ["close", "bad.book", "1"], ["show", "bad.book"], ["table", "bad.book"],
+                   ["balance", "bad.book", "1"], ["quote", "bad.book", "1", "2"], ["replan", "bad.book", "kiln.plan", "n.book"], ["page", "bad.book"]]
+        for words in command if place in (2, 11) else command[place % 8:place % 8 + 1]:
+            room.says(1, line, *words)
+        check(room.get("bad.book") == data, "a book that is none was changed")
+    check("n.book" not in room.names(), "replan made a book of one that is none")
+
+
+def usage(room):
+    for name, words in USAGE.items():
+        line = "usage: lindurask %s %s\n" % (name, words)
+        least = len([w for w in words.split("[")[0].split()])
+        most = least + sum(1 for w in words.split() if w.startswith("[") and not w.startswith("[--"))
+        operands = ["kiln.book", "1", "2", "5", "5", "6", "7"]
+        if least:
+            room.says(2, line, name, *operands[:least - 1])
+        room.says(2, line, name, *operands[:most + 1])
+        room.says(2, line, name, *operands[:least], "--frob")
+        for word in ["--help", "-h"]:
+            said = room.run(name, word)
+            check(said.status == 0 and said.out.startswith("lindurask %s %s\n" % (name, words)) and "Example: lindurask" in said.out, "%s %s" % (name, word))
+        said = room.run("help", name)
+        check(said.status == 0 and (name == "help" or said.out == room.run(name, "--help").out), "help %s" % name)
+    none = "usage: lindurask COMMAND BOOK ...; lindurask help lists the commands\n"
+    for words in [[], ["frob"], ["frob", "kiln.book"], [""], ["--json"], ["NEW"]]:
+        room.says(2, none, *words)
+    room.says(2, "lindurask: no command has this name; lindurask help lists them\n", "help", "frob")
+    room.says(2, "usage: lindurask show %s\n" % USAGE["show"], "show", "kiln.book", "--stream", "1", "--node", "1")
+    room.says(2, "usage: lindurask show %s\n" % USAGE["show"], "show", "kiln.book", "--stream")
+    check(room.run("help").out == room.run("--help").out == room.run("-h").out == room.run("help", "help").out, "the ways to ask for help differ")
+    version = [line.split('"')[1] for line in open(os.path.join(ROOT, "cli/Cargo.toml")) if line.startswith("version")][0]
+    room.says(0, "lindurask %s, books of version 1\n" % version, "--version")
+
+
+def numbers(room):
+    for word in ["65536", "-1", "", "1x", "0x1", "+1", " 1", "1.0", "٣", "9" * 5000]:
+        room.says(2, NO_ID, "open", "kiln.book", word, "1", "2", "5")
+        room.says(2, NO_ID, "close", "kiln.book", word)
+    for word in ["one", "-1", "", "1x", "1.0"]:
+        room.says(2, NO_NODE, "open", "kiln.book", "8", word, "2", "5")
+        room.says(2, NO_NODE, "open", "kiln.book", "8", "1", word, "5")
+        room.says(2, NO_NODE, "balance", "kiln.book", word)
+        room.says(2, NO_NODE, "table", "kiln.book", word)
+        room.says(2, NO_NODE, "quote", "kiln.book", "1", word)
+        room.says(2, NO_NODE, "show", "kiln.book", "--node", word)
+    for word in ["5.0", "", "x", "-5"]:
+        room.says(2, NO_PERIOD, "open", "kiln.book", "8", "1", "2", word)
+    for word in ["100", "x", "", "99999999999999999999999"]:
+        room.says(2, NO_TILE, "show", "kiln.book", word)
+    said = room.run("open", "kiln.book", "00012", "0001", "2", "0100")
+    check(said.status == 0 and said.out.startswith("opened stream 12: period 100 tiles"), "leading zeros: " + said.all)
+
+
+def test(room):
+    refusals(room)
+    images(room)
+    usage(room)
+    numbers(room)

@@ -1,0 +1,117 @@
+"""Books and plans made by chance: whole answers beside document 01 worked out, and bytes that are no book at all."""
+import os
+import random
+
+import tool
+from tool import check, work_out
+
+SEED = int(os.environ.get("SEED", "1"))
+SITES, STEPS, HOSTILE = 10, 8, 120
+
+
+def plan(dice):
+    slots = dice.choice([1, 2, 3, 4, 8, 16, 32])
+    kinds = [dice.random() < 0.5 for _ in range(dice.choice([1, 2, 4, 5, 10]))]
+    down, up = dice.randint(0, min(slots, 3)), dice.randint(0, min(slots, 2))
+    nodes = dice.choice([2, 3, 5, 9, 20, 40])
+    links = {tuple(sorted(dice.sample(range(nodes), 2))) for _ in range(dice.randint(1, 2 * nodes))}
+    links |= {(a, a + 1) for a in range(nodes - 1) if dice.random() < 0.9}
+    lines = ["slots %d" % slots, "tiles " + " ".join("down" if k else "up" for k in kinds), "control %d %d" % (down, up), "nodes %d" % nodes]
+    lines += ["link %d %d" % dice.choice([(a, b), (b, a)]) for a, b in links]
+    dice.shuffle(lines)
+    rows = [0] * nodes
+    for a, b in links:
+        rows[a] |= 1 << b
+        rows[b] |= 1 << a
+    return "\n".join(lines), work_out.Book(slots, kinds, down, up, rows, [])
+
+
+def changed(room, name, book, dice):
+    """Opens and closes by chance; what is said and what the file then holds are worked out."""
+    for _ in range(STEPS):
+        id, period = dice.choice([dice.randint(1, 12), dice.randint(1, 65535)]), dice.choice(work_out.PERIODS)
+        own = next((s for s in book.streams if s.id == id), None)
+        source, destination = dice.sample(range(book.n), 2)
+        if own:
+            said = room.run("close", name, str(id))
+            check(said.status == 0 and said.all == work_out.stream("closed ", own) + work_out.gives_back(own), said.all)
+            book = book.without(id)
+        else:
+            said = room.run("open", name, str(id), str(source), str(destination), str(period))
+            got = book.opened(id, source, destination, period)
+            if isinstance(got, int):
+                line = "refused %d: %s (from node %d to node %d, period %d)\n" % (got, work_out.WORDS[got], source, destination, period)
+                check(said.status == 1 and said.all == line, said.all + line)
+            else:
+                check(said.status == 0 and said.all == work_out.stream("opened ", got), said.all)
+                book = book.with_stream(got)
+        check(room.get(name) == book.image(), "the file holds another book")
+    return book
+
+
+def read(room, name, book, dice):
+    """Every reading command on that book."""
+    node, start = dice.randrange(book.n), dice.randrange(100)
+    every = range(book.n)
+    source, destination = dice.sample(range(book.n), 2)
+    wants = [(["check", name], "lawful: " + work_out.counts(book)), (["balance", name], work_out.balances(book, every)),
+             (["balance", name, "--json"], work_out.balance_json(book, every)), (["table", name, str(node)], work_out.tables(book, [node])),
+             (["table", name, "--json"], work_out.table_json(book, every)), (["show", name, "--json"], work_out.show_json(book, book.streams))]
+    if book.s >= 2 and any(book.rows[node:node + 1]):
+        wants += [(["show", name, str(start)], work_out.show(book, start)), (["show", name, "--node", str(node)], work_out.show(book, node=node))]
+    for words, want in wants:
+        said = room.run(*words)
+        check(said.status == 0 and said.all == want, "%s says\n%s\nand not\n%s" % (words, said.all[:2000], want[:2000]))
+        check(words[-1] == "--json" or max(map(len, said.out.split("\n"))) <= 80, "%s is wider than 80 columns" % words)
+    said = room.run("quote", name, str(source), str(destination))
+    offers = [got for _, got in work_out.offers(book, source, destination)]
+    if offers[0] in (7, 8):
+        check(said.status == 1 and said.all.startswith("refused %d: " % offers[0]), said.all)
+    else:
+        none = all(isinstance(got, int) for got in offers)
+        check(said.status == int(none) and said.all == work_out.quote(book, source, destination), said.all)
+
+
+def site(turn):
+    dice = random.Random(SEED * 1000 + turn)
+    with tool.Room() as room:
+        text, book = plan(dice)
+        room.put("a.plan", text.encode())
+        said = room.run("new", "a.book", "a.plan")
+        check(said.status == 0 and said.out == "made: " + work_out.counts(book) and room.get("a.book") == book.image(), "new: %s\n%s" % (said.all, text))
+        book = changed(room, "a.book", book, dice)
+        read(room, "a.book", book, dice)
+        other, target = plan(dice)
+        room.put("b.plan", other.encode())
+        said = room.run("replan", "a.book", "b.plan", "b.book")
+        want, new = work_out.replanned(book, target)
+        check(said.status == 0 and said.out == want and room.get("b.book") == new.image(), "replan says\n%s\nand not\n%s" % (said.all, want))
+
+
+def hostile(room):
+    """Bytes by chance as books, plans and words: no crash, no hang, and no file changes."""
+    dice = random.Random(SEED)
+    books = [room.get(name + ".book") for name in ["kiln", "yard", "site"]]
+
+    def spoilt(data):
+        data = bytearray(data)
+        for _ in range(dice.randint(1, 4)):
+            data[dice.randrange(len(data))] = dice.choice([0, 1, 255, dice.randrange(256)])
+        return bytes(data[:dice.choice([len(data), len(data), dice.randrange(len(data))])])
+
+    def one(turn):
+        name = "h%d" % turn
+        data = [spoilt(dice.choice(books)), dice.randbytes(dice.randrange(3000)), spoilt(room.get("kiln.plan"))][turn % 3]
+        room.put(name, data)
+        command = dice.choice([["check"], ["show"], ["table"], ["balance", "3"], ["quote", "0", "3"], ["open", "9", "2", "0", "1"], ["close", "9"], ["page"], ["new"]])
+        words = ["new", name + ".book", name] if turn % 3 == 2 or command == ["new"] else [command[0], name, *command[1:]]
+        said = room.run(*words)
+        right = said.status in (0, 1, 2) and (said.status == 0 or (said.err != "" and (said.out == "" or words[0] == "quote")) or words[0] == "quote")
+        return right and "panicked" not in said.err and (words[0] in ("open", "close") and said.status == 0 or room.get(name) == data), words, said.all
+    for right, words, said in tool.all_of(one, range(HOSTILE)):
+        check(right, "%s: %s" % (words, said))
+
+
+def test(room):
+    tool.all_of(site, range(SITES))
+    hostile(room)

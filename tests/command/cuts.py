@@ -1,0 +1,140 @@
+"""Cut off or failed at every system call: the old book or the new one, and the status says which."""
+import errno
+import os
+import shutil
+import subprocess
+
+import tool
+from tool import check
+
+KILLED, NOT_REACHED = 125, 126
+
+
+class Case:
+    """A command that changes a folder, the folder before, and what the file is before and after."""
+
+    def __init__(self, room, name, file, before, *words):
+        self.room, self.name, self.file, self.before, self.words = room, name, file, before, words
+        with self.folder("whole") as folder:
+            self.status = self.run(folder).returncode
+            self.after = self.held(folder)
+
+    def folder(self, name):
+        return Folder(self, os.path.join(self.room.path, "%s-%s" % (self.name, name)))
+
+    def run(self, folder, *trace):
+        return subprocess.run([*trace, tool.TOOL, *self.words], cwd=folder, stdin=subprocess.DEVNULL, stdout=subprocess.DEVNULL, stderr=subprocess.PIPE, timeout=60)
+
+    def held(self, folder):
+        try:
+            with open(os.path.join(folder, self.file), "rb") as file:
+                return file.read()
+        except FileNotFoundError:
+            return None
+
+
+class Folder:
+    def __init__(self, case, path):
+        self.case, self.path = case, path
+
+    def __enter__(self):
+        os.mkdir(self.path)
+        for name in ["kiln.plan", "yard.plan", "kiln.book", "site.book"]:
+            shutil.copy(os.path.join(self.case.room.path, name), self.path)
+        if self.case.before is not None:
+            with open(os.path.join(self.path, self.case.file), "wb") as file:
+                file.write(self.case.before)
+        return self.path
+
+    def __exit__(self, *_):
+        shutil.rmtree(self.path)
+
+
+def killed(case, trace):
+    """Killed at the start of each of its system calls, in turn."""
+    def one(moment):
+        with case.folder("kill%d" % moment) as folder:
+            status = case.run(folder, trace, "kill", str(moment)).returncode
+            held, left = case.held(folder), [name for name in os.listdir(folder) if name.startswith(".lindurask-")]
+            # The next change finds its way, and clears what was left.
+            again = case.run(folder).returncode if held == case.before and case.before is not None else None
+            after = [name for name in os.listdir(folder) if name.startswith(".lindurask-")]
+            return status, held, left, again is None or (again == 0 and case.held(folder) == case.after), after if again is not None else []
+    got, moment = [], 0
+    while True:
+        batch = tool.all_of(one, range(moment, moment + 32))
+        got += [part for part in batch if part[0] == KILLED]
+        moment += 32
+        if any(part[0] != KILLED for part in batch):
+            check(all(part[0] in (KILLED, NOT_REACHED) for part in batch), "%s: the tracer failed: %s" % (case.name, [part[0] for part in batch]))
+            break
+    states = [{case.before: "old", case.after: "new"}.get(part[1], "other") for part in got]
+    check("other" not in states, "%s: a cut-off left neither the old book nor the new one" % case.name)
+    check(states == sorted(states, reverse=True) and {"old", "new"} == set(states), "%s: the cut-offs are not on both sides of the change" % case.name)
+    check(all(part[3] for part in got), "%s: a change after a cut-off failed" % case.name)
+    check(not any(part[4] for part in got), "%s: a change after a cut-off left something" % case.name)
+    print("%s: killed at each of %d system calls: %d times old, then %d times new, %d times with a file beside it" % (
+        case.name, len(got), states.count("old"), states.count("new"), sum(1 for part in got if part[2])))
+
+
+def failed(case, trace):
+    """Each of its system calls fails, in turn: done means the new book, and not done the old one."""
+    def one(moment):
+        with case.folder("fail%d" % moment) as folder:
+            done = case.run(folder, trace, "fail", str(moment), str(errno.EIO))
+            beside = [name for name in os.listdir(folder) if name.startswith(".lindurask-")]
+            return done.returncode, case.held(folder), done.stderr.decode(), beside
+    got, moment = [], 0
+    while not got or NOT_REACHED not in [part[0] for part in got[-32:]]:
+        got += tool.all_of(one, range(moment, moment + 32))
+        moment += 32
+    unsettled, lost = 0, 0
+    for place, (status, held, said, beside) in enumerate(got):
+        if status == NOT_REACHED:
+            continue
+        what = "%s: call %d failed, status %d: %s" % (case.name, place, status, said)
+        if "could not be synced, so a power cut may undo it" in said:
+            unsettled += 1
+            check(status == 2 and held == case.after, what)
+        elif status == 0:
+            check(held == case.after, what)
+        else:
+            lost += status == 2
+            check(held == case.before, what)
+            check(status != 2 or said.startswith("lindurask: "), what)
+        check(not beside or status not in (0, 1, 2), what + " left %s" % beside)
+    check(unsettled == 1, "%s: a folder that cannot be synced was told %d times" % (case.name, unsettled))
+    check(lost >= 8, "%s: only %d failed calls were told" % (case.name, lost))
+
+
+def seen(case, trace):
+    """The calls that bring a book to the disk are there, and in this order."""
+    with case.folder("seen") as folder:
+        log = os.path.join(case.room.path, "calls")
+        check(case.run(folder, trace, "list", log).returncode == 0, "%s under a tracer" % case.name)
+        lines = [line.split(" ") for line in open(log).read().splitlines()]
+        real = os.path.realpath(folder)
+        names = [line[0] for line in lines]
+        if case.before is None:
+            check(names == ["fsync", "linkat", "fsync"] and lines[1][1].endswith(case.file), "%s: %s" % (case.name, lines))
+        else:
+            check(names == ["fsync", "linkat", "rename", "fsync"] and lines[2][2].endswith("/" + case.file) and lines[1][1] == lines[2][1], "%s: %s" % (case.name, lines))
+        check(lines[0][1] != real and lines[-1][1] == real, "%s syncs %s and %s" % (case.name, lines[0], lines[-1]))
+
+
+def test(room):
+    trace = tool.compiled(room, "trace.c")
+    if trace is None or subprocess.run([trace, "kill", "0", "/bin/true"]).returncode != KILLED:
+        tool.skip("cut-offs: no C compiler, or no right to trace a program")
+        return
+    old = tool.work_out.Book.read(room.get("site.book")).without(64).image()
+    cases = [Case(room, "open", "a.book", old, "open", "a.book", "200", "0", "63", "100"),
+             Case(room, "close", "a.book", room.get("site.book"), "close", "a.book", "64"),
+             Case(room, "new", "n.book", None, "new", "n.book", "kiln.plan"),
+             Case(room, "replan", "n.book", None, "replan", "kiln.book", "yard.plan", "n.book")]
+    for case in cases:
+        check(case.status == 0 and case.after not in (None, case.before), "%s is not done" % case.name)
+        seen(case, trace)
+    for case in cases[:3]:
+        killed(case, trace)
+        failed(case, trace)

@@ -1,0 +1,99 @@
+"""An engine that is missing, ends early or says nonsense: the tool says so, exit status 2, and nothing is changed."""
+import os
+import shutil
+import subprocess
+
+import tool
+from tool import check
+
+# Answers each call with what the mode says; a call's room stands in bytes 16 and 17, its bytes in 14 and 15.
+FAKE = r'''#!/usr/bin/env python3
+import os, sys
+mode = sys.argv[0].rsplit("-", 1)[1]
+read, write = sys.stdin.buffer.read, sys.stdout.buffer
+while True:
+    head = read(19)
+    if len(head) < 19 or head[0] == 255:
+        break
+    data = read(int.from_bytes(head[14:16], "big"))
+    room = int.from_bytes(head[16:18], "big")
+    number, counts, out = 0, [0, 0, 0], bytes([head[18]]) * room
+    if mode == "number": number = 99
+    if mode == "length": counts[0] = room + 1
+    if mode == "both": number, counts[0] = 14, 1
+    if mode == "second": counts[1] = 1
+    if mode == "spilt" and room: out = b"x" * room
+    if mode == "touched" and room: number, out = 9, b"x" + out[1:]
+    if mode == "junk" and room: counts[0], out = room, os.urandom(room)
+    if mode == "short" and room: counts[0], out = 3, b"SLB" + out[3:]
+    if mode == "same" and room: counts[0], out = len(data), data + out[len(data):]
+    answer = bytes([number]) + b"".join(n.to_bytes(4, "big") for n in counts) + out
+    if mode == "half":
+        answer = answer[:7]
+    write.write(answer)
+    write.flush()
+    if mode == "half":
+        sys.exit(0)
+if mode == "more":
+    write.write(b"more")
+    write.flush()
+sys.exit(3 if mode == "badly" else 0)
+'''
+WRONG = {"number": "says what is no answer", "length": "says what is no answer", "both": "says what is no answer", "second": "says what is no answer",
+         "half": "ended before it answered", "more": "says more than it was asked", "badly": "ended badly: exit status: 3"}
+COMMANDS = [["check", "kiln.book"], ["show", "kiln.book"], ["open", "kiln.book", "8", "1", "2", "5"], ["close", "kiln.book", "5"], ["table", "kiln.book"],
+            ["balance", "kiln.book"], ["quote", "kiln.book", "3", "0"], ["new", "n.book", "kiln.plan"], ["replan", "kiln.book", "yard.plan", "n.book"],
+            ["page", "kiln.book"]]
+
+
+def hold(room, engine, words, said):
+    got = room.run(*words, env={"LINDURASK_ENGINE": os.fsdecode(engine)})
+    told = got.out == "" and got.err.startswith("lindurask: the engine ") and (said is None or said in got.err)
+    check(got.status == 2 and told, "%s with engine %s: %d %s" % (words, engine, got.status, got.all))
+
+
+def test(room):
+    book, before = room.get("kiln.book"), room.names()
+    with tool.Room() as engines:
+        script = engines.put("ends", b"#!/bin/sh\nexit 0\n")
+        os.chmod(script, 0o755)
+        loud = engines.put("loud", b"#!/bin/sh\nexec head -c 300000 /dev/zero | tr '\\0' 'Z'\n")
+        os.chmod(loud, 0o755)
+        killed = engines.put("killed", b"#!/bin/sh\nkill -9 $$\n")
+        os.chmod(killed, 0o755)
+        plain = engines.put("plain", b"no program")
+        for words in COMMANDS:
+            hold(room, engines.at("nowhere"), words, "could not be started: %s: No such file or directory" % os.fsdecode(engines.at("nowhere")))
+            hold(room, script, words, "ended before it answered")
+            hold(room, loud, words, "says what is no answer")
+        hold(room, killed, COMMANDS[0], "ended before it answered")
+        hold(room, plain, COMMANDS[2], "could not be started")
+        hold(room, engines.path, COMMANDS[2], "could not be started")
+        fakes = {}
+        for mode in list(WRONG) + ["spilt", "touched", "junk", "short", "same"]:
+            fakes[mode] = engines.put("engine-" + mode, FAKE.encode())
+            os.chmod(fakes[mode], 0o755)
+        for mode, said in WRONG.items():
+            for words in COMMANDS[:1] + COMMANDS[2:3]:
+                if mode in ("more", "badly") and words[0] == "open":
+                    continue
+                hold(room, fakes[mode], words, said)
+        for mode in ["spilt", "touched", "junk", "short", "same"]:
+            for words in COMMANDS[2:4] + COMMANDS[7:9] if mode != "same" else COMMANDS[2:4]:
+                got = room.run(*words, env={"LINDURASK_ENGINE": os.fsdecode(fakes[mode])})
+                check(got.status == 2 and got.out == "" and "the engine" in got.err, "%s with an engine that gives %s: %s" % (words, mode, got.all))
+        # Bytes that a wrong engine calls lawful do no harm.
+        for data in [b"", b"SLB", book[:40], b"SLB\0\1" + bytes(11), b"SLB\0\1" + b"\xff" * 4000, bytes(4096), book[:12] + b"\x40" + book[13:]]:
+            room.put("odd.book", data)
+            for words in [["check", "odd.book"], ["show", "odd.book"], ["quote", "odd.book", "1", "2"], ["page", "odd.book"]]:
+                got = room.run(*words, env={"LINDURASK_ENGINE": os.fsdecode(engines.put("engine-lawful", FAKE.encode()))} if os.chmod(engines.put("engine-lawful", FAKE.encode()), 0o755) is None else None)
+                check(got.status == 2 and "the engine says what is no answer" in got.err, "%s of %d bytes called lawful: %s" % (words, len(data), got.all))
+        os.remove(room.at("odd.book"))
+        # A tool that stands alone finds no engine, and says where one comes from.
+        shutil.copy(tool.TOOL, engines.at("lindurask"))
+        env = {k: v for k, v in os.environ.items() if k != "LINDURASK_ENGINE"}
+        done = subprocess.run([engines.at("lindurask"), "check", room.at("kiln.book")], capture_output=True, env=env)
+        check(done.returncode == 2 and b"the engine is not there: ./lindurask in the repository builds it" in done.stderr, "a tool without an engine: %s" % done.stderr)
+        for words in [["help"], ["--version"], ["check", "--help"]]:
+            check(subprocess.run([engines.at("lindurask"), *words], capture_output=True, env=env).returncode == 0, "%s needs an engine" % words)
+    check(room.get("kiln.book") == book and room.names() == before, "a wrong engine changed something: %s" % room.names())
