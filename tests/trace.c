@@ -1,5 +1,6 @@
 /* trace kill N PROGRAM WORDS..: runs the program and kills it at the start of its Nth system call, counted from 0.
-   trace fail N ERROR PROGRAM WORDS..: makes its Nth system call fail with that error number.
+   trace fail N ERROR PROGRAM WORDS..: makes its Nth system call fail with that error number; N may be a name of the
+   list below, a colon and a number, as in fsync:1, and then only calls of that name count.
    trace list FILE PROGRAM WORDS..: writes to the file each call that changes names or brings bytes to the disk.
    Only the program itself is traced, not the programs that it starts.
    Exit status: the program's own; 125 killed here; 126 no such call was reached (kill, fail); 127 not run or traced. */
@@ -88,21 +89,34 @@ static void put_file(FILE *list, pid_t child, uint64_t number) {
     fprintf(list, " %s", path);
 }
 
+/* The call that starts, where it is one of the list. */
+static const struct call *known(const struct __ptrace_syscall_info *now) {
+    for (size_t i = 0; i < sizeof calls / sizeof *calls; i++)
+        if ((long)now->entry.nr == calls[i].number)
+            return &calls[i];
+    return NULL;
+}
+
 /* Writes the call that starts, where it is one of the list. */
 static void put_call(FILE *list, pid_t child, const struct __ptrace_syscall_info *now) {
-    for (size_t i = 0; i < sizeof calls / sizeof *calls; i++) {
-        const struct call *call = &calls[i];
-        if ((long)now->entry.nr != call->number)
-            continue;
-        fprintf(list, "%s", call->name);
-        if (call->file >= 0)
-            put_file(list, child, now->entry.args[call->file]);
-        if (call->old >= 0)
-            put_text(list, child, now->entry.args[call->old]);
-        if (call->new >= 0)
-            put_text(list, child, now->entry.args[call->new]);
-        fprintf(list, "\n");
-    }
+    const struct call *call = known(now);
+    if (!call)
+        return;
+    fprintf(list, "%s", call->name);
+    if (call->file >= 0)
+        put_file(list, child, now->entry.args[call->file]);
+    if (call->old >= 0)
+        put_text(list, child, now->entry.args[call->old]);
+    if (call->new >= 0)
+        put_text(list, child, now->entry.args[call->new]);
+    fprintf(list, "\n");
+}
+
+/* Whether the call that starts is one that counts: all do, or those of the name before a colon. */
+static int counts(const char *which, const struct __ptrace_syscall_info *now) {
+    const char *colon = strchr(which, ':');
+    const struct call *call = known(now);
+    return !colon || (call && strlen(call->name) == (size_t)(colon - which) && !strncmp(call->name, which, colon - which));
 }
 
 int main(int count, char **words) {
@@ -110,7 +124,8 @@ int main(int count, char **words) {
         return NOT_RUN;
     char mode = words[1][0];
     char **program = words + (mode == 'f' ? 4 : 3);
-    long left = atol(words[2]), error = mode == 'f' ? atol(words[3]) : 0;
+    const char *colon = strchr(words[2], ':');
+    long left = atol(colon ? colon + 1 : words[2]), error = mode == 'f' ? atol(words[3]) : 0;
     FILE *list = mode == 'l' ? fopen(words[2], "we") : NULL;
     pid_t child = fork();
     if (child == 0) {
@@ -145,7 +160,7 @@ int main(int count, char **words) {
             continue;
         if (list)
             put_call(list, child, &now);
-        if (mode == 'l' || left-- != 0)
+        if (mode == 'l' || !counts(words[2], &now) || left-- != 0)
             continue;
         reached = 1;
         if (mode == 'k') {
@@ -153,7 +168,9 @@ int main(int count, char **words) {
             waitpid(child, &state, 0);
             return KILLED;
         }
-        skip(child);
+        /* A file that fails to close is closed all the same. */
+        if (now.entry.nr != SYS_close)
+            skip(child);
         failing = 1;
     }
 }

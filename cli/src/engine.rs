@@ -109,12 +109,12 @@ impl Engine {
                 Ok(false) => return Err(wrong("gives no answer")),
                 Ok(true) => {}
                 Err(e) if e.kind() == io::ErrorKind::Interrupted => continue,
-                Err(e) => return Err(wrong(reason(&e))),
+                Err(e) => return Err(wrong(format!("is out of reach: {}", reason(&e)))),
             }
             match output.read(&mut buffer[at..]) {
                 Ok(0) => return Err(wrong("ended before it answered")),
                 Ok(n) => at += n,
-                Err(e) => return Err(wrong(reason(&e))),
+                Err(e) => return Err(wrong(format!("is out of reach: {}", reason(&e)))),
             }
         }
         Ok(())
@@ -124,22 +124,33 @@ impl Engine {
     pub fn ask_all(&mut self, requests: &[Request]) -> Result<Vec<Answer>, Trouble> {
         let all: Vec<u8> = requests.iter().flat_map(|r| &r.bytes).copied().collect();
         let Engine { child, input, output } = self;
-        // Where the writing fails the engine has ended, and the reading says so.
-        let answers = thread::scope(|scope| {
-            if requests.len() == 1 {
-                let _ = input.write_all(&all);
-            } else {
-                scope.spawn(|| input.write_all(&all));
-            }
-            let answers = requests.iter().map(|request| Engine::read_answer(output, request));
-            let answers = answers.collect::<Result<Vec<_>, _>>();
+        thread::scope(|scope| {
+            // One request fits into the pipe; several are written while the answers are read.
+            let written = match requests {
+                [_] => Engine::write(input, &all),
+                _ => {
+                    scope.spawn(|| Engine::write(input, &all));
+                    Ok(())
+                }
+            };
+            let mut read = || requests.iter().map(|r| Engine::read_answer(output, r)).collect();
+            let answers = written.and_then(|()| read());
             if answers.is_err() {
                 let _ = child.kill();
                 let _ = child.wait();
             }
             answers
-        });
-        answers
+        })
+    }
+
+    /// Writes to the engine; where it has ended, the reading says so.
+    fn write(input: &mut ChildStdin, bytes: &[u8]) -> Result<(), Trouble> {
+        match input.write_all(bytes) {
+            Err(e) if e.kind() != io::ErrorKind::BrokenPipe => {
+                Err(wrong(format!("is out of reach: {}", reason(&e))))
+            }
+            _ => Ok(()),
+        }
     }
 
     fn read_answer(output: &mut ChildStdout, request: &Request) -> Result<Answer, Trouble> {
@@ -159,19 +170,19 @@ impl Engine {
     pub fn finish(mut self) -> Result<(), Trouble> {
         let _ = self.input.write_all(&frame::end().bytes);
         drop(self.input);
-        let quiet = match sys::readable(&self.output, PATIENCE) {
-            Ok(true) => matches!(self.output.read(&mut [0]), Ok(0)),
+        let silent = match sys::readable(&self.output, PATIENCE) {
+            Ok(true) => self.output.read(&mut [0]).is_ok_and(|more| more == 0),
             _ => false,
         };
-        if !quiet {
+        if !silent {
             let _ = self.child.kill();
             let _ = self.child.wait();
-            return Err(wrong("says more than it was asked"));
+            return Err(wrong("says more than it was asked, or does not end"));
         }
         match self.child.wait() {
             Ok(status) if status.success() => Ok(()),
             Ok(status) => Err(wrong(format!("ended badly: {status}"))),
-            Err(e) => Err(wrong(reason(&e))),
+            Err(e) => Err(wrong(format!("is out of reach: {}", reason(&e)))),
         }
     }
 }

@@ -56,9 +56,8 @@ def read(room, name, book, dice):
     source, destination = dice.sample(range(book.n), 2)
     wants = [(["check", name], "lawful: " + work_out.counts(book)), (["balance", name], work_out.balances(book, every)),
              (["balance", name, "--json"], work_out.balance_json(book, every)), (["table", name, str(node)], work_out.tables(book, [node])),
-             (["table", name, "--json"], work_out.table_json(book, every)), (["show", name, "--json"], work_out.show_json(book, book.streams))]
-    if book.s >= 2 and any(book.rows[node:node + 1]):
-        wants += [(["show", name, str(start)], work_out.show(book, start)), (["show", name, "--node", str(node)], work_out.show(book, node=node))]
+             (["table", name, "--json"], work_out.table_json(book, every)), (["show", name, "--json"], work_out.show_json(book, book.streams)),
+             (["show", name, str(start)], work_out.show(book, start)), (["show", name, "--node", str(node)], work_out.show(book, node=node))]
     for words, want in wants:
         said = room.run(*words)
         check(said.status == 0 and said.all == want, "%s says\n%s\nand not\n%s" % (words, said.all[:2000], want[:2000]))

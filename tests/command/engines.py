@@ -40,7 +40,7 @@ if mode == "more":
 sys.exit(3 if mode == "badly" else 0)
 '''
 WRONG = {"number": "says what is no answer", "length": "says what is no answer", "both": "says what is no answer", "second": "says what is no answer",
-         "half": "ended before it answered", "more": "says more than it was asked", "badly": "ended badly: exit status: 3"}
+         "half": "ended before it answered", "more": "says more than it was asked, or does not end", "badly": "ended badly: exit status: 3"}
 COMMANDS = [["check", "kiln.book"], ["show", "kiln.book"], ["open", "kiln.book", "8", "1", "2", "5"], ["close", "kiln.book", "5"], ["table", "kiln.book"],
             ["balance", "kiln.book"], ["quote", "kiln.book", "3", "0"], ["new", "n.book", "kiln.plan"], ["replan", "kiln.book", "yard.plan", "n.book"],
             ["page", "kiln.book"]]

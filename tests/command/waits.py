@@ -66,7 +66,8 @@ def short():
             check(run.returncode == 0 and err.decode() == said and room.get("held.book") != room.empty, "a wait of %s s: %s" % (seconds, err))
 
 
-def collect(waiting):
+def test(_):
+    waiting = start()
     short()
     for wait in waiting:
         wait.collect()
