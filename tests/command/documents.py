@@ -49,7 +49,7 @@ def fields(value):
 
 
 def json_fields(room):
-    document = text("docs/json.md")
+    document = text("docs/json.md").split("| Field |")[1]
     used = set()
     for words in [["check"], ["show"], ["table"], ["balance"], ["quote", "3", "0"], ["quote", "3", "9"], ["balance", "99"]]:
         out = room.run(words[0], "kiln.book", *words[1:], "--json").out
@@ -83,10 +83,6 @@ def samples(room):
 
 
 def installed(room):
-    archive = os.path.join(tool.ROOT, "target/staticlib/libplanner.a")
-    if not os.path.exists(archive):
-        tool.skip("./install: no archive for C yet; rt staticlib planner makes it")
-        return
     done = subprocess.run([os.path.join(tool.ROOT, "install"), room.at("prefix")], capture_output=True, text=True)
     check(done.returncode == 0, "./install: %s" % done.stderr)
     for file in ["bin/lindurask", "libexec/lindurask/engine", "share/man/man1/lindurask.1", "share/bash-completion/completions/lindurask",
