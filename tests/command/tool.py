@@ -32,7 +32,9 @@ def check(holds, what):
         passed += 1
     else:
         failed += 1
-        print("FAILED: %s" % what)
+        print("FAILED: %s" % what, flush=True)
+        if "STOP_AT_FIRST" in os.environ:
+            os._exit(1)
 
 
 def skip(what):
