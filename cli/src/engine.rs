@@ -13,10 +13,11 @@ use std::thread;
 
 /// The variable that names another engine.
 const VARIABLE: &str = "LINDURASK_ENGINE";
-/// Where an installed tool has its engine, seen from the tool's folder.
-const INSTALLED: &str = "../libexec/lindurask/engine";
-/// Where a repository has the engine that it built.
+/// Where a tool has its engine, seen from the tool's folder: beside itself, or as it is installed.
+const BESIDE: [&str; 2] = ["engine", "../libexec/lindurask/engine"];
+/// Where a repository has the engine that it built, and a file by which it is known.
 const BUILT: &str = "target/bin/engine";
+const REPOSITORY: &str = "crates.txt";
 /// How long the engine may take for an answer.
 const PATIENCE: i32 = 30_000;
 /// The processor that the engine is built for.
@@ -46,9 +47,9 @@ fn find() -> Result<PathBuf, Trouble> {
         return Ok(named.into());
     }
     let tool = env::current_exe().map_err(|e| wrong(format!("is not found: {}", reason(&e))))?;
-    let installed = tool.with_file_name(INSTALLED);
-    let built = tool.ancestors().map(|folder| folder.join(BUILT));
-    let mut places = std::iter::once(installed).chain(built);
+    let beside = BESIDE.iter().map(|place| tool.with_file_name(place));
+    let repository = tool.ancestors().filter(|folder| folder.join(REPOSITORY).is_file());
+    let mut places = beside.chain(repository.map(|folder| folder.join(BUILT)));
     places.find(|place| place.is_file()).ok_or_else(|| {
         wrong(format!("is not there: ./lindurask in the repository builds it, or set {VARIABLE}"))
     })

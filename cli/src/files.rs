@@ -14,6 +14,8 @@ use std::path::{Path, PathBuf};
 use std::thread::sleep;
 use std::time::{Duration, Instant};
 
+/// The name that stands for standard input, and how that is called.
+pub const STANDARD_INPUT: (&str, &str) = ("-", "standard input");
 /// The longest plan.
 const MOST_PLAN: usize = 65_535;
 /// After this time a change says for what it waits.
@@ -72,10 +74,10 @@ pub fn read_book(path: &Path) -> Result<Vec<u8>, Trouble> {
 
 /// Reads a plan: a plain file, or standard input where the name is -.
 pub fn read_plan(path: &Path) -> Result<Vec<u8>, Trouble> {
-    let bytes = if path == Path::new("-") {
-        read_up_to(&mut io::stdin().lock(), MOST_PLAN + 1)
+    let (path, bytes) = if path == Path::new(STANDARD_INPUT.0) {
+        (Path::new(STANDARD_INPUT.1), read_up_to(&mut io::stdin().lock(), MOST_PLAN + 1))
     } else {
-        read_up_to(&mut open_plain(path, false)?, MOST_PLAN + 1)
+        (path, read_up_to(&mut open_plain(path, false)?, MOST_PLAN + 1))
     };
     let bytes = bytes.map_err(on(path))?;
     if MOST_PLAN < bytes.len() {

@@ -112,5 +112,5 @@ def hostile(room):
 
 
 def test(room):
-    tool.all_of(site, range(SITES))
+    list(tool.all_of(site, range(SITES)))
     hostile(room)

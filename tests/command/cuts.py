@@ -75,7 +75,7 @@ def killed(case, trace):
             return status, held, left, again is None or (again == 0 and case.held(folder) == case.after), after if again is not None else []
     got, moment = [], 0
     while True:
-        batch = tool.all_of(one, range(moment, moment + 32))
+        batch = list(tool.all_of(one, range(moment, moment + 32)))
         got += [part for part in batch if part[0] == KILLED]
         moment += 32
         if any(part[0] != KILLED for part in batch):

@@ -26,6 +26,9 @@ while True:
     if mode == "touched" and room: number, out = 9, b"x" + out[1:]
     if mode == "junk" and room: counts[0], out = room, os.urandom(room)
     if mode == "short" and room: counts[0], out = 3, b"SLB" + out[3:]
+    if mode in ("more", "badly") and room:
+        image = open(os.path.join(os.path.dirname(sys.argv[0]), "new.image"), "rb").read()
+        counts[0], out = len(image), image + out[len(image):]
     if mode == "same" and room: counts[0], out = len(data), data + out[len(data):]
     answer = bytes([number]) + b"".join(n.to_bytes(4, "big") for n in counts) + out
     if mode == "half":
@@ -69,14 +72,15 @@ def test(room):
         hold(room, killed, COMMANDS[0], "ended before it answered")
         hold(room, plain, COMMANDS[2], "could not be started")
         hold(room, engines.path, COMMANDS[2], "could not be started")
+        # Two of them give the right book first.
+        old = tool.work_out.Book.read(book)
+        engines.put("new.image", old.with_stream(old.opened(8, 1, 2, 5)).image())
         fakes = {}
-        for mode in list(WRONG) + ["spilt", "touched", "junk", "short", "same"]:
+        for mode in list(WRONG) + ["spilt", "touched", "junk", "short", "same", "lawful"]:
             fakes[mode] = engines.put("engine-" + mode, FAKE.encode())
             os.chmod(fakes[mode], 0o755)
         for mode, said in WRONG.items():
             for words in COMMANDS[:1] + COMMANDS[2:3]:
-                if mode in ("more", "badly") and words[0] == "open":
-                    continue
                 hold(room, fakes[mode], words, said)
         for mode in ["spilt", "touched", "junk", "short", "same"]:
             for words in COMMANDS[2:4] + COMMANDS[7:9] if mode != "same" else COMMANDS[2:4]:
@@ -86,7 +90,7 @@ def test(room):
         for data in [b"", b"SLB", book[:40], b"SLB\0\1" + bytes(11), b"SLB\0\1" + b"\xff" * 4000, bytes(4096), book[:12] + b"\x40" + book[13:]]:
             room.put("odd.book", data)
             for words in [["check", "odd.book"], ["show", "odd.book"], ["quote", "odd.book", "1", "2"], ["page", "odd.book"]]:
-                got = room.run(*words, env={"LINDURASK_ENGINE": os.fsdecode(engines.put("engine-lawful", FAKE.encode()))} if os.chmod(engines.put("engine-lawful", FAKE.encode()), 0o755) is None else None)
+                got = room.run(*words, env={"LINDURASK_ENGINE": os.fsdecode(fakes["lawful"])})
                 check(got.status == 2 and "the engine says what is no answer" in got.err, "%s of %d bytes called lawful: %s" % (words, len(data), got.all))
         os.remove(room.at("odd.book"))
         # A tool that stands alone finds no engine, and says where one comes from.

@@ -59,12 +59,12 @@ def colours(room):
 def test(room):
     files = sorted(file for file in os.listdir(tool.STORED) if file.endswith(".said"))
     check(len(files) > 60, "stored cases are missing")
+    for file, held, got, err in tool.all_of(lambda file: hold(room, file), files):
+        check(held, "%s: got\n%s%s" % (file, got[:3000], err))
     worked_out = {case[0] + ".said": tool.work_out.stored(case) for case in tool.work_out.cases()}
     check(sorted(worked_out) == files, "the stored cases are not those that are worked out")
     for file in files:
         check(open(os.path.join(tool.STORED, file)).read() == worked_out.get(file), "%s is not what is worked out" % file)
-    for file, held, got, err in tool.all_of(lambda file: hold(room, file), files):
-        check(held, "%s: got\n%s%s" % (file, got[:3000], err))
     for name in ["kiln", "yard", "site"]:
         for words in [["show"], ["show", "--no-lists"], ["balance"], ["table"]]:
             wide = max(map(len, room.run(words[0], name + ".book", *words[1:]).out.split("\n")))

@@ -55,6 +55,9 @@ def not_understood(room):
     room.says(2, "lindurask: huge.plan: the plan is too long: it has at most 65535 bytes\n", "new", "bad.book", "huge.plan")
     said = room.run("new", "bad.book", "-", data=b"slots x\n")
     check(said.status == 2 and said.all == "standard input, line 1: write slots and one number, as in: slots 4\n", said.all)
+    room.says(2, "lindurask: standard input: the plan is too long: it has at most 65535 bytes\n", "new", "bad.book", "-", data=b"#" * 70000)
+    said = room.run("new", "bad.book", "-", data=b"slots 4\ntiles up\ncontrol 0 1\nnodes 65\n")
+    check(said.status == 1 and said.all == "refused 10: a site has 2 to 64 nodes (standard input, line 4)\n", said.all)
 
 
 def understood(room):

@@ -103,9 +103,9 @@ class Room:
 
 
 def all_of(work, items):
-    """Does the work for all items, a few at a time."""
+    """Does the work for all items, a few at a time, and gives what comes of each in turn."""
     with ThreadPoolExecutor(4) as pool:
-        return list(pool.map(work, items))
+        yield from pool.map(work, items)
 
 
 def compiled(room, source):

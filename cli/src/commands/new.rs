@@ -34,7 +34,8 @@ The plan has a line for each of these; # starts a comment:
 
 /// Says what is wrong with a plan, and in which line.
 fn said_of(path: &Path, fault: &Fault) -> String {
-    let name = if path == Path::new("-") { "standard input".into() } else { plain(path) };
+    let (word, called) = files::STANDARD_INPUT;
+    let name = if path == Path::new(word) { called.into() } else { plain(path) };
     match fault.line {
         0 => format!("{name}: {}", fault.words),
         line => format!("{name}, line {line}: {}", fault.words),
