@@ -4,6 +4,7 @@
    trace list FILE PROGRAM WORDS..: writes to the file each call that changes names or brings bytes to the disk.
    Only the program itself is traced, not the programs that it starts.
    Exit status: the program's own; 125 killed here; 126 no such call was reached (kill, fail); 127 not run or traced. */
+#define _GNU_SOURCE
 #include <elf.h>
 #include <fcntl.h>
 #include <signal.h>
@@ -21,12 +22,16 @@
 
 enum { KILLED = 125, NOT_REACHED = 126, NOT_RUN = 127 };
 
+/* The place in the list below of an opening that makes a file without a name. */
+enum { UNNAMED = 0 };
+
 /* What is known of a call: its name, and where its words stand; -1 for none. */
 static const struct call {
     long number;
     const char *name;
     int file, old, new;
 } calls[] = {
+    {SYS_openat, "unnamed", -1, -1, 1},
     {SYS_fsync, "fsync", 0, -1, -1},
     {SYS_fdatasync, "fdatasync", 0, -1, -1},
     {SYS_linkat, "linkat", -1, -1, 3},
@@ -93,7 +98,7 @@ static void put_file(FILE *list, pid_t child, uint64_t number) {
 static const struct call *known(const struct __ptrace_syscall_info *now) {
     for (size_t i = 0; i < sizeof calls / sizeof *calls; i++)
         if ((long)now->entry.nr == calls[i].number)
-            return &calls[i];
+            return i == UNNAMED && (now->entry.args[2] & O_TMPFILE) != O_TMPFILE ? NULL : &calls[i];
     return NULL;
 }
 

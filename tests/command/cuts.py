@@ -138,12 +138,23 @@ def seen(case, trace):
         check(case.run(folder, trace, "list", log).returncode == 0, "%s under a tracer" % case.name)
         lines = [line.split(" ") for line in open(log).read().splitlines()]
         real = os.path.realpath(folder)
+        check(lines[0][0] == "unnamed", "%s makes no file without a name: %s" % (case.name, lines))
+        lines = lines[1:]
         names = [line[0] for line in lines]
         if case.before is None:
             check(names == ["fsync", "linkat", "fsync"] and lines[1][1].endswith(case.file), "%s: %s" % (case.name, lines))
         else:
             check(names == ["fsync", "linkat", "rename", "fsync"] and lines[2][2].endswith("/" + case.file) and lines[1][1] == lines[2][1], "%s: %s" % (case.name, lines))
         check(lines[0][1] != real and lines[-1][1] == real, "%s syncs %s and %s" % (case.name, lines[0], lines[-1]))
+
+
+def named(case, trace):
+    """Where the file system has no files without a name, the change goes by a file with one."""
+    with case.folder("named") as folder:
+        before = sorted(os.listdir(folder))
+        done = case.run(folder, trace, "fail", "unnamed:0", str(errno.EOPNOTSUPP))
+        check(done.returncode == 0 and case.held(folder) == case.after, "%s by a named file: %s" % (case.name, done.stderr))
+        check(sorted(os.listdir(folder)) == sorted(set(before + [case.file])), "%s by a named file left %s" % (case.name, os.listdir(folder)))
 
 
 def test(room):
@@ -160,6 +171,7 @@ def test(room):
         check(case.status == 0 and case.after not in (None, case.before), "%s is not done" % case.name)
         seen(case, trace)
         unsynced(case, trace)
+        named(case, trace)
     for case in cases[:3]:
         killed(case, trace)
         failed(case, trace)

@@ -66,9 +66,9 @@ def documents(room, usages, refusals):
     for number, words in refusals:
         check("\n| %s | %s |" % (number, words) in answers, "docs/answers.md has other words for %s" % number)
     check(room.run("show", "kiln.book").out in readme, "README.md shows another picture of books/kiln.book")
-    session = re.search(r"```\n(\$ ./lindurask new line.book.*?)```", readme, re.S).group(1)
+    dialogue = re.search(r"```\n(\$ ./lindurask new line.book.*?)```", readme, re.S).group(1)
     room.put("line.plan", re.search(r"```\n(slots 4 .*?)```", readme, re.S).group(1).encode())
-    for part in session.split("$ ./lindurask ")[1:]:
+    for part in dialogue.split("$ ./lindurask ")[1:]:
         words, said = part.split("\n", 1)
         check(room.run(*words.split()).all == said, "README.md: lindurask %s says\n%s" % (words, room.run(*words.split()).all))
     for variable in ["LINDURASK_ENGINE", "NO_COLOR"]:
