@@ -1,4 +1,4 @@
--- The reply of a list of refusals, refusal by refusal. Assumes nothing.
+-- The reply of a list of refusals, refusal by refusal.
 use mathlib.Core.Path.{_≡_, refl, sym, _∙_}
 use mathlib.Core.Logic.{_⊎_, inl, inr}
 use mathlib.Core.List.{List, [], _∷_, _++_}
@@ -6,7 +6,7 @@ use Prim.Native.Nat.{ℕ}
 use lib.ListN.{length, drop}
 use Rattle.rules.specs.Says.{Refusal, _when_, Says}
 use Rattle.rules.specs.Calls.{Wrote, Unchanged}
-use Rattle.rules.proofs.Says.{Alike, same-says}
+use Rattle.rules.proofs.Says.{None, Alike, same-says, says-first, says-then}
 use Rattle.answers.specs.Reply.{Reply}
 
 module _ {R : List ℕ → Type 0} {out : List ℕ} where
@@ -38,3 +38,14 @@ reply-alike {n = n} rs ss a f r = record {
   refused = r .refused;
   done = λ z. let d = r .done z in (d .0, f (d .0) (d .1), d .2);
 }
+
+-- two lists of refusals, one after the other: the first refuses, or it does not and the second says the reply
+pub reply-first : {R : List ℕ → Type 0} {out : List ℕ} {n len : ℕ} (rs ss : List Refusal) → Says rs n → (n ≡ 0 → ⊥) → len ≡ 0 → Reply (rs ++ ss) R out n len out
+reply-first {n = n} rs ss h f l = record {
+  says = says-first rs ss n h f;
+  refused = λ g. record { length-is = l; buffer = refl };
+  done = λ z. absurd (f z);
+}
+
+pub reply-then : {R : List ℕ → Type 0} {out out′ : List ℕ} {n len : ℕ} (rs ss : List Refusal) → None rs → Reply ss R out n len out′ → Reply (rs ++ ss) R out n len out′
+reply-then {n = n} rs ss h r = record { says = says-then rs ss n h (r .says); refused = r .refused; done = r .done }

@@ -1,4 +1,4 @@
--- What a call on a lawful book says, and what it writes. Assumes nothing.
+-- What a call on a lawful book says, and what it writes.
 use mathlib.Core.Path.{_≡_}
 use mathlib.Core.List.{List}
 use Prim.Native.Nat.{ℕ}

@@ -1,16 +1,16 @@
 // A node's balance: the data slots of the cycle, those that it uses, and those that are free.
 ghost use mathlib.Core.Path.{_≡_};
-ghost use Prim.Native.Nat.{_<_};
+ghost use Prim.Native.Nat.{_<_, _≤_};
 ghost use Rattle.rules.specs.Tiles.{PlanInRange};
 ghost use Rattle.rules.specs.Periods.{thePlan};
-ghost use Rattle.rules.specs.Book.{hops};
-ghost use Rattle.rules.specs.Image.{Stored};
 ghost use Rattle.rules.specs.Table.{used, BalanceOf};
-ghost use Rattle.model.specs.Reading.{bookIn};
+ghost use Rattle.rules.proofs.Reading.{bookIn, LawfulImage};
 ghost use Rattle.image.specs.Places.{rowAt, RowHere};
 ghost use Rattle.image.specs.Header.{HeaderOf};
-ghost use Rattle.balances.specs.Counts.{DataSlots, hopsUsed};
+ghost use Rattle.rules.proofs.Counts.{ifSo};
+ghost use Rattle.balances.specs.Counts.{DataSlots, endsAt, rowUsed};
 use image::Book;
+use operations::Stop;
 use rules::Node;
 use rules::Plan;
 use rules::Tile;
@@ -43,29 +43,41 @@ fn data_slots(plan: Plan) -> u32
         sum += wide32(slots - control.0);
         tile += 1;
     }
-    sum * wide32(operations::CYCLE / tiles)
+    sum * wide32(rules::CYCLE / tiles)
+}
+
+// 1 where it is so.
+fn if_so(t: bool) -> u32
+    ensures { λ r. ⌜ (r ≡ ifSo t) × (r ≤ 1) ⌝ }
+{
+    if t { 1 } else { 0 }
+}
+
+// How many hops of a route the node at a place of it is an end of: the one to it, and the one from it.
+fn ends(place: usize, last: usize) -> u32
+    ensures { λ r. ⌜ (r ≡ endsAt place last) × (r ≤ 2) ⌝ }
+{
+    if_so(0 < place) + if_so(place < last)
 }
 
 // The repeats of the hops of the row at a place that touch the node.
 fn row_used(image: &[u8], at: usize, node: Node) -> u32
     requires { ⌜ RowHere (now image) at ⌝ }
-    ensures { λ r. ⌜ (r ≡ hopsUsed (node .0) (rowAt (now (image .entry)) at) (hops (rowAt (now (image .entry)) at))) ⌝ }
+    ensures { λ r. ⌜ (r ≡ rowUsed (node .0) (rowAt (now (image .entry)) at)) ⌝ }
 {
-    let last = image::hops_at(image, at);
-    let turns = operations::repeats_of(image::period_at(image, at));
-    let mut sum: u32 = 0;
-    let mut i = 0;
-    while i < last {
-        let operation = operations::operation_at(image, at, node, i, last);
-        sum += wide32(operations::where_working(operation, turns));
-        i += 1;
+    let stop = operations::stop_of(image, at, node);
+    match stop {
+        Stop::At(place) => {
+            let turns = operations::repeats_of(image::period_at(image, at));
+            wide32(turns) * ends(place, image::hops_at(image, at))
+        }
+        Stop::Nowhere => 0,
     }
-    sum
 }
 
 // The repeats of all hops that touch the node.
 fn used_slots(image: &[u8], book: Book, node: Node) -> u32
-    requires { ⌜ Stored (now image) (bookIn (now image)) × HeaderOf (now image) book ⌝ }
+    requires { ⌜ LawfulImage (now image) × HeaderOf (now image) book ⌝ }
     ensures { λ r. ⌜ r ≡ used (bookIn (now (image .entry))) (node .0) ⌝ }
 {
     let mut sum: u32 = 0;
@@ -81,7 +93,7 @@ fn used_slots(image: &[u8], book: Book, node: Node) -> u32
 
 // The node's balance, without its table.
 pub fn count(image: &[u8], book: Book, node: Node) -> Counts
-    requires { ⌜ Stored (now image) (bookIn (now image)) × HeaderOf (now image) book ⌝ }
+    requires { ⌜ LawfulImage (now image) × HeaderOf (now image) book ⌝ }
     ensures { λ r. ⌜ BalanceOf (bookIn (now (image .entry))) (node .0) (r .data) (r .used) (r .free) ⌝ }
 {
     let all = data_slots(book.plan);

@@ -1,17 +1,19 @@
--- The bits of the numbers that the operations on sets make. Assumes nothing.
+-- The bits of the numbers that the operations on sets make.
 use mathlib.Core.Path.{_≡_, refl, sym, ap, _∙_, subst}
 use mathlib.Core.Logic.{_⊎_, inl, inr, ⊎-elim}
 use Prim.Native.Nat.{ℕ, zero, suc, _+_, _*_, _/_, _-_, _%_, _^_, _≤_, _<_, min, max}
-use native.Mathlib.Nat.{lt-of-not-le, lt-of-lt-of-le, mod-lt, zero-lt-suc, div-one, one-mul, pow-suc, div-eq-of-lt, mod-eq-of-lt}
+use native.Mathlib.Nat.{lt-of-not-le, lt-of-lt-of-le, mod-lt, zero-lt-suc, one-mul, pow-suc, div-eq-of-lt, mod-eq-of-lt}
 use native.Mathlib.Numerals.{one-add}
 use native.Mathlib.Decide.{ℕ-discrete}
 use native.Mathlib.Omega.{arith}
 use lib.Arith.{digits-mod, lt-one}
 use lib.Bits.{bitAnd, bitOr, and-step, or-step, and-shr, or-shr, and-self, or-lt, and-le-l}
 use lib.Count.{trailingZeros, under, ones, ones-step, ones-cat}
-use lib.Pow.{pow-mono, pow-lt, shr-shr, shl-shr, pow-pos, mod-pow-add}
+use lib.Pow.{pow-mono, pow-lt, shl-shr, pow-pos, mod-pow-add}
 use Rattle.rules.specs.Words.{bit, Has, NoBitFrom, Count}
 use Rattle.rules.specs.Words.Count.{none, one, skip}
+use Rattle.rules.proofs.Sets.{bit-zero, bit-suc}
+pub use Rattle.rules.proofs.Sets.{zero-none}
 use Rattle.bitset.specs.Sets.{SetOf, Lowest}
 
 two-pos : zero < 2
@@ -24,23 +26,12 @@ bit-lt n k = mod-lt (n / 2 ^ k) two-pos
 pub has-or-not : (n k : ℕ) → Dec (Has n k)
 has-or-not n k = ℕ-discrete (bit n k) 1
 
--- A BIT BY RECURSION
-pub bit-zero : (n : ℕ) → bit n 0 ≡ n % 2
-bit-zero n = ap (λ (x : ℕ). x % 2) (div-one n)
-
-pub bit-suc : (n k : ℕ) → bit n (suc k) ≡ bit (n / 2) k
-bit-suc n k = ap (λ (x : ℕ). x % 2) (ap (λ (x : ℕ). n / 2 ^ x) (sym (one-add k)) ∙ sym (shr-shr n 1 k))
-
 -- no bit stands past the width
 pub past : (w n k : ℕ) → NoBitFrom w n → w ≤ k → Has n k → ⊥
 past w n k h l i = omega (arith, ap (λ (x : ℕ). x % 2) (div-eq-of-lt (lt-of-lt-of-le h (pow-mono l))))
 
 pub within : (w n k : ℕ) → NoBitFrom w n → Has n k → k < w
 within w n k h i = lt-of-not-le (λ l. past w n k h l i)
-
--- the empty set
-pub zero-none : (k : ℕ) → Has 0 k → ⊥
-zero-none k h = past zero 0 k (pow-pos zero) (omega arith) h
 
 -- UNION, INTERSECTION, DIFFERENCE
 max-lt : (x y : ℕ) → x < 2 → y < 2 → max x y < 2

@@ -1,4 +1,4 @@
--- A set is known by its members, and a walk over them from the lowest on meets each. Assumes nothing.
+-- A set is known by its members, and a walk over them from the lowest on meets each.
 use mathlib.Core.Path.{_≡_, refl, sym, _∙_, subst}
 use mathlib.Core.Logic.{_⊎_, inl, inr}
 use Prim.Native.Nat.{ℕ, zero, suc, _/_, _-_, _%_, _<_}
@@ -9,8 +9,9 @@ use lib.Arith.{lt-one}
 use lib.Bits.{and-le-r}
 use lib.Pow.{pow-pos}
 use Rattle.rules.specs.Words.{bit, Has, NoBitFrom}
+use Rattle.rules.proofs.Sets.{bit-zero, bit-suc, zero-none}
 use Rattle.bitset.specs.Sets.{SetOf, Lowest}
-use Rattle.bitset.proofs.Bits.{bit-lt, bit-zero, bit-suc, within, zero-none, lowest-law, rest-law}
+use Rattle.bitset.proofs.Bits.{bit-lt, within, lowest-law, rest-law}
 
 alike : (x y : ℕ) → x < 2 → y < 2 → (x ≡ 1 → y ≡ 1) → (y ≡ 1 → x ≡ 1) → x ≡ y
 alike zero zero h l f g = refl

@@ -1,4 +1,4 @@
--- A number of 64 bits as the set of the numbers that it has. Assumes nothing.
+-- A number of 64 bits as the set of the numbers that it has.
 use Prim.Native.Nat.{ℕ, _<_}
 use Rattle.rules.specs.Words.{Has, NoBitFrom}
 

@@ -5,6 +5,9 @@ ghost use Prim.Native.Nat.{ℕ, _<_};
 ghost use Rattle.rules.specs.Words.{Has, Count, Tests};
 ghost use Rattle.bitset.specs.Sets.{SetOf, Lowest};
 
+// Every number below 64.
+pub const ALL: u64 = 0xffff_ffff_ffff_ffff;
+
 // Whether b is a member.
 pub fn has(set: u64, b: usize) -> bool
     requires { ⌜ b < 64 ⌝ }

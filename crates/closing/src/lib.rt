@@ -1,8 +1,7 @@
-// Closes a stream on the image of a lawful book.
+// Closes a stream on the image of a lawful book in the newest version.
 ghost use mathlib.Core.Path.{_≡_};
 ghost use Prim.Native.Nat.{_<_, _≤_};
-ghost use Rattle.rules.specs.Image.{Stored};
-ghost use Rattle.model.specs.Reading.{bookIn};
+ghost use Rattle.rules.proofs.Reading.{NewestImage};
 ghost use Rattle.finding.specs.Spot.{Taken};
 ghost use Rattle.closing.specs.Close.{TakesOut, Closes};
 use answers::Answer;
@@ -11,7 +10,7 @@ use image::Book;
 
 // Writes the image without the row at the place.
 fn take_out(image: &[u8], id: u16, at: usize, out: &mut [u8]) -> Answer
-    requires { ⌜ Stored (now image) (bookIn (now image)) × Taken (now image) id at ⌝ }
+    requires { ⌜ NewestImage (now image) × Taken (now image) id at ⌝ }
     ensures { λ r. ⌜ TakesOut (now (image .entry)) id (now (out .entry)) (r .number) (r .length) (now (out .exit)) ⌝ }
 {
     let book = Book::read(image);
@@ -34,7 +33,7 @@ fn take_out(image: &[u8], id: u16, at: usize, out: &mut [u8]) -> Answer
 
 // Closes the stream of the id.
 pub fn close_on(image: &[u8], id: u16, out: &mut [u8]) -> Answer
-    requires { ⌜ Stored (now image) (bookIn (now image)) ⌝ }
+    requires { ⌜ NewestImage (now image) ⌝ }
     ensures { λ r. ⌜ Closes (now (image .entry)) id (now (out .entry)) (r .number) (r .length) (now (out .exit)) ⌝ }
 {
     if id == 0 {

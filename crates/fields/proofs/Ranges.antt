@@ -1,4 +1,4 @@
--- The ranges of a header's fields. Assumes nothing.
+-- The ranges of a header's fields.
 use mathlib.Core.Path.{_≡_, refl, sym, subst}
 use mathlib.Core.Logic.{inl, inr}
 use mathlib.Core.Bool.{Bool}

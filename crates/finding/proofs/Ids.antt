@@ -1,4 +1,4 @@
--- The search for an id among rows that rise by id. Assumes nothing.
+-- The search for an id among rows that rise by id.
 use mathlib.Core.Path.{_≡_, refl, sym, ap, _∙_, subst}
 use mathlib.Core.Logic.{_⊎_, inl, inr, ⊎-elim}
 use mathlib.Core.List.{List, [], _∷_, _++_}
@@ -7,11 +7,14 @@ use native.Mathlib.Omega.{arith}
 use lib.ListN.{length, drop}
 use Rattle.rules.specs.Words.{_∈_, With}
 use Rattle.rules.specs.Words.With.{here, there}
-use Rattle.rules.specs.Book.{Row, RisingById, Known}
-use Rattle.rules.specs.Image.{rowsStart, nodesOf, streamsOf, inTurn, encodeRow, Stored}
-use Rattle.model.specs.Reading.{rowsIn, bookIn}
+use Rattle.rules.specs.Book.{Row, RisingByKey, Known}
+use Rattle.rules.specs.Image.{rowsStart, versionOf, streamsOf, inTurn, encodeRow}
+use Rattle.rules.proofs.Reading.{bookIn, LawfulImage}
+use Rattle.image.specs.Header.{HeaderOf}
+use Rattle.image.specs.declared.Book as head
 use Rattle.image.specs.Places.{rowAt, nextAt, rowsFrom, Stands}
 use Rattle.image.proofs.Stands.{in-later, stored-length, stands-start, stands-split, stands-row, stands-next, stands-end}
+use Rattle.image.proofs.Walks.{rows-start}
 use Rattle.finding.specs.Spot.{Vacant, Taken}
 
 -- the rows before the place have lower ids
@@ -19,11 +22,12 @@ pub record Passed (s : List ℕ) (id at left : ℕ) : Type 0 where
   pub stands : Stands s at left
   pub lower : (r : Row) → r ∈ stands .before → r .id < id
 
-pub passed-start : {s : List ℕ} {id at left : ℕ} → Stored s (bookIn s) → at ≡ rowsStart (nodesOf s) → left ≡ streamsOf s → Passed s id at left
-passed-start {s} {id} {at} {left} h e f =
-    subst (λ (n : ℕ). Passed s id at n) (sym f) (subst (λ (n : ℕ). Passed s id n (streamsOf s)) (sym e) record { stands = stands-start h; lower = λ r m. absurd m })
+pub passed-start : {s : List ℕ} {b : head.Book} {id at left : ℕ} → LawfulImage s → HeaderOf s b → at ≡ rowsStart (b .version) (b .nodes) → left ≡ b .streams → Passed s id at left
+passed-start {s} {id = id} {at} {left} w h e f =
+    subst (λ (n : ℕ). Passed s id at n) (sym (f ∙ h .streams))
+    (subst (λ (n : ℕ). Passed s id n (streamsOf s)) (sym (rows-start h e)) record { stands = stands-start w; lower = λ r m. absurd m })
 
-later : (xs ys : List Row) → RisingById (xs ++ ys) → RisingById ys
+later : (xs ys : List Row) → RisingByKey (xs ++ ys) → RisingByKey ys
 later [] ys up = up
 later (x ∷ xs) ys up = later xs ys (up .1)
 
@@ -41,10 +45,10 @@ module _ {s : List ℕ} {id at left : ℕ} (more : 0 < left) (p : Passed s id at
         (in-either r (p .stands .before) (rowAt s at ∷ []) m);
   }
 
-  rest-rises : RisingById (rowAt s at ∷ rowsFrom s (left - 1) (nextAt s at))
+  rest-rises : RisingByKey (rowAt s at ∷ rowsFrom s (left - 1) (nextAt s at))
   rest-rises =
-      subst RisingById (stands-split more (p .stands))
-      (later (p .stands .before) (p .stands .rest) (subst RisingById (p .stands .all) (p .stands .stored .lawful .rising)))
+      subst RisingByKey (stands-split more (p .stands))
+      (later (p .stands .before) (p .stands .rest) (subst RisingByKey (p .stands .all) (p .stands .stored .lawful .rising)))
 
   pub vacant-here : id < rowAt s at .id → Vacant s id at
   vacant-here l = record {
@@ -67,7 +71,7 @@ module _ {s : List ℕ} {id at left : ℕ} (more : 0 < left) (p : Passed s id at
     rest = rowsFrom s (left - 1) (nextAt s at);
     all = p .stands .all ∙ ap (λ (rows : List Row). p .stands .before ++ rows) (stands-split more (p .stands));
     inside = p .stands .inside;
-    bytes = p .stands .bytes ∙ ap (inTurn encodeRow) (stands-split more (p .stands));
+    bytes = p .stands .bytes ∙ ap (inTurn (encodeRow (versionOf s))) (stands-split more (p .stands));
     named = e;
     whole = stands-row more (p .stands) .whole;
   }
@@ -88,7 +92,7 @@ vacant-end {s} {id} {at} {left} none p = record {
     nothing (x ∷ rest) e r m = absurd (omega arith)
 
 -- a lawful image has a header
-pub stored-long : {s : List ℕ} → Stored s (bookIn s) → 16 ≤ length s
+pub stored-long : {s : List ℕ} → LawfulImage s → 16 ≤ length s
 stored-long h = omega (arith, stored-length h)
 
 -- in a vacant spot no row has the id, and in a taken one a row has it

@@ -1,12 +1,12 @@
--- Where the row of an id stands among the rows of a lawful image, or would stand. Assumes nothing.
+-- Where the row of an id stands among the rows of a lawful image, or would stand.
 use mathlib.Core.Path.{_≡_}
 use mathlib.Core.List.{List, _∷_, _++_}
 use Prim.Native.Nat.{ℕ, _<_, _≤_}
 use lib.ListN.{length, drop}
 use Rattle.rules.specs.Words.{_∈_}
 use Rattle.rules.specs.Book.{Row}
-use Rattle.rules.specs.Image.{inTurn, encodeRow}
-use Rattle.model.specs.Reading.{rowsIn}
+use Rattle.rules.specs.Image.{inTurn, encodeRow, versionOf}
+use Rattle.rules.proofs.Reading.{rowsIn}
 use Rattle.image.specs.Places.{rowAt, Whole}
 use Rattle.finding.specs.declared.Spot.{Spot}
 use Rattle.finding.specs.declared.Spot.the-variants.{Between, Here}
@@ -17,7 +17,7 @@ pub record Vacant (s : List ℕ) (id at : ℕ) : Type 0 where
   pub rest : List Row
   pub all : rowsIn s ≡ before ++ rest
   pub inside : at ≤ length s
-  pub bytes : drop at s ≡ inTurn encodeRow rest
+  pub bytes : drop at s ≡ inTurn (encodeRow (versionOf s)) rest
   pub lower : (r : Row) → r ∈ before → r .id < id
   pub higher : (r : Row) → r ∈ rest → id < r .id
 
@@ -27,7 +27,7 @@ pub record Taken (s : List ℕ) (id at : ℕ) : Type 0 where
   pub rest : List Row
   pub all : rowsIn s ≡ before ++ (rowAt s at ∷ rest)
   pub inside : at ≤ length s
-  pub bytes : drop at s ≡ inTurn encodeRow (rowAt s at ∷ rest)
+  pub bytes : drop at s ≡ inTurn (encodeRow (versionOf s)) (rowAt s at ∷ rest)
   pub named : rowAt s at .id ≡ id
   pub whole : Whole s at
 

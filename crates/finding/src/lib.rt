@@ -1,6 +1,5 @@
 // Finds the row of an id on the image of a lawful book.
-ghost use Rattle.rules.specs.Image.{Stored};
-ghost use Rattle.model.specs.Reading.{bookIn};
+ghost use Rattle.rules.proofs.Reading.{LawfulImage};
 ghost use Rattle.finding.specs.Spot.{SpotOf};
 use image::Book;
 use reader::Cut;
@@ -13,7 +12,7 @@ pub enum Spot {
 
 // Seeks the row of the id.
 pub fn find(image: &[u8], id: u16) -> Spot
-    requires { ⌜ Stored (now image) (bookIn (now image)) ⌝ }
+    requires { ⌜ LawfulImage (now image) ⌝ }
     ensures { λ r. ⌜ SpotOf (now (image .entry)) id r ⌝ }
 {
     let book = Book::read(image);

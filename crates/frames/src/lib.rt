@@ -2,6 +2,7 @@
 ghost use Prim.Native.Nat.{_+_, _≤_};
 ghost use lib.ListN.{length};
 use answers::Answer;
+use rules::Asked;
 use rules::Node;
 use rules::Plan;
 use rules::Slot;
@@ -106,11 +107,13 @@ fn new_book(frame: &[u8], out: &mut [u8]) -> Reply
 fn open_stream(frame: &[u8], out: &mut [u8]) -> Reply
     requires { ⌜ 19 ≤ length (now frame) ⌝ }
 {
-    let id = image::word_at(frame, 1);
-    let source = Node(frame[3]);
-    let destination = Node(frame[4]);
-    let period = Tile(image::word_at(frame, 5));
-    answered(planner::open_stream(&frame[HEAD..], id, source, destination, period, out))
+    let asked = Asked {
+        id: image::word_at(frame, 1),
+        source: Node(frame[3]),
+        destination: Node(frame[4]),
+        period: Tile(image::word_at(frame, 5)),
+    };
+    answered(planner::open_stream(&frame[HEAD..], asked, out))
 }
 
 // Closes a stream.

@@ -1,25 +1,24 @@
--- What a lawful row has at each of its hops. Assumes nothing.
+-- What a lawful row has at each of its hops.
 use Prim.Native.Nat.{ℕ, _*_, _<_, _≤_}
 use native.Mathlib.Omega.{arith}
 use lib.ListN.{getD}
 use Rattle.rules.specs.Words.{_∈_}
-use Rattle.rules.specs.Tiles.{Plan}
-use Rattle.rules.specs.Topology.{Topology, nodes}
-use Rattle.rules.specs.Book.{Row, hops, rowOffset, OnData, LawfulRow}
+use Rattle.rules.specs.Topology.{nodes}
+use Rattle.rules.specs.Book.{Site, Row, hops, rowOffset, OnData, LawfulRow}
 use Rattle.rules.proofs.Lists.{at-in}
 
-module _ {plan : Plan} {T : Topology} {r : Row} (w : LawfulRow plan T r) where
+module _ {site : Site} {r : Row} (w : LawfulRow site r) where
   -- its nodes are below N
-  pub node-known : (i : ℕ) → i ≤ hops r → getD (r .route) i 0 < nodes T
+  pub node-known : (i : ℕ) → i ≤ hops r → getD (r .route) i 0 < nodes (site .links)
   node-known i l = w .route .known (getD (r .route) i 0) (at-in (r .route) i (omega (arith, w .route .some)))
 
   offset-there : (i : ℕ) → i < hops r → rowOffset r i ∈ r .offsets
   offset-there i l = at-in (r .offsets) i (omega (arith, w .offsets .count))
 
   -- its offsets are below K * S
-  pub offset-within : (i : ℕ) → i < hops r → rowOffset r i < r .period * plan .slots
+  pub offset-within : (i : ℕ) → i < hops r → rowOffset r i < r .period * site .plan .slots
   offset-within i l = w .offsets .within (rowOffset r i) (offset-there i l)
 
   -- and on data slots
-  pub offset-on-data : (i : ℕ) → i < hops r → OnData plan (r .period) (rowOffset r i)
+  pub offset-on-data : (i : ℕ) → i < hops r → OnData (site .plan) (r .period) (rowOffset r i)
   offset-on-data i l = w .on-data (rowOffset r i) (offset-there i l)

@@ -1,4 +1,4 @@
--- What stands at a place, by the bytes of the image. Assumes nothing.
+-- What stands at a place, by the bytes of the image.
 use mathlib.Core.Path.{_≡_, refl, sym, ap, ap₂, _∙_}
 use mathlib.Core.Bool.{false}
 use mathlib.Core.List.{List, _∷_}
@@ -8,11 +8,11 @@ use lib.Dec.{leb}
 use lib.ListN.{length, getD, drop, length-take, length-drop}
 use lib.Seq.{getD-take, getD-drop, drop-drop}
 use Rattle.rules.specs.Book.{Row, hops, rowOffset}
-use Rattle.rules.specs.Image.{wordAt, word64At, rowsStart, nodesOf, streamsOf}
+use Rattle.rules.specs.Image.{wordAt, word64At, versionOf, rowsPlace, streamsOf}
 use Rattle.rules.specs.Words.{Tests}
 use Rattle.rules.proofs.Tests.{never, alike, tests-le}
 use Rattle.rules.proofs.Encoding.{wordsAt, Sized}
-use Rattle.model.specs.Reading.{readRows, rowsIn}
+use Rattle.rules.proofs.Reading.{readRows, rowsIn}
 use Rattle.image.specs.Places.{rowAt, nextAt, rowsFrom, Whole}
 
 word-drop : (k : ℕ) (s : List ℕ) (i j : ℕ) → k + i ≡ j → wordAt (drop k s) i ≡ wordAt s j
@@ -70,16 +70,16 @@ module _ (s : List ℕ) (at : ℕ) where
     next-hops = omega (arith, row-hops)
 
 -- the rows from a place on are those that are read there
-pub rows-from : (s : List ℕ) (n at : ℕ) → rowsFrom s n at ≡ readRows n (drop at s)
+pub rows-from : (s : List ℕ) (n at : ℕ) → rowsFrom s n at ≡ readRows (versionOf s) n (drop at s)
 unfolding rowAt nextAt
 rows-from s zero at = refl
 rows-from s (suc n) at =
     let e : drop (nextAt s at) s ≡ drop (5 + 3 * getD (drop at s) 3 0) (drop at s) =
     ap (λ (h : ℕ). drop (at + (5 + 3 * h)) s) (sym (getD-drop at s 3 0)) ∙ sym (drop-drop (5 + 3 * getD (drop at s) 3 0) at s) in
-    ap (λ (rows : List Row). rowAt s at ∷ rows) (rows-from s n (nextAt s at) ∙ ap (readRows n) e)
+    ap (λ (rows : List Row). rowAt s at ∷ rows) (rows-from s n (nextAt s at) ∙ ap (readRows (versionOf s) n) e)
 
-pub rows-in : (s : List ℕ) → rowsIn s ≡ rowsFrom s (streamsOf s) (rowsStart (nodesOf s))
-rows-in s = sym (rows-from s (streamsOf s) (rowsStart (nodesOf s)))
+pub rows-in : (s : List ℕ) → rowsIn s ≡ rowsFrom s (streamsOf s) (rowsPlace s)
+rows-in s = sym (rows-from s (streamsOf s) (rowsPlace s))
 
 pub length-rows-from : (s : List ℕ) (n at : ℕ) → length (rowsFrom s n at) ≡ n
 length-rows-from s zero at = refl
@@ -108,7 +108,7 @@ length-words-at zero s = refl
 length-words-at (suc n) s = ap suc (length-words-at n (drop 2 s))
 
 -- a whole row has as many offsets as hops, and one node more
-pub whole-sized : (s : List ℕ) (at : ℕ) → Whole s at → Sized (rowAt s at)
+pub whole-sized : (s : List ℕ) (at : ℕ) → Whole s at → Sized (versionOf s) (rowAt s at)
 unfolding rowAt
 whole-sized s at w = record {
   nodes = simp (length-take, length-drop) (omega (arith, size s at w, enough s at w));

@@ -1,4 +1,4 @@
--- A walk over the rows of an image, from row to row. Assumes nothing.
+-- A walk over the rows of an image, from row to row.
 use mathlib.Core.Path.{_≡_, refl, sym, ap, ap₂, _∙_, subst}
 use mathlib.Core.Logic.{inl, inr}
 use mathlib.Core.List.{List, [], _∷_, _++_, append-assoc}
@@ -9,10 +9,10 @@ use lib.ListN.{length, getD, drop, length-append, length-drop}
 use lib.Seq.{getD-drop, drop-drop}
 use Rattle.rules.specs.Words.{_∈_}
 use Rattle.rules.specs.Book.{Row, hops, hopsInAll}
-use Rattle.rules.specs.Image.{inTurn, encodeRow, rowsStart, imageLength, nodesOf, streamsOf, RowsOf, Stored}
-use Rattle.rules.proofs.Encoding.{frontRow, Sized, AllSized, row-back, length-row, left-over, lawful-sized, rows-of, length-encode, all-sized}
-use Rattle.rules.proofs.Written.{length-linksAt}
-use Rattle.model.specs.Reading.{rowsIn, bookIn}
+use Rattle.rules.specs.Image.{linksStart, imageLength, inTurn, encodeRow, versionOf, nodesOf, streamsOf, rowsPlace, RowsOf}
+use Rattle.rules.proofs.Encoding.{frontRow, Sized, AllSized, row-back, length-row, left-over, lawful-sized, rows-of, length-encode}
+use Rattle.rules.proofs.Written.{length-sets-at}
+use Rattle.rules.proofs.Reading.{rowsIn, bookIn, LawfulImage}
 use Rattle.image.specs.Places.{rowAt, nextAt, rowsFrom, Whole, Stands, RowHere}
 use Rattle.image.proofs.Places.{length-rows-from}
 
@@ -21,20 +21,20 @@ in-later x [] ys m = m
 in-later x (y ∷ xs) ys m = inr (in-later x xs ys m)
 
 -- what is read of a stored image are its rows
-pub stored-rows : {s : List ℕ} → Stored s (bookIn s) → RowsOf s (rowsIn s)
-stored-rows {s} h = subst (λ (t : List ℕ). RowsOf t (rowsIn s)) (sym (h .bytes)) (rows-of (bookIn s) (h .lawful))
+pub stored-rows : {s : List ℕ} → LawfulImage s → RowsOf s (rowsIn s)
+stored-rows {s} h = subst (λ (t : List ℕ). RowsOf t (rowsIn s)) (sym (h .bytes)) (rows-of (versionOf s) (h .version) (bookIn s) (h .lawful) (h .fits))
 
--- its length is the stands-split that its header gives
-pub stored-length : {s : List ℕ} → Stored s (bookIn s) → length s ≡ imageLength (nodesOf s) (length (rowsIn s)) (hopsInAll (rowsIn s))
+-- its length is the one that its rows have
+pub stored-length : {s : List ℕ} → LawfulImage s → length s ≡ imageLength (versionOf s) (nodesOf s) (length (rowsIn s)) (hopsInAll (rowsIn s))
 stored-length {s} h =
-    ap length (h .bytes) ∙ length-encode (bookIn s) (all-sized (bookIn s) (h .lawful))
-    ∙ ap (λ (N : ℕ). imageLength N (length (rowsIn s)) (hopsInAll (rowsIn s))) (length-linksAt s 16 (nodesOf s))
+    ap length (h .bytes) ∙ length-encode (versionOf s) (bookIn s) (h .lawful)
+    ∙ ap (λ (N : ℕ). imageLength (versionOf s) N (length (rowsIn s)) (hopsInAll (rowsIn s))) (length-sets-at s (linksStart (versionOf s)) (nodesOf s))
 
 -- A ROW WHERE IT WAS WRITTEN
-module _ (s : List ℕ) (at : ℕ) (r : Row) (t : List ℕ) (w : Sized r) (e : drop at s ≡ encodeRow r ++ t) where
+module _ (s : List ℕ) (at : ℕ) (r : Row) (t : List ℕ) (w : Sized (versionOf s) r) (e : drop at s ≡ encodeRow (versionOf s) r ++ t) where
   pub read-row : rowAt s at ≡ r
   unfolding rowAt
-  read-row = ap frontRow e ∙ row-back r t w
+  read-row = ap (frontRow (versionOf s)) e ∙ row-back (versionOf s) r t w
 
   stated : getD s (at + 3) 0 ≡ hops r
   stated = sym (getD-drop at s 3 0) ∙ ap (λ (l : List ℕ). getD l 3 0) e
@@ -42,26 +42,26 @@ module _ (s : List ℕ) (at : ℕ) (r : Row) (t : List ℕ) (w : Sized r) (e : d
   pub next-bytes : drop (nextAt s at) s ≡ t
   unfolding nextAt
   next-bytes =
-      ap (λ (h : ℕ). drop (at + (5 + 3 * h)) s) stated ∙ sym (drop-drop (5 + 3 * hops r) at s) ∙ ap (drop (5 + 3 * hops r)) e ∙ left-over r t w
+      ap (λ (h : ℕ). drop (at + (5 + 3 * h)) s) stated ∙ sym (drop-drop (5 + 3 * hops r) at s) ∙ ap (drop (5 + 3 * hops r)) e ∙ left-over (versionOf s) r t w
 
   long : length s - at ≡ 5 + 3 * hops r + length t
-  long = sym (length-drop at s) ∙ ap length e ∙ length-append (encodeRow r) t ∙ ap (λ (n : ℕ). n + length t) (length-row r t w)
+  long = sym (length-drop at s) ∙ ap length e ∙ length-append (encodeRow (versionOf s) r) t ∙ ap (λ (n : ℕ). n + length t) (length-row (versionOf s) r t w)
 
   pub whole-row : Whole s at
   unfolding nextAt
   whole-row = record { front = omega (arith, long); fits = omega (arith, long, stated) }
 
 -- rows where they were written are those from the place on
-written-rows : (s : List ℕ) (rows : List Row) (at : ℕ) → AllSized rows → drop at s ≡ inTurn encodeRow rows → rows ≡ rowsFrom s (length rows) at
+written-rows : (s : List ℕ) (rows : List Row) (at : ℕ) → AllSized (versionOf s) rows → drop at s ≡ inTurn (encodeRow (versionOf s)) rows → rows ≡ rowsFrom s (length rows) at
 written-rows s [] at w e = refl
 written-rows s (r ∷ rows) at w e =
     let u = w r (inl refl) in
-    let t = inTurn encodeRow rows in
+    let t = inTurn (encodeRow (versionOf s)) rows in
     ap₂ _∷_ (sym (read-row s at r t u e)) (written-rows s rows (nextAt s at) (λ x m. w x (inr m)) (next-bytes s at r t u e))
 
 -- THE WALK
 module _ {s : List ℕ} where
-  abbrev pub stands-start : Stored s (bookIn s) → Stands s (rowsStart (nodesOf s)) (streamsOf s)
+  abbrev pub stands-start : LawfulImage s → Stands s (rowsPlace s) (streamsOf s)
   stands-start h = record {
     stored = h;
     before = [];
@@ -72,7 +72,7 @@ module _ {s : List ℕ} where
     bytes = stored-rows h .fill;
   }
 
-  sized : {at left : ℕ} (w : Stands s at left) → AllSized (w .rest)
+  sized : {at left : ℕ} (w : Stands s at left) → AllSized (versionOf s) (w .rest)
   sized w r m = lawful-sized (w .stored .lawful .rows r (subst (λ (rows : List Row). r ∈ rows) (sym (w .all)) (in-later r (w .before) (w .rest) m)))
 
   -- the rows that are left are those from the place on
@@ -89,22 +89,22 @@ module _ {s : List ℕ} where
         split zero l = absurd (omega arith)
         split (suc n) l = simp unary-clauses refl
 
-    pub stands-bytes : drop at s ≡ encodeRow (rowAt s at) ++ inTurn encodeRow (rowsFrom s (left - 1) (nextAt s at))
-    stands-bytes = w .bytes ∙ ap (inTurn encodeRow) stands-split
+    pub stands-bytes : drop at s ≡ encodeRow (versionOf s) (rowAt s at) ++ inTurn (encodeRow (versionOf s)) (rowsFrom s (left - 1) (nextAt s at))
+    stands-bytes = w .bytes ∙ ap (inTurn (encodeRow (versionOf s))) stands-split
 
     here : rowAt s at ∈ rowsIn s
     here =
         subst (λ (rows : List Row). rowAt s at ∈ rows) (sym (w .all ∙ ap (λ (rows : List Row). w .before ++ rows) stands-split))
         (in-later (rowAt s at) (w .before) (rowAt s at ∷ rowsFrom s (left - 1) (nextAt s at)) (inl refl))
 
-    pub stands-sized : Sized (rowAt s at)
+    pub stands-sized : Sized (versionOf s) (rowAt s at)
     stands-sized = lawful-sized (w .stored .lawful .rows (rowAt s at) here)
 
     pub stands-row : RowHere s at
     stands-row = record {
       there = here;
       lawful = w .stored .lawful .rows (rowAt s at) here;
-      whole = whole-row s at (rowAt s at) (inTurn encodeRow (rowsFrom s (left - 1) (nextAt s at))) stands-sized stands-bytes;
+      whole = whole-row s at (rowAt s at) (inTurn (encodeRow (versionOf s)) (rowsFrom s (left - 1) (nextAt s at))) stands-sized stands-bytes;
     }
 
     -- and the walk goes on behind it
@@ -116,13 +116,13 @@ module _ {s : List ℕ} where
       all = w .all ∙ ap (λ (rows : List Row). w .before ++ rows) stands-split ∙ sym (append-assoc (w .before) (rowAt s at ∷ []) (rowsFrom s (left - 1) (nextAt s at)));
       count = length-rows-from s (left - 1) (nextAt s at);
       inside = stands-row .whole .fits;
-      bytes = next-bytes s at (rowAt s at) (inTurn encodeRow (rowsFrom s (left - 1) (nextAt s at))) stands-sized stands-bytes;
+      bytes = next-bytes s at (rowAt s at) (inTurn (encodeRow (versionOf s)) (rowsFrom s (left - 1) (nextAt s at))) stands-sized stands-bytes;
     }
 
   -- where none is left the image ends
   pub stands-end : {at left : ℕ} → left ≤ 0 → Stands s at left → at ≡ length s
   stands-end {at} {left} none w = end (w .rest) (w .count) (w .bytes)
     where
-      end : (rest : List Row) → length rest ≡ left → drop at s ≡ inTurn encodeRow rest → at ≡ length s
+      end : (rest : List Row) → length rest ≡ left → drop at s ≡ inTurn (encodeRow (versionOf s)) rest → at ≡ length s
       end [] k e = omega (arith, w .inside, length-drop at s, ap length e)
       end (r ∷ rest) k e = absurd (omega arith)

@@ -1,21 +1,21 @@
--- Places in an image: the row that stands at a place, and the rows that stand from there on. Assumes nothing.
+-- Places in an image: the row that stands at a place, and the rows that stand from there on.
 use mathlib.Core.Path.{_≡_}
 use mathlib.Core.List.{List, [], _∷_, _++_}
 use Prim.Native.Nat.{ℕ, zero, suc, _+_, _*_, _≤_, _-_}
 use lib.ListN.{length, getD, take, drop, replicate}
 use Rattle.rules.specs.Words.{_∈_}
 use Rattle.rules.specs.Book.{Row, LawfulRow}
-use Rattle.rules.specs.Image.{inTurn, encodeRow, linksAt, planOf, topologyOf, Stored}
+use Rattle.rules.specs.Image.{hopsPlace, rowLength, inTurn, encodeRow, setsAt, versionOf, siteOf}
 use Rattle.rules.proofs.Encoding.{frontRow}
-use Rattle.model.specs.Reading.{rowsIn, bookIn}
+use Rattle.rules.proofs.Reading.{rowsIn, LawfulImage}
 
 -- the row at the place
 unfoldable pub rowAt : List ℕ → ℕ → Row
-rowAt s at = frontRow (drop at s)
+rowAt s at = frontRow (versionOf s) (drop at s)
 
 -- the place after it
 unfoldable pub nextAt : List ℕ → ℕ → ℕ
-nextAt s at = at + (5 + 3 * getD s (at + 3) 0)
+nextAt s at = at + (rowLength (versionOf s) + 3 * getD s (at + hopsPlace (versionOf s)) 0)
 
 -- n rows from the place on
 abbrev pub rowsFrom : List ℕ → ℕ → ℕ → List Row
@@ -24,26 +24,26 @@ rowsFrom s (suc n) at = rowAt s at ∷ rowsFrom s n (nextAt s at)
 
 -- a whole row, as long as it says, is at the place
 pub record Whole (s : List ℕ) (at : ℕ) : Type 0 where
-  pub front : at + 5 ≤ length s
+  pub front : at + rowLength (versionOf s) ≤ length s
   pub fits : nextAt s at ≤ length s
 
 -- the image of a lawful book, of whose rows the last `left` stand from the place on
 pub record Stands (s : List ℕ) (at left : ℕ) : Type 0 where
-  pub stored : Stored s (bookIn s)
+  pub stored : LawfulImage s
   pub before : List Row
   pub rest : List Row
   pub all : rowsIn s ≡ before ++ rest
   pub count : length rest ≡ left
   pub inside : at ≤ length s
-  pub bytes : drop at s ≡ inTurn encodeRow rest
+  pub bytes : drop at s ≡ inTurn (encodeRow (versionOf s)) rest
 
 -- the array is n topology rows from the place on, then zeros
-pub record Links (s : List ℕ) (at n : ℕ) (links : List ℕ) : Type 0 where
-  pub rows : take n links ≡ linksAt s at n
-  pub rest : drop n links ≡ replicate (64 - n) 0
+pub record Sets (s : List ℕ) (at n : ℕ) (sets : List ℕ) : Type 0 where
+  pub rows : take n sets ≡ setsAt s at n
+  pub rest : drop n sets ≡ replicate (64 - n) 0
 
 -- what is known of the row at a place where one of the book's rows stands
 pub record RowHere (s : List ℕ) (at : ℕ) : Type 0 where
   pub there : rowAt s at ∈ rowsIn s
-  pub lawful : LawfulRow (planOf s) (topologyOf s) (rowAt s at)
+  pub lawful : LawfulRow (siteOf s) (rowAt s at)
   pub whole : Whole s at

@@ -1,12 +1,11 @@
 // An image's bytes: its header, its topology rows, and the rows of its streams, read where they stand.
 ghost use mathlib.Core.Path.{_≡_};
-ghost use mathlib.Core.List.{_++_};
 ghost use Prim.Native.Nat.{_+_, _*_, _<_, _≤_};
 ghost use lib.ListN.{length, getD, take};
 ghost use Rattle.rules.specs.Words.{Tests, TwoBytes};
 ghost use Rattle.rules.specs.Book.{hops, rowOffset};
-ghost use Rattle.rules.specs.Image.{headerLength, rowsStart, imageLength, mark, version, word, wordAt, word64At};
-ghost use Rattle.image.specs.Places.{rowAt, nextAt, Whole, Links};
+ghost use Rattle.rules.specs.Image.{headerLength, rowsStart, imageLength, mark, Version, versionOf, wordAt, word64At};
+ghost use Rattle.image.specs.Places.{rowAt, nextAt, Whole, Sets};
 ghost use Rattle.image.specs.Header.{HeaderOf};
 use rules::Node;
 use rules::Plan;
@@ -19,11 +18,27 @@ pub const HEADER: usize = 16;
 // The mark.
 pub const MARK: [u8; 3] = *b"SLB";
 
-// The version.
-pub const VERSION: u16 = 1;
+// The newest version, in which new and changed books are written.
+pub const NEWEST: u16 = 1;
+
+// The bytes of a topology row,
+pub const SET: usize = 8;
+
+// of a hop in a row: a node and an offset,
+pub const HOP: usize = 3;
+
+// of a row before its hop count,
+const HOPS_PLACE: usize = 3;
+
+// before its nodes,
+const NODES_PLACE: usize = 4;
+
+// and beside its hops.
+pub const ROW: usize = 5;
 
 // What an image's header says of its book.
 pub struct Book {
+    pub version: u16,
     pub plan: Plan,
     pub nodes: usize,
     pub streams: usize,
@@ -84,15 +99,15 @@ pub fn word64_at(image: &[u8], at: usize) -> u64
     wide64(word32_at(image, at)) * 4294967296 + wide64(word32_at(image, at + 4))
 }
 
-// The topology's n rows from a place on, and zeros after them.
-pub fn links(image: &[u8], at: usize, n: usize) -> [u64; 64]
+// The n rows of a topology from a place on, and zeros after them.
+pub fn sets(image: &[u8], at: usize, n: usize) -> [u64; 64]
     requires { ⌜ (n ≤ 64) × (at + 8 * n ≤ length (now image)) ⌝ }
-    ensures { λ r. ⌜ Links (now (image .entry)) at n r ⌝ }
+    ensures { λ r. ⌜ Sets (now (image .entry)) at n r ⌝ }
 {
     let mut rows = [0u64; 64];
     let mut i: usize = 0;
     while i < n {
-        rows[i] = word64_at(image, at + 8 * i);
+        rows[i] = word64_at(image, at + SET * i);
         i += 1;
     }
     rows
@@ -113,6 +128,7 @@ impl Book {
         requires { ⌜ headerLength ≤ length (now image) ⌝ }
         ensures { λ r. ⌜ HeaderOf (now (image .entry)) r ⌝ }
     {
+        let version = word_at(image, 3);
         let plan = Plan {
             slots: Slot(wide16(image[5])),
             tiles: Tile(wide16(image[6])),
@@ -121,6 +137,7 @@ impl Book {
             up: Slot(wide16(image[10])),
         };
         Book {
+            version,
             plan,
             nodes: count(image[11]),
             streams: count(image[12]),
@@ -131,24 +148,31 @@ impl Book {
     // Where the rows of its streams start.
     pub fn rows_start(self) -> usize
         requires { ⌜ self .nodes < 256 ⌝ }
-        ensures { λ r. ⌜ r ≡ rowsStart (self .nodes) ⌝ }
+        ensures { λ r. ⌜ r ≡ rowsStart (self .version) (self .nodes) ⌝ }
     {
-        HEADER + 8 * self.nodes
+        HEADER + SET * self.nodes
     }
 
     // The length of its image.
     pub fn image_length(self) -> usize
         requires { ⌜ (self .nodes < 256) × (self .streams < 256) × TwoBytes (self .hops) ⌝ }
-        ensures { λ r. ⌜ r ≡ imageLength (self .nodes) (self .streams) (self .hops) ⌝ }
+        ensures { λ r. ⌜ r ≡ imageLength (self .version) (self .nodes) (self .streams) (self .hops) ⌝ }
     {
-        self.rows_start() + 5 * self.streams + 3 * self.hops
+        self.rows_start() + ROW * self.streams + HOP * self.hops
     }
 }
 
-// Whether the image starts with the mark and the version.
+// Whether there is such a version.
+fn is_version(version: u16) -> bool
+    ensures { λ r. ⌜ Tests r (Version version) ⌝ }
+{
+    1 <= version && version <= NEWEST
+}
+
+// Whether the image starts with the mark and a version that there is.
 pub fn is_marked(image: &[u8]) -> bool
     requires { ⌜ headerLength ≤ length (now image) ⌝ }
-    ensures { λ r. ⌜ Tests r (take 5 (now (image .entry)) ≡ mark ++ word version) ⌝ }
+    ensures { λ r. ⌜ Tests r ((take 3 (now (image .entry)) ≡ mark) × Version (versionOf (now (image .entry)))) ⌝ }
 {
     if image[0] != MARK[0] {
         return false;
@@ -159,7 +183,7 @@ pub fn is_marked(image: &[u8]) -> bool
     if image[2] != MARK[2] {
         return false;
     }
-    word_at(image, 3) == VERSION
+    is_version(word_at(image, 3))
 }
 
 // Whether a whole row, as long as it says, is at the place.
@@ -168,10 +192,10 @@ pub fn is_whole(image: &[u8], at: usize) -> bool
     ensures { λ r. ⌜ Tests r (Whole (now (image .entry)) at) ⌝ }
 {
     let left = image.len() - at;
-    if left < 5 {
+    if left < ROW {
         return false;
     }
-    5 + 3 * count(image[at + 3]) <= left
+    ROW + HOP * count(image[at + HOPS_PLACE]) <= left
 }
 
 // The row's id.
@@ -195,7 +219,7 @@ pub fn hops_at(image: &[u8], at: usize) -> usize
     requires { ⌜ Whole (now image) at ⌝ }
     ensures { λ r. ⌜ (r ≡ hops (rowAt (now (image .entry)) at)) × (r < 256) ⌝ }
 {
-    count(image[at + 3])
+    count(image[at + HOPS_PLACE])
 }
 
 // Node i of its route.
@@ -203,7 +227,7 @@ pub fn node_at(image: &[u8], at: usize, i: usize) -> Node
     requires { ⌜ Whole (now image) at × (i ≤ hops (rowAt (now image) at)) ⌝ }
     ensures { λ r. ⌜ (r .0 ≡ getD (rowAt (now (image .entry)) at .route) i 0) × (r .0 < 256) ⌝ }
 {
-    Node(image[at + 4 + i])
+    Node(image[at + NODES_PLACE + i])
 }
 
 // The offset of its hop i.
@@ -212,7 +236,7 @@ pub fn offset_at(image: &[u8], at: usize, i: usize) -> Slot
     ensures { λ r. ⌜ (r .0 ≡ rowOffset (rowAt (now (image .entry)) at) i) × TwoBytes (r .0) ⌝ }
 {
     let h = hops_at(image, at);
-    Slot(word_at(image, at + 5 + h + 2 * i))
+    Slot(word_at(image, at + ROW + h + 2 * i))
 }
 
 // The place after it.
@@ -220,5 +244,5 @@ pub fn next(image: &[u8], at: usize) -> usize
     requires { ⌜ Whole (now image) at ⌝ }
     ensures { λ r. ⌜ (r ≡ nextAt (now (image .entry)) at) × (r ≤ length (now (image .entry))) ⌝ }
 {
-    at + (5 + 3 * count(image[at + 3]))
+    at + (ROW + HOP * count(image[at + HOPS_PLACE]))
 }

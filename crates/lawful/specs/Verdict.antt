@@ -1,12 +1,14 @@
--- The number that a check of an image gives. Assumes nothing.
+-- The number that a check of an image gives.
 use mathlib.Core.Path.{_≡_}
 use mathlib.Core.List.{List}
 use Prim.Native.Nat.{ℕ}
 use Rattle.rules.specs.Says.{Says}
-use Rattle.rules.specs.Image.{imageRefusals, Stored}
-use Rattle.model.specs.Reading.{bookIn}
+use Rattle.rules.specs.Image.{imageRefusals, planOf}
+use Rattle.rules.proofs.Reading.{rowsIn, LawfulImage}
+use Rattle.index.specs.Index.{IndexOf}
 
--- the number that the image says, and where it is 0 the bytes are those of the lawful book that they hold
-pub record Verdict (s : List ℕ) (number : ℕ) : Type 0 where
+-- the number that the image says, and where it is 0 the bytes are those of the lawful book that they hold, and the words the index of its rows
+pub record Verdict (s : List ℕ) (number : ℕ) (words : List ℕ) : Type 0 where
   pub says : Says (imageRefusals s) number
-  pub stored : number ≡ 0 → Stored s (bookIn s)
+  pub stored : number ≡ 0 → LawfulImage s
+  pub indexed : number ≡ 0 → IndexOf (planOf s .slots) (rowsIn s) words

@@ -1,20 +1,17 @@
 // Whether an image is that of a lawful book, and if not, which refusal applies first.
-ghost use mathlib.Core.Path.{_≡_};
-ghost use mathlib.Core.List.{_++_};
-ghost use lib.ListN.{take};
-ghost use Rattle.rules.specs.Image.{mark, version, word};
+ghost use Rattle.image.proofs.Marks.{Marked};
 ghost use Rattle.image.specs.Header.{HeaderOf};
 ghost use Rattle.rows.specs.Frame.{Framed};
 ghost use Rattle.lawful.specs.Verdict.{Verdict};
 use image::Book;
 
 // The number of an image whose header is in order: 11, 15, 16 or 0.
-fn body_verdict(image: &[u8], book: Book) -> u8
-    requires { ⌜ (take 5 (now image) ≡ mark ++ word version) × Framed (now image) × HeaderOf (now image) book ⌝ }
-    ensures { λ r. ⌜ Verdict (now (image .entry)) r ⌝ }
+fn body_verdict(image: &[u8], book: Book, index: &mut [u64; index::WORDS]) -> u8
+    requires { ⌜ Marked (now image) × Framed (now image) × HeaderOf (now image) book ⌝ }
+    ensures { λ r. ⌜ Verdict (now (image .entry)) r (now (index .exit)) ⌝ }
 {
     let n = book.nodes;
-    let all = image::links(image, image::HEADER, n);
+    let all = image::sets(image, image::HEADER, n);
     let links = &all[..n];
     if !routes::topology::sound(links) {
         return 11;
@@ -22,15 +19,15 @@ fn body_verdict(image: &[u8], book: Book) -> u8
     if !rows::rows_hold(image, book, links) {
         return 15;
     }
-    if meeting::hops_meet(image, book, links) {
+    if meeting::hops_meet(image, book, links, index) {
         return 16;
     }
     0
 }
 
-// The number that a check of an image gives.
-pub fn verdict(image: &[u8]) -> u8
-    ensures { λ r. ⌜ Verdict (now (image .entry)) r ⌝ }
+// The number that a check of an image gives; where it is 0, the index is that of its rows.
+pub fn verdict(image: &[u8], index: &mut [u64; index::WORDS]) -> u8
+    ensures { λ r. ⌜ Verdict (now (image .entry)) r (now (index .exit)) ⌝ }
 {
     if image.len() < image::HEADER {
         return 14;
@@ -45,5 +42,5 @@ pub fn verdict(image: &[u8]) -> u8
     if image.len() != book.image_length() {
         return 14;
     }
-    body_verdict(image, book)
+    body_verdict(image, book, index)
 }

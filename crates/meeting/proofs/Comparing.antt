@@ -1,65 +1,57 @@
--- Each row compared with the rows before it. Assumes nothing.
+-- Each row compared with the index of the rows before it.
 use mathlib.Core.Path.{_≡_, refl, sym, ap, _∙_, subst}
 use mathlib.Core.Logic.{_⊎_, inl, inr, ⊎-elim}
+use mathlib.Core.Bool.{true, false}
 use mathlib.Core.List.{List, [], _∷_}
 use Prim.Native.Nat.{ℕ, zero, suc, _<_, _≤_, _-_}
 use native.Mathlib.Numerals.{unary-clauses}
 use native.Mathlib.Omega.{arith}
-use lib.ListN.{replicate}
+use lib.ListN.{replicate, length}
 use Rattle.rules.specs.Words.{_∈_}
-use Rattle.rules.specs.Book.{Row, hops, rowHop, rowOffset, RisingById, MeetsClashing, ClashingHopsMeet}
-use Rattle.rules.specs.Image.{planOf, nodesOf, streamsOf, rowsStart, topologyOf, RowsOf}
-use Rattle.rules.proofs.Clashes.{clash-turned}
-use Rattle.rules.proofs.Meeting.{meet-turned}
-use Rattle.model.specs.Reading.{rowsIn, bookIn}
-use Rattle.taken.specs.Taken.{SetForEach, Adds}
+use Rattle.rules.specs.Book.{Row, key, hops, RisingByKey, LawfulRow, RowsMeet, ClashingHopsMeet}
+use Rattle.rules.specs.Image.{planOf, streamsOf, siteOf, rowsPlace, RowsOf}
+use Rattle.rules.proofs.Clashes.{rows-meet-turned}
+use Rattle.rules.proofs.Tests.{never, said-yes, said-no}
+use Rattle.rules.proofs.Reading.{rowsIn, bookIn}
+use Rattle.index.specs.Index.{indexLength, IndexOf}
+use Rattle.index.specs.Marks.{Adds, HopsTake}
+use Rattle.index.proofs.Rows.{index-none, index-more, index-alike}
+use Rattle.index.proofs.Meets.{meets-row, row-meets}
 use Rattle.image.specs.Places.{rowAt, nextAt, rowsFrom}
 use Rattle.image.proofs.Places.{rows-in}
 use Rattle.rows.specs.Walk.{RowStands, RowsStand}
-use Rattle.meeting.specs.Meeting.{sender, receiver, RowTakes, Holds, RowMeetsTaken}
-use Rattle.meeting.proofs.Holding.{holds-none, holds-more, end-meets, meets-taken}
+use Rattle.image.proofs.Hops.{offset-within}
+use Rattle.rows.specs.Frame.{Framed}
+use Rattle.meeting.specs.Meeting.{RowMeets, RowsIndexed}
 
--- some hop of r meets a hop of x that clashes with it
-pub record RowsMeet (s : List ℕ) (r x : Row) : Type 0 where
-  pub hop : ℕ
-  pub there : hop < hops r
-  pub meets : MeetsClashing (topologyOf s) (planOf s .slots) x (r .period) (rowHop r hop) (rowOffset r hop)
-
-rows-turned : {s : List ℕ} {r x : Row} → RowsMeet s r x → RowsMeet s x r
-rows-turned {s} {r} {x} m = record {
-  hop = m .meets .hop;
-  there = m .meets .there;
-  meets = record { hop = m .hop; there = m .there; clash = clash-turned (topologyOf s) (rowHop r (m .hop)) (rowHop x (m .meets .hop)) (m .meets .clash); meet = meet-turned (m .meets .meet) };
-}
-
--- no two of the rows so far, of different ids, meet; the tables hold what they take; and the others are from the place on
-pub record Compared (s : List ℕ) (at left : ℕ) (senders receivers : List ℕ) : Type 0 where
+-- no two of the rows so far, of different keys, meet; the words are their index; and the others are from the place on
+pub record Compared (s : List ℕ) (at left : ℕ) (words : List ℕ) : Type 0 where
   pub before : List Row
   pub stand : RowsStand s left at
-  pub rising : RisingById (rowsFrom s left at)
-  pub lower : (x y : Row) → x ∈ before → y ∈ rowsFrom s left at → x .id < y .id
+  pub rising : RisingByKey (rowsFrom s left at)
+  pub lower : (x y : Row) → x ∈ before → y ∈ rowsFrom s left at → key x < key y
   pub known : (x : Row) → x ∈ before → x ∈ rowsIn s
   pub behind : (x : Row) → x ∈ rowsFrom s left at → x ∈ rowsIn s
   pub each : (x : Row) → x ∈ rowsIn s → (x ∈ before) ⊎ (x ∈ rowsFrom s left at)
-  pub never : (r x : Row) → r ∈ before → x ∈ before → (r .id ≡ x .id → ⊥) → RowsMeet s r x → ⊥
-  pub sending : Holds sender (planOf s .slots) before senders
-  pub receiving : Holds receiver (planOf s .slots) before receivers
+  pub never : (r x : Row) → r ∈ before → x ∈ before → (key r ≡ key x → ⊥) → RowsMeet (siteOf s) r x → ⊥
+  pub framed : Framed s
+  pub index : IndexOf (planOf s .slots) before words
 
-pub compared-start : (s : List ℕ) (n : ℕ) {at left : ℕ} → at ≡ rowsStart (nodesOf s) → left ≡ streamsOf s → SetForEach (replicate n 0) → RowsStand s (streamsOf s) (rowsStart (nodesOf s))
-    → RowsOf s (rowsIn s) → Compared s at left (replicate n 0) (replicate n 0)
-compared-start s n {at} e f z stand rows =
-    subst (λ (k : ℕ). Compared s at k (replicate n 0) (replicate n 0)) (sym f)
-    (subst (λ (k : ℕ). Compared s k (streamsOf s) (replicate n 0) (replicate n 0)) (sym e) (record {
+pub compared-start : (s : List ℕ) {at left : ℕ} → at ≡ rowsPlace s → left ≡ streamsOf s → Framed s → RowsStand s (streamsOf s) (rowsPlace s)
+    → RowsOf s (rowsIn s) → Compared s at left (replicate indexLength 0)
+compared-start s {at} e f framed stand rows =
+    subst (λ (k : ℕ). Compared s at k (replicate indexLength 0)) (sym f)
+    (subst (λ (k : ℕ). Compared s k (streamsOf s) (replicate indexLength 0)) (sym e) (record {
       before = [];
       stand = stand;
-      rising = subst RisingById (rows-in s) (rows .rising);
+      rising = subst RisingByKey (rows-in s) (rows .rising);
       lower = λ x y m. absurd m;
       known = λ x m. absurd m;
       behind = λ x m. subst (λ (all : List Row). x ∈ all) (sym (rows-in s)) m;
       each = λ x m. inr (subst (λ (all : List Row). x ∈ all) (rows-in s) m);
       never = λ r x m. absurd m;
-      sending = holds-none sender (planOf s .slots) n z;
-      receiving = holds-none receiver (planOf s .slots) n z;
+      framed = framed;
+      index = index-none (planOf s .slots);
     }))
 
 -- where rows are left the first of them stands at the place, and the others behind it
@@ -76,7 +68,7 @@ no-row : (s : List ℕ) (n at : ℕ) → n ≤ 0 → (x : Row) → x ∈ rowsFro
 no-row s zero at l x m = m
 no-row s (suc n) at l x m = omega arith
 
-module _ {s : List ℕ} {at left : ℕ} {senders receivers : List ℕ} (w : Compared s at left senders receivers) where
+module _ {s : List ℕ} {at left : ℕ} {words : List ℕ} (w : Compared s at left words) where
   pub compared-row : 0 < left → RowStands s at
   compared-row l = stand-more s left at l (w .stand) .0
 
@@ -87,58 +79,69 @@ module _ {s : List ℕ} {at left : ℕ} {senders receivers : List ℕ} (w : Comp
     down : (x : Row) → x ∈ rowsFrom s left at → x ∈ rowAt s at ∷ rowsFrom s (left - 1) (nextAt s at)
     down x m = subst (λ (rows : List Row). x ∈ rows) (rows-more s left at l) m
 
-    -- a hop that is met in the tables is one of a row before
-    pub compared-found : RowMeetsTaken senders receivers s at → ClashingHopsMeet (bookIn s)
+    most : planOf s .slots ≤ 32
+    most = w .framed .fields .plan .most
+
+    law : LawfulRow (siteOf s) (rowAt s at)
+    law = stand-more s left at l (w .stand) .0 .lawful
+
+    -- what a hop meets in the index is a hop of a row before
+    pub compared-found : RowMeets words s at → ClashingHopsMeet (bookIn s)
     compared-found h =
         let r = rowAt s at in
-        let q = ⊎-elim (end-meets (w .sending)) (end-meets (w .receiving)) (h .2) in
+        let q = meets-row {site = siteOf s} (w .index) most (law .period) (offset-within law (h .0) (h .1)) (h .2) in
         record {
           one = r;
           other = q .0;
           one-there = w .behind r (up r (inl refl));
           other-there = w .known (q .0) (q .1);
           different = λ d. omega (arith, w .lower (q .0) r (q .1) (up r (inl refl)));
-          hop = h .0;
-          hop-there = h .1;
-          meets = q .2;
+          meets = record { hop = h .0; there = h .1; meets = q .2 };
         }
 
-    module _ (no : RowMeetsTaken senders receivers s at → ⊥) where
-      missed : (r x : Row) → r ≡ rowAt s at → x ∈ w .before → RowsMeet s r x → ⊥
+    module _ (no : RowMeets words s at → ⊥) where
+      missed : (r x : Row) → r ≡ rowAt s at → x ∈ w .before → RowsMeet (siteOf s) r x → ⊥
       missed r x e m h =
-          let k = subst (λ (y : Row). RowsMeet s y x) e h in no (k .hop, k .there, meets-taken (w .sending) (w .receiving) x m (k .meets))
+          let k = subst (λ (y : Row). RowsMeet (siteOf s) y x) e h in
+          no (k .hop, k .there, row-meets {site = siteOf s} (w .index) most (law .period) (offset-within law (k .hop) (k .there)) x m (k .meets))
 
-      never-more : (r x : Row) → r ∈ rowAt s at ∷ w .before → x ∈ rowAt s at ∷ w .before → (r .id ≡ x .id → ⊥) → RowsMeet s r x → ⊥
-      never-more r x (inl e) (inl f) d h = d (ap (λ (y : Row). y .id) (e ∙ sym f))
+      never-more : (r x : Row) → r ∈ rowAt s at ∷ w .before → x ∈ rowAt s at ∷ w .before → (key r ≡ key x → ⊥) → RowsMeet (siteOf s) r x → ⊥
+      never-more r x (inl e) (inl f) d h = d (ap key (e ∙ sym f))
       never-more r x (inl e) (inr m) d h = missed r x e m h
-      never-more r x (inr m) (inl f) d h = missed x r f m (rows-turned h)
+      never-more r x (inr m) (inl f) d h = missed x r f m (rows-meet-turned (siteOf s) r x h)
       never-more r x (inr m) (inr k) d h = w .never r x m k d h
 
-      lower-more : (x y : Row) → x ∈ rowAt s at ∷ w .before → y ∈ rowsFrom s (left - 1) (nextAt s at) → x .id < y .id
-      lower-more x y (inl e) m = omega (arith, ap (λ (z : Row). z .id) e, subst RisingById (rows-more s left at l) (w .rising) .0 y m)
+      lower-more : (x y : Row) → x ∈ rowAt s at ∷ w .before → y ∈ rowsFrom s (left - 1) (nextAt s at) → key x < key y
+      lower-more x y (inl e) m = omega (arith, ap key e, subst RisingByKey (rows-more s left at l) (w .rising) .0 y m)
       lower-more x y (inr k) m = w .lower x y k (up y (inr m))
 
       -- the row is one of those before, once it is marked
-      pub compared-next : {u v : List ℕ} {next : ℕ} → Adds (RowTakes sender (planOf s .slots) (rowAt s at)) senders u → Adds (RowTakes receiver (planOf s .slots) (rowAt s at)) receivers v → next ≡ nextAt s at
-          → Compared s next (left - 1) u v
-      compared-next {u} {v} a b e = subst (λ (k : ℕ). Compared s k (left - 1) u v) (sym e) (record {
+      pub compared-next : {after : List ℕ} {next : ℕ} → Adds (HopsTake (planOf s .slots) (rowAt s at) (hops (rowAt s at))) words after → next ≡ nextAt s at
+          → Compared s next (left - 1) after
+      compared-next {after} a e = subst (λ (k : ℕ). Compared s k (left - 1) after) (sym e) (record {
         before = rowAt s at ∷ w .before;
         stand = stand-more s left at l (w .stand) .1;
-        rising = subst RisingById (rows-more s left at l) (w .rising) .1;
+        rising = subst RisingByKey (rows-more s left at l) (w .rising) .1;
         lower = lower-more;
         known = λ x m. ⊎-elim (λ q. w .behind x (up x (inl q))) (λ k. w .known x k) m;
         behind = λ x m. w .behind x (up x (inr m));
         each = λ x m. ⊎-elim (λ k. inl (inr k)) (λ k. ⊎-elim (λ q. inl (inl q)) (λ q. inr q) (down x k)) (w .each x m);
         never = never-more;
-        sending = holds-more (w .sending) a;
-        receiving = holds-more (w .receiving) b;
+        framed = w .framed;
+        index = index-more (w .index) a;
       })
 
-  -- where no row is left none meet
-  pub compared-none : left ≤ 0 → ClashingHopsMeet (bookIn s) → ⊥
-  compared-none l m =
-      w .never (m .one) (m .other) (there (m .one) (m .one-there)) (there (m .other) (m .other-there)) (m .different)
-      (record { hop = m .hop; there = m .hop-there; meets = m .meets })
+  -- where no row is left none meet, and all are in the index
+  pub compared-all : left ≤ 0 → RowsIndexed s words false
+  compared-all l = record {
+    met = said-no (λ m.
+        w .never (m .one) (m .other) (there (m .one) (m .one-there)) (there (m .other) (m .other-there)) (m .different) (m .meets));
+    indexed = λ e. index-alike (w .known) there (w .index);
+  }
     where
       there : (x : Row) → x ∈ rowsIn s → x ∈ w .before
       there x k = ⊎-elim (λ q. q) (λ q. absurd (no-row s left at l x q)) (w .each x k)
+
+-- two rows meet
+pub found-meeting : {s words : List ℕ} → ClashingHopsMeet (bookIn s) → RowsIndexed s words true
+found-meeting m = record { met = said-yes m; indexed = λ e. never (sym e) }

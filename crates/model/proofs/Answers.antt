@@ -1,204 +1,183 @@
--- What open and close answer on a book is what the rules say. Assumes nothing.
-use mathlib.Core.Path.{_≡_, refl, sym, ap, ap₂, _∙_, subst}
-use mathlib.Core.Logic.{_⊎_, inl, inr, ⊎-elim}
-use mathlib.Core.Bool.{Bool, true, false, not, cond, _&&_, _||_}
+-- What a request answers on a book, and makes of it, is what the rules say.
+use mathlib.Core.Path.{_≡_, refl, _∙_, subst}
+use mathlib.Core.Logic.{inl, inr}
+use mathlib.Core.Bool.{Bool}
 use mathlib.Core.List.{List, [], _∷_}
 use mathlib.Core.Option.{Option, some, none}
-use Prim.Native.Nat.{ℕ, zero, suc, _+_, _<_, _≤_}
+use Prim.Native.Nat.{ℕ, _+_, _<_}
 use native.Mathlib.Omega.{arith}
-use native.Mathlib.Nat.{eq-or-lt-of-le, le-of-suc-le-suc, lt-of-not-le}
-use lib.Dec.{eqb, leb, ltb}
+use lib.Dec.{ltb}
 use lib.ListN.{length}
-use Rattle.rules.specs.Words.{_∈_, With, Tests}
-use Rattle.rules.specs.Words.With.{here, there}
-use Rattle.rules.specs.Says.{Refusal, Says}
-use Rattle.rules.specs.Tiles.{periods, Period}
+use Rattle.rules.specs.Words.{Pairwise, total, Tests}
+use Rattle.rules.specs.Says.{Says}
+use Rattle.rules.specs.Tiles.{periods}
 use Rattle.rules.specs.Topology.{Topology, nodes, Route, NoRoute, hopCount}
-use Rattle.rules.specs.Book.{Row, Book, RisingById, LawfulBook, Known, Plus, hopsInAll, mostStreams, mostHops}
-use Rattle.rules.specs.Placing.{FirstPlacing, NoPlacing, Full, NewRow}
-use Rattle.rules.specs.Image.{encode}
-use Rattle.rules.specs.Calls.{OfRoute, Opened, Closed, openRefusals, closeRefusals}
-use Rattle.rules.proofs.Lists.{with-in, with-this, with-other}
+use Rattle.rules.specs.Book.{Row, Book, key, RisingByKey, Known, hopsInAll, mostStreams, mostHops}
+use Rattle.rules.specs.Placing.{FirstPlacing, NoPlacing, Asked, Planned, Full, beside, NewRows, NoPlacings}
+use Rattle.rules.specs.Placing.Planned.{one}
+use Rattle.rules.specs.Image.{newest, encode}
+use Rattle.rules.specs.Calls.{OfRoutes, Opened, Closed, Request, Made, NoRoom, openRefusals, requestRefusals}
+use Rattle.rules.specs.Calls.Request.{Open, Close}
+use Rattle.rules.proofs.Tests.{tests-or, tests-not, tests-eq, tests-le, tests-lt}
 use Rattle.rules.proofs.Says.{None, says-none}
-use Rattle.rules.proofs.Choice.{route-unique, opened-unique, closed-unique}
-use Rattle.model.specs.Test.{someOf, isKnown}
-use Rattle.model.specs.Search.{andThen, routeOf, placingOf}
-use Rattle.model.specs.Answer.{Tested, firstNumber, passes, isNone, insert, remove, withRows, newRow, openedBook, isFull, openTests, openNumber, closedBook, closeTests, closeNumber}
-use Rattle.rules.proofs.Tests.{never, alike, tests-and, tests-or, tests-not, tests-eq, tests-le, tests-lt}
-use Rattle.model.proofs.Tests.{tests-member, tests-known}
+use Rattle.rules.proofs.Choice.{planned-unique, new-unique, made-unique}
+use Rattle.rules.proofs.Added.{new-route}
+use Rattle.rules.proofs.Reading.{withRows}
+use Rattle.model.specs.Search.{routeOf, placingOf, andThen}
+use Rattle.model.specs.Answer.{passes, isNone, insertAll, remove, routesOf, rowOn, newRows, rowsAdded, isFull, made, noRoom, requestTests, requestNumber}
+use Rattle.model.proofs.Tests.{tests-in, tests-known}
 use Rattle.model.proofs.Searches.{Found}
 use Rattle.model.proofs.Placings.{placing-found}
 use Rattle.model.proofs.Routes.{route-found}
+use Rattle.model.proofs.Firsts.{Agree, first-says, tests-none, tests-passes}
+use Rattle.model.proofs.Rows.{insert-all, all-rising, taken, taken-id, remove-in, remove-rising, remove-all}
 
--- FIRST NUMBERS
--- each test is its refusal's, where none before it applies
-abbrev pub Agree : List Tested → List Refusal → Type 0
-Agree [] [] = Unit {0}
-Agree [] (r ∷ rs) = ⊥
-Agree (t ∷ ts) [] = ⊥
-Agree (t ∷ ts) (r ∷ rs) = (t .number ≡ r .number) × Tests (t .applies) (r .applies) × ((r .applies → ⊥) → Agree ts rs)
+-- ROUTES
+module _ (T : Topology) (middle : ℕ) (q : Asked) where
+  pub planned-route : {ps : List (List ℕ)} → Planned T middle q ps → NoRoute T middle (q .source) (q .destination) → ⊥
+  planned-route (one g) n = n _ (g .is)
 
-pub first-says : (ts : List Tested) (rs : List Refusal) → Agree ts rs → Says rs (firstNumber ts)
-first-says [] [] a = refl
-first-says [] (r ∷ rs) a = absurd a
-first-says (t ∷ ts) [] a = absurd a
-first-says (t ∷ ts) (r ∷ rs) a = go (t .applies) (a .1) (λ f. first-says ts rs (a .2 f))
-  where
-    go : (s : Bool) → Tests s (r .applies) → ((r .applies → ⊥) → Says rs (firstNumber ts)) → Says (r ∷ rs) (cond s (t .number) (firstNumber ts))
-    go true h g = inl (h .yes refl, a .0)
-    go false h g = let f : r .applies → ⊥ = λ p. never (h .back p) in inr (f, g f)
-
--- OPTIONS
--- P is of one value, and the option has it or there is none
-module _ {A : Type 0} (P : A → Type 0) (N : Type 0) (N-none : N → (x : A) → P x → ⊥) where
-  pub tests-none : (o : Option A) → Found P N o → (some-not : (x : A) → P x → N → ⊥) → Tests (isNone o) N
-  tests-none none g s = record { yes = λ e. g; back = λ n. refl }
-  tests-none (some x) g s = record { yes = λ e. never e; back = λ n. absurd (s x g n) }
-
-  module _ (one : (x y : A) → P x → P y → x ≡ y) (Q : A → Type 0) (f : A → Bool) where
-    pub tests-passes : (o : Option A) → Found P N o → ((x : A) → P x → Tests (f x) (Q x)) → Tests (passes f o) ((x : A) × P x × Q x)
-    tests-passes none g h = record { yes = λ e. never e; back = λ p. absurd (N-none g (p .0) (p .1)) }
-    tests-passes (some x) g h = record { yes = λ e. (x, g, h x g .yes e); back = λ p. h x g .back (subst Q (one (p .0) x (p .1) g) (p .2)) }
-
--- ROWS
-pub insert-with : (r : Row) (xs : List Row) → With r xs (insert r xs)
-insert-with r [] = here
-insert-with r (x ∷ xs) = go (ltb (r .id) (x .id)) (insert-with r xs)
-  where
-    go : (t : Bool) → With r xs (insert r xs) → With r (x ∷ xs) (cond t (r ∷ x ∷ xs) (x ∷ insert r xs))
-    go true w = here
-    go false w = there w
-
-pub insert-rising : (r : Row) (xs : List Row) → RisingById xs → ((x : Row) → x ∈ xs → x .id ≡ r .id → ⊥) → RisingById (insert r xs)
-insert-rising r [] up f = (λ y h. absurd h, tt)
-insert-rising r (x ∷ xs) up f = go (ltb (r .id) (x .id)) (tests-lt (r .id) (x .id)) (insert-rising r xs (up .1) (λ y h. f y (inr h)))
-  where
-    go : (t : Bool) → Tests t (r .id < x .id) → RisingById (insert r xs) → RisingById (cond t (r ∷ x ∷ xs) (x ∷ insert r xs))
-    go true a w =
-        (λ y h. ⊎-elim (λ (e : y ≡ x). omega (arith, ap (λ (v : Row). v .id) e, a .yes refl)) (λ (k : y ∈ xs). omega (arith, up .0 y k, a .yes refl)) h, up)
-    go false a w = (
-      λ y h. ⊎-elim
-          (λ (e : y ≡ r). ⊎-elim (λ (q : x .id ≡ r .id). absurd (f x (inl refl) q)) (λ (l : x .id < r .id). omega (arith, ap (λ (v : Row). v .id) e)) (order (λ l. never (a .back l))))
-          (λ (k : y ∈ xs). up .0 y k) (with-in y (insert-with r xs) h),
-      w,
-    )
-      where
-        order : (r .id < x .id → ⊥) → (x .id ≡ r .id) ⊎ (x .id < r .id)
-        order n = eq-or-lt-of-le (le-of-suc-le-suc (lt-of-not-le n))
-
-pub remove-with : (id : ℕ) (xs : List Row) → ((r : Row) × (r ∈ xs) × (r .id ≡ id)) → (r : Row) × (r .id ≡ id) × With r (remove id xs) xs
-remove-with id [] k = absurd (k .1)
-remove-with id (x ∷ xs) k = go (eqb (x .id) id) (tests-eq (x .id) id) (remove-with id xs)
-  where
-    go : (t : Bool) → Tests t (x .id ≡ id) → (((r : Row) × (r ∈ xs) × (r .id ≡ id)) → (r : Row) × (r .id ≡ id) × With r (remove id xs) xs)
-        → (r : Row) × (r .id ≡ id) × With r (cond t xs (x ∷ remove id xs)) (x ∷ xs)
-    go true a i = (x, a .yes refl, here)
-    go false a i =
-        let other : k .0 ∈ xs = ⊎-elim (λ (e : k .0 ≡ x). never (a .back (sym (ap (λ (v : Row). v .id) e) ∙ k .2))) (λ (m : k .0 ∈ xs). m) (k .1) in
-        let w = i (k .0, other, k .2) in
-        (w .0, w .1, there (w .2))
-
--- OPEN
-module _ (b : Book) (id source destination K : ℕ) where
-  abbrev NoNewRow : Type 0
-  NoNewRow = (r : Row) → NewRow b id source destination K r → ⊥
-
-  placed : (p : List ℕ) → Route (b .topology) source destination p → (o : Option (List ℕ)) → Found (FirstPlacing b K p) (NoPlacing b K p) o
-      → Found (NewRow b id source destination K) NoNewRow (andThen o (λ (os : List ℕ). some (record { id = id; period = K; route = p; offsets = os })))
-  placed p h none g = λ r n.
-      g (r .offsets)
-      (subst (λ (q : List ℕ). FirstPlacing b K q (r .offsets)) (route-unique (b .topology) source destination (r .route) p (n .planned) h) (n .placed) .placing)
-  placed p h (some os) g = record { named = refl; every = refl; planned = h; placed = g }
-
-  planned : (o : Option (List ℕ)) → Found (Route (b .topology) source destination) (NoRoute (b .topology) source destination) o
-      → Found (NewRow b id source destination K) NoNewRow
-      (andThen o (λ (p : List ℕ). andThen (placingOf b K p) (λ (os : List ℕ). some (record { id = id; period = K; route = p; offsets = os }))))
-  planned none g = λ r n. g (r .route) (n .planned .between)
-  planned (some p) g = placed p g (placingOf b K p) (placing-found b K p)
-
-  pub new-row-found : Found (NewRow b id source destination K) NoNewRow (newRow b id source destination K)
-  new-row-found = planned (routeOf (b .topology) source destination) (route-found (b .topology) source destination)
-
-  abbrev NotOpened : Type 0
-  NotOpened = (c : Book) → Opened b id source destination K c → ⊥
-
-  module _ (up : RisingById (b .rows)) (fresh : Known b id → ⊥) where
-    put : (o : Option Row) → Found (NewRow b id source destination K) NoNewRow o
-        → Found (Opened b id source destination K) NotOpened (andThen o (λ (r : Row). some (withRows b (insert r (b .rows)))))
-    put none g = λ c h. g (h .0) (h .1)
-    put (some r) g = (
-      r,
-      g,
-      record {
-        plan = refl;
-        topology = refl;
-        rows = insert-with r (b .rows);
-        rising = insert-rising r (b .rows) up (λ x m e. fresh record { row = x; there = m; named = e ∙ g .named });
-      },
-    )
-
-    pub opened-found : Found (Opened b id source destination K) NotOpened (openedBook b id source destination K)
-    opened-found = put (newRow b id source destination K) new-row-found
-
-  full-tests : (p : List ℕ) → Tests (isFull b p) (Full b p)
-  full-tests p = tests-or (tests-le mostStreams (length (b .rows))) (tests-lt mostHops (hopsInAll (b .rows) + hopCount p))
-
-  no-placing-tests : (p : List ℕ) → Tests (isNone (placingOf b K p)) (NoPlacing b K p)
-  no-placing-tests p =
-      tests-none (FirstPlacing b K p) (NoPlacing b K p) (λ n os f. n os (f .placing)) (placingOf b K p) (placing-found b K p) (λ os f n. n os (f .placing))
-
-  module _ (Q : List ℕ → Type 0) (f : List ℕ → Bool) (h : (p : List ℕ) → Tests (f p) (Q p)) where
-    route-tests : Tests (passes f (routeOf (b .topology) source destination)) (OfRoute b source destination Q)
-    route-tests =
-        tests-passes (Route (b .topology) source destination) (NoRoute (b .topology) source destination) (λ n p r. n p (r .between))
-        (route-unique (b .topology) source destination) Q f (routeOf (b .topology) source destination) (route-found (b .topology) source destination) (λ p r. h p)
-
-  no-route-tests : Tests (isNone (routeOf (b .topology) source destination)) (NoRoute (b .topology) source destination)
-  no-route-tests =
-      tests-none (Route (b .topology) source destination) (NoRoute (b .topology) source destination) (λ n p r. n p (r .between))
-      (routeOf (b .topology) source destination) (route-found (b .topology) source destination) (λ p r n. n p (r .between))
-
-  period-tests : Tests (not (someOf (eqb K) periods)) (Period K → ⊥)
-  period-tests = tests-not (member (eqb K) (λ x. tests-eq K x) periods)
+  pub routes-found : Found (Planned T middle q) (NoRoute T middle (q .source) (q .destination)) (routesOf T middle q)
+  routes-found = go (routeOf T middle (q .source) (q .destination)) (route-found T middle (q .source) (q .destination))
     where
-      member : (f : ℕ → Bool) → ((x : ℕ) → Tests (f x) (K ≡ x)) → (xs : List ℕ) → Tests (someOf f xs) (K ∈ xs)
-      member f h [] = record { yes = λ e. never e; back = λ p. absurd p }
-      member f h (x ∷ xs) = tests-or (h x) (member f h xs)
+      go : (o : Option (List ℕ)) → Found (Route T middle (q .source) (q .destination)) (NoRoute T middle (q .source) (q .destination)) o
+          → Found (Planned T middle q) (NoRoute T middle (q .source) (q .destination)) (andThen o (λ (p : List ℕ). some (p ∷ [])))
+      go none g = g
+      go (some p) g = one g
 
-  room-tests : (room : ℕ) → RisingById (b .rows) → (Known b id → ⊥)
-      → Tests (passes (λ (c : Book). ltb room (length (encode c))) (openedBook b id source destination K))
-      ((c : Book) × Opened b id source destination K c × (room < length (encode c)))
-  room-tests room up fresh =
-      tests-passes (Opened b id source destination K) NotOpened (λ n. n) (opened-unique b id source destination K) (λ (c : Book). room < length (encode c))
-      (λ (c : Book). ltb room (length (encode c))) (openedBook b id source destination K) (opened-found up fresh) (λ c h. tests-lt room (length (encode c)))
+-- NEW ROWS
+module _ (q : Asked) where
+  pub rows-found : (b : Book) (ps : List (List ℕ)) → Found (NewRows b q ps) (NoPlacings b q ps) (newRows b q ps)
+  rows-found b [] = tt
+  rows-found b (p ∷ ps) = go (placingOf b (q .period) p) (placing-found b (q .period) p) (λ os. rows-found (beside (rowOn q p os) b) ps)
+    where
+      on : (os : List ℕ) → FirstPlacing b (q .period) p os → (o : Option (List Row))
+          → Found (NewRows (beside (rowOn q p os) b) q ps) (NoPlacings (beside (rowOn q p os) b) q ps) o
+          → Found (NewRows b q (p ∷ ps)) (NoPlacings b q (p ∷ ps)) (andThen o (λ (rs : List Row). some (rowOn q p os ∷ rs)))
+      on os f none g = inr (rowOn q p os, record { named = refl; every = refl; on = refl; placed = f }, g)
+      on os f (some rs) g = (record { named = refl; every = refl; on = refl; placed = f }, g)
 
-  pub open-agrees : (room : ℕ) → RisingById (b .rows) → Agree (openTests id source destination K room b) (openRefusals id source destination K room b)
-  open-agrees room up = (
+      go : (o : Option (List ℕ)) → Found (FirstPlacing b (q .period) p) (NoPlacing b (q .period) p) o
+          → ((os : List ℕ) → Found (NewRows (beside (rowOn q p os) b) q ps) (NoPlacings (beside (rowOn q p os) b) q ps) (newRows (beside (rowOn q p os) b) q ps))
+          → Found (NewRows b q (p ∷ ps)) (NoPlacings b q (p ∷ ps))
+          (andThen o (λ (os : List ℕ). andThen (newRows (beside (rowOn q p os) b) q ps) (λ (rs : List Row). some (rowOn q p os ∷ rs))))
+      go none f g = inl f
+      go (some os) f g = on os f (newRows (beside (rowOn q p os) b) q ps) (g os)
+
+  pub rows-or-none : (b : Book) (ps : List (List ℕ)) (rs : List Row) → NewRows b q ps rs → NoPlacings b q ps → ⊥
+  rows-or-none b [] rs g n = n
+  rows-or-none b (p ∷ ps) [] g n = g
+  rows-or-none b (p ∷ ps) (r ∷ rs) g (inl n) = n (r .offsets) (g .0 .placed .placing)
+  rows-or-none b (p ∷ ps) (r ∷ rs) g (inr n) =
+      rows-or-none (beside r b) ps rs (g .1) (subst (λ (x : Row). NoPlacings (beside x b) q ps) (new-unique (n .1) (g .0)) (n .2))
+
+  -- the rows of one open have keys of their own
+  pub new-keys : {T : Topology} {middle : ℕ} {ps : List (List ℕ)} (b : Book) (rs : List Row) → Planned T middle q ps → NewRows b q ps rs
+      → Pairwise (λ (r x : Row). key r ≡ key x → ⊥) rs
+  new-keys b [] (one g) h = absurd h
+  new-keys b (r ∷ []) (one g) h = (λ x m. absurd m, tt)
+  new-keys b (r ∷ x ∷ rs) (one g) h = absurd (h .1)
+
+-- A REQUEST ON A BOOK
+module _ (middle : ℕ) (b : Book) (up : RisingByKey (b .rows)) where
+  abbrev Fresh : Request → Type 0
+  Fresh (Open q) = Known b (q .id) → ⊥
+  Fresh (Close id) = Unit {0}
+
+  opened : (q : Asked) (new : List Row) → (Known b (q .id) → ⊥) → OfRoutes middle q b (λ (ps : List (List ℕ)). NewRows b q ps new)
+      → Opened middle b q (withRows b (insertAll new (b .rows)))
+  opened q new fresh h = record {
+    routes = h .0;
+    planned = h .1;
+    new = new;
+    placed = h .2;
+    plus = record {
+      site = refl;
+      rows = insert-all new (b .rows);
+      rising = all-rising new (b .rows) up (new-keys q b new (h .1) (h .2))
+          (λ r x m k e. fresh record { row = x; there = k; named = e ∙ new-route q b (h .0) new (h .2) r m .new .named });
+    };
+  }
+
+  closed : (id : ℕ) → Closed b id (withRows b (remove id (b .rows)))
+  closed id = record {
+    gone = taken id (b .rows);
+    of-id = taken-id id (b .rows);
+    none-left = λ r m. remove-in id (b .rows) r m .1;
+    rising = remove-rising id (b .rows) up;
+    plus = record { site = refl; rows = remove-all id (b .rows); rising = up };
+  }
+
+  abbrev Added : Asked → List Row → Type 0
+  Added q new = OfRoutes middle q b (λ (ps : List (List ℕ)). NewRows b q ps new)
+
+  pub added-found : (q : Asked) → Found (Added q) ((new : List Row) → Added q new → ⊥) (rowsAdded middle b q)
+  added-found q = go (routesOf (b .site .links) middle q) (routes-found (b .site .links) middle q)
+    where
+      on : (ps : List (List ℕ)) → Planned (b .site .links) middle q ps → (o : Option (List Row)) → Found (NewRows b q ps) (NoPlacings b q ps) o
+          → Found (Added q) ((new : List Row) → Added q new → ⊥) o
+      on ps g none f = λ new h. rows-or-none q b ps new (subst (λ (x : List (List ℕ)). NewRows b q x new) (planned-unique (h .1) g) (h .2)) f
+      on ps g (some new) f = (ps, g, f)
+
+      go : (o : Option (List (List ℕ))) → Found (Planned (b .site .links) middle q) (NoRoute (b .site .links) middle (q .source) (q .destination)) o
+          → Found (Added q) ((new : List Row) → Added q new → ⊥) (andThen o (newRows b q))
+      go none n = λ new h. planned-route (b .site .links) middle q (h .1) n
+      go (some ps) g = on ps g (newRows b q ps) (rows-found q b ps)
+
+  pub made-found : (q : Request) → Fresh q → Found (Made middle b q) ((c : Book) → Made middle b q c → ⊥) (made middle b q)
+  made-found (Close id) f = closed id
+  made-found (Open q) f = go (rowsAdded middle b q) (added-found q)
+    where
+      go : (o : Option (List Row)) → Found (Added q) ((new : List Row) → Added q new → ⊥) o
+          → Found (Opened middle b q) ((c : Book) → Opened middle b q c → ⊥) (andThen o (λ (new : List Row). some (withRows b (insertAll new (b .rows)))))
+      go none n = λ c h. n (h .new) (h .routes, h .planned, h .placed)
+      go (some new) h = opened q new f h
+
+  -- TESTS
+  module _ (q : Asked) (Q : List (List ℕ) → Type 0) (f : List (List ℕ) → Bool) (h : (ps : List (List ℕ)) → Tests (f ps) (Q ps)) where
+    routes-tests : Tests (passes f (routesOf (b .site .links) middle q)) (OfRoutes middle q b Q)
+    routes-tests =
+        tests-passes (λ ps g n. planned-route (b .site .links) middle q g n) (λ ps qs g k. planned-unique g k) Q f h
+        (routesOf (b .site .links) middle q) (routes-found (b .site .links) middle q)
+
+  room-tests : (room : ℕ) (q : Request) → Fresh q → Tests (noRoom middle room q b) (NoRoom middle room q b)
+  room-tests room q f =
+      tests-passes (λ c m n. n c m) (made-unique middle b q) (λ (c : Book). room < length (encode newest c)) (λ (c : Book). ltb room (length (encode newest c)))
+      (λ c. tests-lt room (length (encode newest c))) (made middle b q) (made-found q f)
+
+  full-tests : (ps : List (List ℕ)) → Tests (isFull b ps) (Full b ps)
+  full-tests ps = tests-or (tests-lt mostStreams (length (b .rows) + length ps)) (tests-lt mostHops (hopsInAll (b .rows) + total hopCount ps))
+
+  pub request-agrees : (room : ℕ) (q : Request) → Agree (requestTests middle q room b) (requestRefusals middle q room b)
+  request-agrees room (Close id) = (refl, tests-eq id 0, λ n1. (refl, tests-not (tests-known b id), λ n3. (refl, room-tests room (Close id) tt, λ n12. tt)))
+  request-agrees room (Open q) = (
     refl,
-    tests-eq id 0,
+    tests-eq (q .id) 0,
     λ n1. (
       refl,
-      tests-or (tests-le (nodes (b .topology)) source) (tests-le (nodes (b .topology)) destination),
+      tests-or (tests-le (nodes (b .site .links)) (q .source)) (tests-le (nodes (b .site .links)) (q .destination)),
       λ n4. (
         refl,
-        tests-eq source destination,
+        tests-eq (q .source) (q .destination),
         λ n5. (
           refl,
-          period-tests,
+          tests-not (tests-in (q .period) periods),
           λ n6. (
             refl,
-            tests-known b id,
+            tests-known b (q .id),
             λ n2. (
               refl,
-              no-route-tests,
+              tests-none (λ p g n. n p (g .is)) (routeOf (b .site .links) middle (q .source) (q .destination))
+                  (route-found (b .site .links) middle (q .source) (q .destination)),
               λ n7. (
                 refl,
-                route-tests (Full b) (isFull b) full-tests,
+                routes-tests q (Full b) (isFull b) full-tests,
                 λ n8. (
                   refl,
-                  route-tests (NoPlacing b K) (λ p. isNone (placingOf b K p)) no-placing-tests,
+                  routes-tests q (NoPlacings b q) (λ ps. isNone (newRows b q ps))
+                      (λ ps. tests-none (λ rs g n. rows-or-none q b ps rs g n) (newRows b q ps) (rows-found q b ps)),
                   λ n9.
-                      (refl, room-tests room up n2, λ n12. tt),
+                      (refl, room-tests room (Open q) n2, λ n12. tt),
                 ),
               ),
             ),
@@ -208,83 +187,26 @@ module _ (b : Book) (id source destination K : ℕ) where
     ),
   )
 
-  pub open-says : (room : ℕ) → RisingById (b .rows) → Says (openRefusals id source destination K room b) (openNumber id source destination K room b)
-  open-says room up = first-says (openTests id source destination K room b) (openRefusals id source destination K room b) (open-agrees room up)
+  pub request-says : (room : ℕ) (q : Request) → Says (requestRefusals middle q room b) (requestNumber middle q room b)
+  request-says room q = first-says (requestTests middle q room b) (requestRefusals middle q room b) (request-agrees room q)
 
-  -- where no refusal applies there is a new row
-  row-exists : (NoRoute (b .topology) source destination → ⊥) → (OfRoute b source destination (NoPlacing b K) → ⊥)
-      → (r : Row) × NewRow b id source destination K r
-  row-exists n7 n9 = route (routeOf (b .topology) source destination) (route-found (b .topology) source destination)
+  -- of these new rows comes a book, and it is what the open makes
+  abbrev Done : Asked → Option (List Row) → Type 0
+  Done q o = (c : Book) × (andThen o (λ (new : List Row). some (withRows b (insertAll new (b .rows)))) ≡ some c) × Opened middle b q c
+
+  -- where no refusal applies it makes a book, and that is the one computed
+  pub request-done : (room : ℕ) (q : Request) → requestNumber middle q room b ≡ 0 → (c : Book) × (made middle b q ≡ some c) × Made middle b q c
+  request-done room (Close id) e = (_, refl, closed id)
+  request-done room (Open q) e = go (routesOf (b .site .links) middle q) (routes-found (b .site .links) middle q)
     where
-      place : (p : List ℕ) → Route (b .topology) source destination p → (o : Option (List ℕ)) → Found (FirstPlacing b K p) (NoPlacing b K p) o
-          → (r : Row) × NewRow b id source destination K r
-      place p h none g = absurd (n9 (p, h, g))
-      place p h (some os) g = (record { id = id; period = K; route = p; offsets = os }, record { named = refl; every = refl; planned = h; placed = g })
+      n : None (openRefusals middle q room b)
+      n = says-none (openRefusals middle q room b) (omega arith) (subst (Says (openRefusals middle q room b)) e (request-says room (Open q)))
 
-      route : (o : Option (List ℕ)) → Found (Route (b .topology) source destination) (NoRoute (b .topology) source destination) o
-          → (r : Row) × NewRow b id source destination K r
-      route none g = absurd (n7 g)
-      route (some p) g = place p g (placingOf b K p) (placing-found b K p)
+      on : (ps : List (List ℕ)) → Planned (b .site .links) middle q ps → (o : Option (List Row)) → Found (NewRows b q ps) (NoPlacings b q ps) o → Done q o
+      on ps g none f = absurd (n .1 .1 .1 .1 .1 .1 .1 .0 (ps, g, f))
+      on ps g (some new) f = (_, refl, opened q new (n .1 .1 .1 .1 .0) (ps, g, f))
 
-  pub open-done : (room : ℕ) → RisingById (b .rows) → openNumber id source destination K room b ≡ 0
-      → (c : Book) × (openedBook b id source destination K ≡ some c) × Opened b id source destination K c
-  open-done room up e = answer (openedBook b id source destination K) (opened-found up n2) (row-exists n7 n9)
-    where
-      none-applies : None (openRefusals id source destination K room b)
-      none-applies =
-          says-none (openRefusals id source destination K room b) (omega arith)
-          (subst (Says (openRefusals id source destination K room b)) e (open-says room up))
-
-      n2 : Known b id → ⊥
-      n2 = none-applies .1 .1 .1 .1 .0
-
-      n7 : NoRoute (b .topology) source destination → ⊥
-      n7 = none-applies .1 .1 .1 .1 .1 .0
-
-      n9 : OfRoute b source destination (NoPlacing b K) → ⊥
-      n9 = none-applies .1 .1 .1 .1 .1 .1 .1 .0
-
-      answer : (o : Option Book) → Found (Opened b id source destination K) NotOpened o → ((r : Row) × NewRow b id source destination K r)
-          → (c : Book) × (o ≡ some c) × Opened b id source destination K c
-      answer none g r = absurd (g (withRows b (insert (r .0) (b .rows))) (
-        r .0,
-        r .1,
-        record {
-          plan = refl;
-          topology = refl;
-          rows = insert-with (r .0) (b .rows);
-          rising = insert-rising (r .0) (b .rows) up (λ x m q. n2 record { row = x; there = m; named = q ∙ r .1 .named });
-        },
-      ))
-      answer (some c) g r = (c, refl, g)
-
--- CLOSE
-module _ (b : Book) (id : ℕ) (up : RisingById (b .rows)) where
-  pub closed-found : Known b id → Closed b id (closedBook b id)
-  closed-found k =
-      let w = remove-with id (b .rows) (k .row, k .there, k .named) in
-      (w .0, w .1, record { plan = refl; topology = refl; rows = w .2; rising = up })
-
-  close-room : (room : ℕ) → Tests (isKnown b id && ltb room (length (encode (closedBook b id)))) ((c : Book) × Closed b id c × (room < length (encode c)))
-  close-room room =
-      alike (tests-and (tests-known b id) (tests-lt room (length (encode (closedBook b id)))))
-      (λ p. (closedBook b id, closed-found (p .0), p .1))
-      (λ p. let k = known (p .0) (p .1) in (k, subst (λ (c : Book). room < length (encode c)) (closed-unique b id (p .0) (closedBook b id) (p .1) (closed-found k)) (p .2)))
-    where
-      known : (c : Book) → Closed b id c → Known b id
-      known c h = record { row = h .0; there = with-this (h .2 .rows); named = h .1 }
-
-  pub close-says : (room : ℕ) → Says (closeRefusals id room b) (closeNumber id room b)
-  close-says room =
-      first-says (closeTests id room b) (closeRefusals id room b)
-      (refl, tests-eq id 0, λ n1. (refl, tests-not (tests-known b id), λ n3. (refl, close-room room, λ n12. tt)))
-
-  pub close-done : (room : ℕ) → closeNumber id room b ≡ 0 → Closed b id (closedBook b id)
-  close-done room e = closed-found (go (isKnown b id) (tests-known b id))
-    where
-      n3 : (Known b id → ⊥) → ⊥
-      n3 = says-none (closeRefusals id room b) (omega arith) (subst (Says (closeRefusals id room b)) e (close-says room)) .1 .0
-
-      go : (t : Bool) → Tests t (Known b id) → Known b id
-      go true a = a .yes refl
-      go false a = absurd (n3 (λ k. never (a .back k)))
+      go : (o : Option (List (List ℕ))) → Found (Planned (b .site .links) middle q) (NoRoute (b .site .links) middle (q .source) (q .destination)) o
+          → Done q (andThen o (newRows b q))
+      go none g = absurd (n .1 .1 .1 .1 .1 .0 g)
+      go (some ps) g = on ps g (newRows b q ps) (rows-found q b ps)

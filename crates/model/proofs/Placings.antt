@@ -1,7 +1,7 @@
--- The placing that is searched for is the first one, and there is none where none is found. Assumes nothing.
+-- The placing that is searched for is the first one, and there is none where none is found.
 use mathlib.Core.Logic.{_↔_}
 use mathlib.Core.Bool.{Bool}
-use mathlib.Core.List.{List, [], _∷_}
+use mathlib.Core.List.{List}
 use mathlib.Core.Option.{Option, some, none}
 use Prim.Native.Nat.{ℕ, zero, suc, _+_, _-_, _<_, _≤_}
 use native.Mathlib.Omega.{arith}
@@ -10,7 +10,7 @@ use Rattle.rules.specs.Topology.{hopCount, hopAt}
 use Rattle.rules.specs.Book.{Book}
 use Rattle.rules.specs.Placing.{Placing, FirstPlacing, NoPlacing}
 use Rattle.rules.proofs.Tests.{decided}
-use Rattle.rules.proofs.Greedy.{Least, FirstPlaces, NoPlaces, Places, none-from, none-behind, first-behind, FreeAt, bound, placing-places, places-placing, GreedyPlacing, placing-greedy}
+use Rattle.rules.proofs.Greedy.{Least, FirstPlaces, NoPlaces, none-from, none-behind, first-behind, FreeAt, bound, placing-places, places-placing, GreedyPlacing, placing-greedy}
 use Rattle.model.specs.Test.{isFree}
 use Rattle.model.specs.Search.{before, andThen, leastFrom, placeFrom, placingOf}
 use Rattle.model.proofs.Tests.{tests-free}
@@ -40,7 +40,8 @@ module _ (F : ℕ → ℕ → Type 0) (B : ℕ) (f : ℕ → ℕ → Bool) (h : 
       (reached i lo (leastFrom (B - lo) lo (f i)) (least-found (F i) (f i) (h i) (B - lo) lo)) (λ o. places-found n (suc i) (suc o))
 
 module _ (b : Book) (K : ℕ) (route : List ℕ) where
-  agreed : (o : Option (List ℕ)) → Found (FirstPlaces (FreeAt b K route) (bound b K route) (hopCount route) 0 0) ((ps : List ℕ) → Places (FreeAt b K route) (bound b K route) (hopCount route) 0 0 ps → ⊥) o
+  agreed : (o : Option (List ℕ))
+      → Found (FirstPlaces (FreeAt b K route) (bound b K route) (hopCount route) 0 0) (NoPlaces (FreeAt b K route) (bound b K route) (hopCount route) 0 0) o
       → Found (FirstPlacing b K route) (NoPlacing b K route) o
   agreed none s = λ ps p. s ps (placing-places b K route ps p)
   agreed (some os) s = record { placing = places-placing b K route os (s .places); first = λ ps p. s .first ps (placing-places b K route ps p) }

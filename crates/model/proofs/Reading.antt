@@ -1,48 +1,42 @@
--- The tests of an image are its refusals, and where none applies the image holds the book that is read. Assumes nothing.
-use mathlib.Core.Path.{_≡_, refl, sym, ap, ap₂, _∙_, subst}
+-- The tests of an image are its refusals, and where none applies the image holds the book that is read.
+use mathlib.Core.Path.{_≡_, refl, sym, subst}
 use mathlib.Core.Logic.{_⊎_, inl, inr, ⊎-elim}
-use mathlib.Core.Bool.{Bool, true, false, not, cond, _&&_, _||_}
-use mathlib.Core.List.{List, [], _∷_, _++_}
-use Prim.Native.Nat.{ℕ, zero, suc, _+_, _*_, _^_, _<_, _≤_}
+use mathlib.Core.Bool.{Bool, true, false, not, _||_}
+use mathlib.Core.List.{List, [], _∷_}
+use Prim.Native.Nat.{ℕ, _*_, _/_, _^_, _<_, _≤_}
 use native.Mathlib.Omega.{arith}
-use lib.Dec.{eqb, leb, ltb}
+use native.Mathlib.Nat.{div-eq-of-lt, pow-le-pow-right, le-of-suc-le-suc, lt-of-not-le}
+use lib.Dec.{eqb, ltb}
 use lib.ListN.{length, getD, take, drop}
-use Rattle.rules.specs.Words.{_∈_, Pairwise, Tests}
+use Rattle.rules.specs.Words.{Has, NoBitFrom, Pairwise, Tests}
 use Rattle.rules.specs.Says.{Says}
 use Rattle.rules.specs.Tiles.{Plan, PlanInRange, tileCounts, periods}
-use Rattle.rules.specs.Topology.{Topology, nodes, NodesInRange, SoundTopology, Linked, LinkedInTurn, Path, hopCount, mostRouteHops}
-use Rattle.rules.specs.Book.{Row, Book, hops, hopsInAll, rowHop, rowOffset, LawfulRow, MeetsClashing, ClashingHopsMeet, mostStreams, mostHops}
-use Rattle.rules.specs.Image.{mark, version, word, inTurn, encodeRow, headerLength, rowsStart, imageLength, planOf, nodesOf, streamsOf, hopsOf, topologyOf, bookOf, FieldsInRange, RowsOf, imageRefusals}
-use Rattle.rules.proofs.Encoding.{frontRow, AllSized, row-back, left-over, lawful-sized}
-use Rattle.model.specs.Test.{same, allBelow, someBelow, allOf, someOf, linked, onData, meetsClashing}
-use Rattle.model.specs.Reading.{planFits, nodesFit, fieldsFit, isSound, allPairs, allLinked, isPath, isLawful, readRows, rowsIn, bookIn, rowsHold, clashingHopsMeet, imageTests, imageNumber}
-use Rattle.rules.proofs.Tests.{never, alike, tests-and, tests-or, tests-not, tests-eq, tests-le, tests-lt}
-use Rattle.model.proofs.Tests.{tests-all, tests-some, tests-member, tests-linked, tests-on-data, tests-meets-clashing}
-use Rattle.model.proofs.Answers.{first-says}
+use Rattle.rules.specs.Topology.{Topology, nodes, NodesInRange, Joined, SoundTopology, SoundTopologies, LinkedInTurn, Path, hopCount, mostRouteHops}
+use Rattle.rules.specs.Book.{Site, Row, Book, key, hops, hopsInAll, rowHop, rowOffset, RisingByKey, LawfulSite, LawfulRow, RowsMeet, ClashingHopsMeet}
+use Rattle.rules.specs.Book.{mostStreams, mostHops}
+use Rattle.rules.specs.Image.{newest, Version, mark, inTurn, encodeRow, headerLength, statedLength, versionOf, planOf, nodesOf, streamsOf, hopsOf}
+use Rattle.rules.specs.Image.{linksOf, hearingOf, siteOf, bookOf, rowsPlace, FieldsInRange, RowsOf, imageRefusals}
+use Rattle.rules.proofs.Tests.{never, alike, tests-and, tests-or, tests-not, tests-eq, tests-le, tests-lt, allBelow, tests-all, tests-some, tests-member, tests-every}
+use Rattle.rules.proofs.Says.{None, says-none}
+use Rattle.rules.proofs.Written.{Bytes, stored}
+use Rattle.rules.proofs.Reading.{rowsIn, bookIn, rows-are, LawfulImage}
+use Rattle.model.specs.Test.{joined, onData}
+use Rattle.model.specs.Reading.{isVersion, planFits, nodesFit, fieldsFit, whereJoined, isSound, areSound, isLawfulSite, allPairs, allLinked, isPath, isLawful}
+use Rattle.model.specs.Reading.{isRising, rowsHold, rowsMeet, clashingHopsMeet, imageTests, imageNumber}
+use Rattle.model.proofs.Tests.{tests-same, tests-in, tests-joined, tests-on-data, tests-meets-clashing}
+use Rattle.model.proofs.Firsts.{first-says}
 
--- LISTS
-pub tests-same : (xs ys : List ℕ) → Tests (same xs ys) (xs ≡ ys)
-tests-same [] [] = record { yes = λ e. refl; back = λ p. refl }
-tests-same [] (y ∷ ys) = record { yes = λ e. never e; back = λ p. let z : _≡_ {A = ℕ} 0 1 = cc in absurd (omega arith) }
-tests-same (x ∷ xs) [] = record { yes = λ e. never e; back = λ p. let z : _≡_ {A = ℕ} 0 1 = cc in absurd (omega arith) }
-tests-same (x ∷ xs) (y ∷ ys) =
-    alike (tests-and (tests-eq x y) (tests-same xs ys)) (λ p. ap₂ _∷_ (p .0) (p .1)) (λ e. (ap (λ (l : List ℕ). getD l 0 0) e, ap (drop 1) e))
-
-module _ {A : Type 0} {P : A → Type 0} (f : A → Bool) (h : (x : A) → Tests (f x) (P x)) where
-  pub tests-every : (xs : List A) → Tests (allOf f xs) ((x : A) → x ∈ xs → P x)
-  tests-every [] = record { yes = λ e x m. absurd m; back = λ p. refl }
-  tests-every (y ∷ ys) =
-      alike (tests-and (h y) (tests-every ys))
-      (λ p x m. ⊎-elim (λ (e : x ≡ y). subst P (sym e) (p .0)) (λ (k : x ∈ ys). p .1 x k) m)
-      (λ g. (g y (inl refl), λ x m. g x (inr m)))
+-- what is tested and not false is true
+pub stable : {t : Bool} {P : Type 0} → Tests t P → ((P → ⊥) → ⊥) → P
+stable {t = true} a f = a .yes refl
+stable {t = false} a f = absurd (f (λ p. never (a .back p)))
 
 pub tests-pairs : {A : Type 0} (R : A → A → Type 0) (f : A → A → Bool) → ((x y : A) → Tests (f x y) (R x y)) → (xs : List A) → Tests (allPairs f xs) (Pairwise R xs)
 tests-pairs R f h [] = record { yes = λ e. tt; back = λ p. refl }
 tests-pairs R f h (x ∷ xs) = tests-and (tests-every (f x) (h x) xs) (tests-pairs R f h xs)
 
-pub tests-in : (K : ℕ) (xs : List ℕ) → Tests (someOf (eqb K) xs) (K ∈ xs)
-tests-in K [] = record { yes = λ e. never e; back = λ p. absurd p }
-tests-in K (x ∷ xs) = tests-or (tests-eq K x) (tests-in K xs)
+tests-version : (v : ℕ) → Tests (isVersion v) (Version v)
+tests-version v = tests-and (tests-le 1 v) (tests-le v newest)
 
 -- FIELDS
 pub tests-plan : (plan : Plan) → Tests (planFits plan) (PlanInRange plan)
@@ -64,71 +58,100 @@ tests-fields s =
     (λ p. record { plan = p .0; nodes = p .1 .0; streams = p .1 .1 .0; hops = p .1 .1 .1 .0; last = p .1 .1 .1 .1 })
     (λ r. (r .plan, (r .nodes, (r .streams, (r .hops, r .last)))))
 
+-- TOPOLOGIES
+module _ (N : ℕ) (P Q : ℕ → ℕ → Type 0) (f g : ℕ → ℕ → Bool) (h : (a b : ℕ) → Tests (f a b) (P a b)) (k : (a b : ℕ) → Tests (g a b) (Q a b)) where
+  tests-where : Tests (whereJoined N f g) ((a b : ℕ) → a < N → b < N → P a b → Q a b)
+  tests-where =
+      alike
+      (tests-all (λ a. allBelow N (λ b. not (f a b) || g a b)) (λ a. tests-all (λ b. not (f a b) || g a b) (λ b. tests-or (tests-not (h a b)) (k a b)) N) N)
+      (λ p a b l m q. ⊎-elim (λ n. absurd (n q)) (λ r. r) (p a l b m))
+      (λ r a l b m. back a b l m r (f a b) (h a b))
+    where
+      back : (a b : ℕ) → a < N → b < N → ((a b : ℕ) → a < N → b < N → P a b → Q a b) → (t : Bool) → Tests t (P a b) → (P a b → ⊥) ⊎ Q a b
+      back a b l m r true t = inr (r a b l m (t .yes refl))
+      back a b l m r false t = inl (λ q. never (t .back q))
+
 pub tests-sound : (T : Topology) → Tests (isSound T) (SoundTopology T)
 tests-sound T =
     alike
-    (tests-and (tests-all (λ a. ltb (getD (T .links) a 0) (2 ^ nodes T)) (λ a. tests-lt (getD (T .links) a 0) (2 ^ nodes T)) (nodes T))
-    (tests-and (tests-all (λ a. not (linked T a a)) (λ a. tests-not (tests-linked T a a)) (nodes T))
-    (tests-all (λ a. allBelow (nodes T) (λ b. not (linked T a b) || linked T b a))
-    (λ a. tests-all (λ b. not (linked T a b) || linked T b a) (λ b. tests-or (tests-not (tests-linked T a b)) (tests-linked T b a)) (nodes T)) (nodes T))))
-    (λ p. record { low = p .0; no-self = p .1 .0; both-ways = λ a b l k h. ⊎-elim (λ n. absurd (n h)) (λ g. g) (p .1 .1 a l b k) })
-    (λ r. (r .low, (r .no-self, λ a l b k. back r a b l k (linked T a b) (tests-linked T a b))))
+    (tests-and (tests-all (λ a. ltb (getD (T .rows) a 0) (2 ^ nodes T)) (λ a. tests-lt (getD (T .rows) a 0) (2 ^ nodes T)) (nodes T))
+    (tests-and (tests-all (λ a. not (joined T a a)) (λ a. tests-not (tests-joined T a a)) (nodes T))
+    (tests-where (nodes T) (Joined T) (λ a b. Joined T b a) (joined T) (λ a b. joined T b a) (tests-joined T) (λ a b. tests-joined T b a))))
+    (λ p. record { low = p .0; no-self = p .1 .0; both-ways = p .1 .1 })
+    (λ r. (r .low, (r .no-self, r .both-ways)))
+
+-- a set without bits from w up has only numbers below w
+below : (w n b : ℕ) → NoBitFrom w n → Has n b → b < w
+below w n b low h = lt-of-not-le (λ l. none l)
   where
-    back : SoundTopology T → (a b : ℕ) → a < nodes T → b < nodes T → (t : Bool) → Tests t (Linked T a b) → (Linked T a b → ⊥) ⊎ Linked T b a
-    back r a b l k true t = inr (r .both-ways a b l k (t .yes refl))
-    back r a b l k false t = inl (λ h. never (t .back h))
+    none : w ≤ b → ⊥
+    none l =
+        let p : 2 ^ w ≤ 2 ^ b = pow-le-pow-right (omega arith) l in
+        let m : n < 2 ^ b = omega arith in
+        let z : n / 2 ^ b ≡ 0 = div-eq-of-lt m in
+        omega (arith, h, z)
+
+pub tests-topologies : (links hearing : Topology) → Tests (areSound links hearing) (SoundTopologies links hearing)
+tests-topologies links hearing =
+    alike
+    (tests-and (tests-sound links) (tests-and (tests-sound hearing) (tests-and (tests-eq (nodes hearing) (nodes links))
+    (tests-where (nodes links) (Joined links) (Joined hearing) (joined links) (joined hearing) (tests-joined links) (tests-joined hearing)))))
+    (λ p. record {
+      links-sound = p .0;
+      hearing-sound = p .1 .0;
+      even = p .1 .1 .0;
+      heard = λ a b l h. p .1 .1 .1 a b l (below (nodes links) (getD (links .rows) a 0) b (p .0 .low a l) h) h;
+    })
+    (λ r. (r .links-sound, (r .hearing-sound, (r .even, λ a b l m. r .heard a b l))))
+
+pub tests-site : (site : Site) → Tests (isLawfulSite site) (LawfulSite site)
+tests-site site =
+    alike (tests-and (tests-plan (site .plan)) (tests-and (tests-nodes (nodes (site .links))) (tests-topologies (site .links) (site .hearing))))
+    (λ p. record { plan = p .0; nodes = p .1 .0; topologies = p .1 .1 })
+    (λ r. (r .plan, (r .nodes, r .topologies)))
 
 -- ROWS
 tests-in-turn : (T : Topology) (p : List ℕ) → Tests (allLinked T p) (LinkedInTurn T p)
 tests-in-turn T [] = record { yes = λ e. tt; back = λ p. refl }
 tests-in-turn T (a ∷ []) = record { yes = λ e. tt; back = λ p. refl }
-tests-in-turn T (a ∷ b ∷ p) = tests-and (tests-linked T a b) (tests-in-turn T (b ∷ p))
+tests-in-turn T (a ∷ b ∷ p) = tests-and (tests-joined T a b) (tests-in-turn T (b ∷ p))
 
 pub tests-path : (T : Topology) (p : List ℕ) → Tests (isPath T p) (Path T p)
 tests-path T p =
     alike
-    (tests-and (tests-le 1 (hopCount p)) (tests-and (tests-le (hopCount p) mostRouteHops) (tests-and (tests-every (λ a. ltb a (nodes T)) (λ a. tests-lt a (nodes T)) p)
-    (tests-and (tests-pairs (λ (a b : ℕ). a ≡ b → ⊥) (λ a b. not (eqb a b)) (λ a b. tests-not (tests-eq a b)) p) (tests-in-turn T p)))))
-    (λ q. record { some = q .0; most = q .1 .0; known = q .1 .1 .0; distinct = q .1 .1 .1 .0; linked = q .1 .1 .1 .1 })
-    (λ r. (r .some, (r .most, (r .known, (r .distinct, r .linked)))))
+    (tests-and (tests-le 1 (hopCount p)) (tests-and (tests-every (λ a. ltb a (nodes T)) (λ a. tests-lt a (nodes T)) p)
+    (tests-and (tests-pairs (λ (a b : ℕ). a ≡ b → ⊥) (λ a b. not (eqb a b)) (λ a b. tests-not (tests-eq a b)) p) (tests-in-turn T p))))
+    (λ q. record { some = q .0; known = q .1 .0; distinct = q .1 .1 .0; linked = q .1 .1 .1 })
+    (λ r. (r .some, (r .known, (r .distinct, r .linked))))
 
-pub tests-lawful : (plan : Plan) (T : Topology) (r : Row) → Tests (isLawful plan T r) (LawfulRow plan T r)
-tests-lawful plan T r =
+pub tests-lawful : (site : Site) (r : Row) → Tests (isLawful site r) (LawfulRow site r)
+tests-lawful site r =
     alike
-    (tests-and (tests-le 1 (r .id)) (tests-and (tests-lt (r .id) 65536) (tests-and (tests-in (r .period) periods) (tests-and (tests-path T (r .route))
-    (tests-and (tests-and (tests-eq (length (r .offsets)) (hops r)) (tests-and (tests-pairs _<_ ltb tests-lt (r .offsets))
-    (tests-every (λ o. ltb o (r .period * plan .slots)) (λ o. tests-lt o (r .period * plan .slots)) (r .offsets))))
-    (tests-every (onData plan (r .period)) (tests-on-data plan (r .period)) (r .offsets)))))))
+    (tests-and (tests-le 1 (r .id)) (tests-and (tests-lt (r .id) 65536) (tests-and (tests-in (r .period) periods) (tests-and (tests-path (site .links) (r .route))
+    (tests-and (tests-le (hops r) mostRouteHops) (tests-and (tests-and (tests-eq (length (r .offsets)) (hops r)) (tests-and (tests-pairs _<_ ltb tests-lt (r .offsets))
+    (tests-every (λ o. ltb o (r .period * site .plan .slots)) (λ o. tests-lt o (r .period * site .plan .slots)) (r .offsets))))
+    (tests-every (onData (site .plan) (r .period)) (tests-on-data (site .plan) (r .period)) (r .offsets))))))))
     (λ p. record {
       id-some = p .0;
       id-most = p .1 .0;
       period = p .1 .1 .0;
       route = p .1 .1 .1 .0;
-      offsets = record { count = p .1 .1 .1 .1 .0 .0; rising = p .1 .1 .1 .1 .0 .1 .0; within = p .1 .1 .1 .1 .0 .1 .1 };
-      on-data = p .1 .1 .1 .1 .1;
+      route-most = p .1 .1 .1 .1 .0;
+      offsets = record { count = p .1 .1 .1 .1 .1 .0 .0; rising = p .1 .1 .1 .1 .1 .0 .1 .0; within = p .1 .1 .1 .1 .1 .0 .1 .1 };
+      on-data = p .1 .1 .1 .1 .1 .1;
     })
-    (λ l. (l .id-some, (l .id-most, (l .period, (l .route, ((l .offsets .count, (l .offsets .rising, l .offsets .within)), l .on-data))))))
+    (λ l. (l .id-some, (l .id-most, (l .period, (l .route, (l .route-most, ((l .offsets .count, (l .offsets .rising, l .offsets .within)), l .on-data)))))))
+
+pub tests-rising : (rows : List Row) → Tests (isRising rows) (RisingByKey rows)
+tests-rising = tests-pairs (λ (r x : Row). key r < key x) (λ r x. ltb (key r) (key x)) (λ r x. tests-lt (key r) (key x))
 
 pub tests-rows : (s : List ℕ) (rows : List Row) → Tests (rowsHold s rows) (RowsOf s rows)
 tests-rows s rows =
     alike
-    (tests-and (tests-eq (length rows) (streamsOf s)) (tests-and (tests-every (isLawful (planOf s) (topologyOf s)) (tests-lawful (planOf s) (topologyOf s)) rows)
-    (tests-and (tests-pairs (λ (r x : Row). r .id < x .id) (λ r x. ltb (r .id) (x .id)) (λ r x. tests-lt (r .id) (x .id)) rows)
-    (tests-and (tests-eq (hopsInAll rows) (hopsOf s)) (tests-same (drop (rowsStart (nodesOf s)) s) (inTurn encodeRow rows))))))
+    (tests-and (tests-eq (length rows) (streamsOf s)) (tests-and (tests-every (isLawful (siteOf s)) (tests-lawful (siteOf s)) rows) (tests-and (tests-rising rows)
+    (tests-and (tests-eq (hopsInAll rows) (hopsOf s)) (tests-same (drop (rowsPlace s) s) (inTurn (encodeRow (versionOf s)) rows))))))
     (λ p. record { count = p .0; lawful = p .1 .0; rising = p .1 .1 .0; hops = p .1 .1 .1 .0; fill = p .1 .1 .1 .1 })
     (λ r. (r .count, (r .lawful, (r .rising, (r .hops, r .fill)))))
-
--- rows that were written are read again
-read-back : (rows : List Row) → AllSized rows → readRows (length rows) (inTurn encodeRow rows) ≡ rows
-read-back [] w = refl
-read-back (r ∷ rows) w =
-    let u = w r (inl refl) in
-    let t = inTurn encodeRow rows in
-    ap₂ _∷_ (row-back r t u) (ap (readRows (length rows)) (left-over r t u) ∙ read-back rows (λ x m. w x (inr m)))
-
-pub rows-are : (s : List ℕ) (rows : List Row) → RowsOf s rows → rowsIn s ≡ rows
-rows-are s rows h =
-    ap₂ readRows (sym (h .count)) (h .fill) ∙ read-back rows (λ r m. lawful-sized (h .lawful r m))
 
 pub tests-no-rows : (s : List ℕ) → Tests (not (rowsHold s (rowsIn s))) ((rows : List Row) → RowsOf s rows → ⊥)
 tests-no-rows s =
@@ -136,23 +159,20 @@ tests-no-rows s =
     (λ n rows h. n (subst (RowsOf s) (sym (rows-are s rows h)) h))
     (λ f h. f (rowsIn s) h)
 
+pub tests-rows-meet : (site : Site) (one other : Row) → Tests (rowsMeet site one other) (RowsMeet site one other)
+tests-rows-meet site one other =
+    alike (tests-some _ (λ i. tests-meets-clashing site other (one .period) (rowHop one i) (rowOffset one i)) (hops one))
+    (λ p. record { hop = p .0; there = p .1; meets = p .2 })
+    (λ m. (m .hop, m .there, m .meets))
+
 pub tests-meet : (b : Book) → Tests (clashingHopsMeet b) (ClashingHopsMeet b)
 tests-meet b =
     alike
-    (tests-member _ (λ r. tests-member _ (λ x. tests-and (tests-not (tests-eq (r .id) (x .id)))
-    (tests-some _ (λ i. tests-meets-clashing (b .topology) (b .plan .slots) x (r .period) (rowHop r i) (rowOffset r i)) (hops r))) (b .rows)) (b .rows))
-    (λ p. record {
-      one = p .0;
-      other = p .2 .0;
-      one-there = p .1;
-      other-there = p .2 .1;
-      different = p .2 .2 .0;
-      hop = p .2 .2 .1 .0;
-      hop-there = p .2 .2 .1 .1;
-      meets = p .2 .2 .1 .2;
-    })
-    (λ m. (m .one, m .one-there, (m .other, m .other-there, (m .different, (m .hop, m .hop-there, m .meets)))))
+    (tests-member _ (λ r. tests-member _ (λ x. tests-and (tests-not (tests-eq (key r) (key x))) (tests-rows-meet (b .site) r x)) (b .rows)) (b .rows))
+    (λ p. record { one = p .0; other = p .2 .0; one-there = p .1; other-there = p .2 .1; different = p .2 .2 .0; meets = p .2 .2 .1 })
+    (λ m. (m .one, m .one-there, (m .other, m .other-there, (m .different, m .meets))))
 
+-- THE IMAGE
 pub image-says : (s : List ℕ) → Says (imageRefusals s) (imageNumber s)
 image-says s =
     first-says (imageTests s) (imageRefusals s) (
@@ -160,16 +180,16 @@ image-says s =
       tests-lt (length s) headerLength,
       λ n1. (
         refl,
-        tests-not (tests-same (take 5 s) (mark ++ word version)),
+        tests-not (tests-and (tests-same (take 3 s) mark) (tests-version (versionOf s))),
         λ n2. (
           refl,
           tests-not (tests-fields s),
           λ n3. (
             refl,
-            tests-not (tests-eq (length s) (imageLength (nodesOf s) (streamsOf s) (hopsOf s))),
+            tests-not (tests-eq (length s) (statedLength s)),
             λ n4. (
               refl,
-              tests-not (tests-sound (topologyOf s)),
+              tests-not (tests-topologies (linksOf s) (hearingOf s)),
               λ n5. (
                 refl,
                 tests-no-rows s,
@@ -184,9 +204,21 @@ image-says s =
   where
     meet : (((rows : List Row) → RowsOf s rows → ⊥) → ⊥) → Tests (clashingHopsMeet (bookIn s)) ((rows : List Row) × RowsOf s rows × ClashingHopsMeet (bookOf s rows))
     meet n6 =
-        alike (tests-meet (bookIn s)) (λ m. (rowsIn s, held (rowsHold s (rowsIn s)) (tests-rows s (rowsIn s)), m))
+        alike (tests-meet (bookIn s)) (λ m. (rowsIn s, stable (tests-rows s (rowsIn s)) (λ f. n6 (tests-no-rows s .yes (tests-not (tests-rows s (rowsIn s)) .back f))), m))
         (λ p. subst (λ (rows : List Row). ClashingHopsMeet (bookOf s rows)) (sym (rows-are s (p .0) (p .1))) (p .2))
-      where
-        held : (t : Bool) → Tests t (RowsOf s (rowsIn s)) → RowsOf s (rowsIn s)
-        held true t = t .yes refl
-        held false t = absurd (n6 (λ rows h. never (t .back (subst (RowsOf s) (sym (rows-are s rows h)) h))))
+
+-- where the image's number is 0 it holds the book that is read
+pub stored-in : (s : List ℕ) → Bytes s → imageNumber s ≡ 0 → LawfulImage s
+stored-in s bytes e =
+    stored s bytes (rowsIn s) (le-of-suc-le-suc (lt-of-not-le (n .0))) (known .0) (known .1) (stable (tests-fields s) (n .1 .1 .0))
+    (stable (tests-eq (length s) (statedLength s)) (n .1 .1 .1 .0)) (stable (tests-topologies (linksOf s) (hearingOf s)) (n .1 .1 .1 .1 .0)) rows
+    (λ m. n .1 .1 .1 .1 .1 .1 .0 (rowsIn s, rows, m))
+  where
+    n : None (imageRefusals s)
+    n = says-none (imageRefusals s) (omega arith) (subst (Says (imageRefusals s)) e (image-says s))
+
+    known : (take 3 s ≡ mark) × Version (versionOf s)
+    known = stable (tests-and (tests-same (take 3 s) mark) (tests-version (versionOf s))) (n .1 .0)
+
+    rows : RowsOf s (rowsIn s)
+    rows = stable (tests-rows s (rowsIn s)) (λ f. n .1 .1 .1 .1 .1 .0 (tests-no-rows s .yes (tests-not (tests-rows s (rowsIn s)) .back f)))

@@ -1,14 +1,13 @@
--- What the searches find is first, and there is none where they find none. Assumes nothing.
-use mathlib.Core.Path.{_≡_, refl, sym, ap, ap₂, _∙_, subst}
-use mathlib.Core.Logic.{_⊎_, inl, inr, ⊎-elim}
+-- What the searches find is first, and there is none where they find none.
+use mathlib.Core.Path.{_≡_, refl, sym, subst}
+use mathlib.Core.Logic.{_⊎_, ⊎-elim}
 use mathlib.Core.Bool.{Bool, true, false, cond}
-use mathlib.Core.List.{List, [], _∷_}
 use mathlib.Core.Option.{Option, some, none}
-use Prim.Native.Nat.{ℕ, zero, suc, _+_, _*_, _-_, _<_, _≤_}
+use Prim.Native.Nat.{ℕ, zero, suc, _+_, _-_, _<_, _≤_}
 use native.Mathlib.Omega.{arith}
 use native.Mathlib.Nat.{eq-or-lt-of-le}
 use Rattle.rules.proofs.Greedy.{Least}
-use Rattle.model.specs.Search.{orElse, before, firstFrom, leastFrom}
+use Rattle.model.specs.Search.{orElse, firstFrom, leastFrom}
 use Rattle.rules.specs.Words.{Tests}
 use Rattle.rules.proofs.Tests.{never}
 

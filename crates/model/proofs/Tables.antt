@@ -1,34 +1,34 @@
--- The table and the balance that are computed are the node's. Assumes nothing.
-use mathlib.Core.Path.{_≡_, refl, sym, ap, ap₂, _∙_, subst, subst₂}
+-- The table and the balance that are computed are the node's.
+use mathlib.Core.Path.{_≡_, refl, sym, ap, _∙_, subst, subst₂}
 use mathlib.Core.Logic.{_⊎_, inl, inr, ⊎-elim}
 use mathlib.Core.Bool.{Bool, true, false, cond}
-use mathlib.Core.List.{List, [], _∷_, _++_}
+use mathlib.Core.List.{List, [], _∷_}
 use mathlib.Core.Option.{Option, some, none}
 use Prim.Native.Nat.{ℕ, zero, suc, _+_, _*_, _<_, _≤_}
 use native.Mathlib.Omega.{arith}
 use native.Mathlib.Nat.{lt-of-not-le, add-zero}
 use lib.Dec.{eqb}
 use lib.ListN.{length, take, drop}
-use Rattle.rules.specs.Words.{_∈_, Count, Tests}
-use Rattle.rules.specs.Words.Count.{none as count-none, one, skip}
-use Rattle.rules.specs.Tiles.{Takes, Data, Control, cycleSlots}
-use Rattle.rules.specs.Topology.{Hop, Touches}
+use Rattle.rules.specs.Words.{_∈_, Tests}
+use Rattle.rules.specs.Tiles.{Takes, Data, cycleSlots}
+use Rattle.rules.specs.Topology.{Touches}
 use Rattle.rules.specs.Book.{Row, Book, hops, rowHop, rowOffset, LawfulBook}
 use Rattle.rules.specs.Image.{word}
-use Rattle.rules.specs.Table.{Active, Does, Entry, TableOf, BalanceOf, used}
+use Rattle.rules.specs.Table.{Does, Entry, TableOf, BalanceOf, used}
 use Rattle.rules.specs.Table.Does.{sends, receives, forwards, delivers}
 use Rattle.rules.specs.Table.Entry.{sleep, works, control}
 use Rattle.rules.proofs.Entries.{entry-unique}
-use Rattle.model.specs.Test.{isData, takes}
-use Rattle.model.specs.Search.{firstFrom, andThen}
-use Rattle.model.specs.Answer.{Cell, operationOf, cellIn, orGiven, cellOf, tableFrom, tableOf, countBelow, dataCount, freeCount}
 use Rattle.rules.proofs.Tests.{never, tests-eq}
-use Rattle.model.proofs.Tests.{tests-data, tests-takes}
+use Rattle.rules.proofs.Counts.{counted}
+use Rattle.rules.proofs.Slots.{isData, takes, tests-data, tests-takes}
+use Rattle.model.specs.Search.{andThen}
+use Rattle.model.specs.Answer.{orGiven}
+use Rattle.model.specs.Table.{Cell, operationOf, cellIn, cellOf, tableFrom, tableOf, dataCount, freeCount}
 use Rattle.model.proofs.Searches.{Found, FirstAt, first-found}
 
 module _ (b : Book) (node slot : ℕ) where
   abbrev At : Row → ℕ → Type 0
-  At r i = Takes (b .plan .slots) (r .period) (rowOffset r i) slot
+  At r i = Takes (b .site .plan .slots) (r .period) (rowOffset r i) slot
 
   -- the cell is what the node does in hop i of the row
   abbrev Works : Row → ℕ → Cell → Type 0
@@ -60,8 +60,8 @@ module _ (b : Book) (node slot : ℕ) where
       from false a = to (eqb node (rowHop r i .to)) (tests-eq node (rowHop r i .to)) (λ e. never (a .back e))
 
   tried : (r : Row) (i : ℕ) → Found (Works r i) (Idle r i)
-      (cond (takes (b .plan .slots) (r .period) (rowOffset r i) slot) (andThen (operationOf node r i) (λ (o : ℕ). some (record { operation = o; stream = r .id }))) none)
-  tried r i = go (takes (b .plan .slots) (r .period) (rowOffset r i) slot) (tests-takes (b .plan .slots) (r .period) (rowOffset r i) slot) (operationOf node r i) (operation r i)
+      (cond (takes (b .site .plan .slots) (r .period) (rowOffset r i) slot) (andThen (operationOf node r i) (λ (o : ℕ). some (record { operation = o; stream = r .id }))) none)
+  tried r i = go (takes (b .site .plan .slots) (r .period) (rowOffset r i) slot) (tests-takes (b .site .plan .slots) (r .period) (rowOffset r i) slot) (operationOf node r i) (operation r i)
     where
       go : (t : Bool) → Tests t (At r i) → (o : Option ℕ) → Found (λ (o : ℕ). i < hops r → Does node r i o) (Touches node (rowHop r i) → ⊥) o
           → Found (Works r i) (Idle r i) (cond t (andThen o (λ (o : ℕ). some (record { operation = o; stream = r .id }))) none)
@@ -73,7 +73,7 @@ module _ (b : Book) (node slot : ℕ) where
   abbrev CellOf : List Row → Cell → Type 0
   CellOf rs c =
       ((r : Row) × (i : ℕ) × (r ∈ rs) × (i < hops r) × At r i × Does node r i (c .operation) × (c .stream ≡ r .id))
-      ⊎ (((r : Row) → r ∈ rs → (i : ℕ) → i < hops r → Idle r i) × (c .operation ≡ cond (isData (b .plan) slot) 0 5) × (c .stream ≡ 0))
+      ⊎ (((r : Row) → r ∈ rs → (i : ℕ) → i < hops r → Idle r i) × (c .operation ≡ cond (isData (b .site .plan) slot) 0 5) × (c .stream ≡ 0))
 
   cell-of : (rs : List Row) → CellOf rs (cellOf b node slot rs)
   cell-of [] = inr (λ r m. absurd m, refl, refl)
@@ -91,45 +91,41 @@ module _ (b : Book) (node slot : ℕ) where
   pub entry-computed : Entry b node slot (cellOf b node slot (b .rows) .operation) (cellOf b node slot (b .rows) .stream)
   entry-computed = go (cellOf b node slot (b .rows)) (cell-of (b .rows))
     where
-      rest : (t : Bool) → Tests t (Data (b .plan) slot) → ((r : Row) → r ∈ b .rows → (i : ℕ) → i < hops r → Idle r i) → Entry b node slot (cond t 0 5) 0
+      rest : (t : Bool) → Tests t (Data (b .site .plan) slot) → ((r : Row) → r ∈ b .rows → (i : ℕ) → i < hops r → Idle r i) → Entry b node slot (cond t 0 5) 0
       rest true a f = sleep (a .yes refl) (λ r i x h. f r (x .row) i (x .hop) (x .takes) h)
       rest false a f = control (lt-of-not-le (λ l. never (a .back l)))
 
       go : (c : Cell) → CellOf (b .rows) c → Entry b node slot (c .operation) (c .stream)
       go c (inl h) = subst (Entry b node slot (c .operation)) (sym (h .6)) (works record { row = h .2; hop = h .3; takes = h .4 } (h .5))
       go c (inr h) =
-          subst₂ (Entry b node slot) (sym (h .1)) (sym (h .2)) (rest (isData (b .plan) slot) (tests-data (b .plan) slot) (h .0))
+          subst₂ (Entry b node slot) (sym (h .1)) (sym (h .2)) (rest (isData (b .site .plan) slot) (tests-data (b .site .plan) slot) (h .0))
 
 -- THE TABLE
 module _ (b : Book) (node : ℕ) where
+  -- the 3 bytes of a slot
+  abbrev cell : ℕ → List ℕ
+  cell slot = cellOf b node slot (b .rows) .operation ∷ word (cellOf b node slot (b .rows) .stream)
+
   table-length : (n slot : ℕ) → length (tableFrom b node n slot) ≡ 3 * n
   table-length zero slot = refl
   table-length (suc n) slot = let h = table-length n (suc slot) in omega arith
 
-  table-at : (n slot k : ℕ) → k < n → take 3 (drop (3 * k) (tableFrom b node n slot)) ≡ cellOf b node (slot + k) (b .rows) .operation ∷ word (cellOf b node (slot + k) (b .rows) .stream)
+  table-at : (n slot k : ℕ) → k < n → take 3 (drop (3 * k) (tableFrom b node n slot)) ≡ cell (slot + k)
   table-at zero slot k l = absurd (omega arith)
-  table-at (suc n) slot zero l = ap (λ (x : ℕ). cellOf b node x (b .rows) .operation ∷ word (cellOf b node x (b .rows) .stream)) (sym (add-zero slot))
+  table-at (suc n) slot zero l = ap cell (sym (add-zero slot))
   table-at (suc n) slot (suc k) l =
       let e : 3 * suc k ≡ suc (suc (suc (3 * k))) = omega arith in
       let f : suc slot + k ≡ slot + suc k = omega arith in
       ap (λ (x : ℕ). take 3 (drop x (tableFrom b node (suc n) slot))) e ∙ table-at n (suc slot) k (omega arith)
-      ∙ ap (λ (x : ℕ). cellOf b node x (b .rows) .operation ∷ word (cellOf b node x (b .rows) .stream)) f
+      ∙ ap cell f
 
   pub table-computed : TableOf b node (tableOf b node)
   table-computed = record {
-    size = table-length (cycleSlots (b .plan)) 0;
-    entries = λ slot l. (_, _, entry-computed b node slot, table-at (cycleSlots (b .plan)) 0 slot l ∙ ap (λ (x : ℕ). cellOf b node x (b .rows) .operation ∷ word (cellOf b node x (b .rows) .stream)) (omega arith));
+    size = table-length (cycleSlots (b .site .plan)) 0;
+    entries = λ slot l. (_, _, entry-computed b node slot, table-at (cycleSlots (b .site .plan)) 0 slot l ∙ ap cell (omega arith));
   }
 
 -- THE BALANCE
-pub counted : (P : ℕ → Type 0) (f : ℕ → Bool) → ((i : ℕ) → Tests (f i) (P i)) → (n : ℕ) → Count P n (countBelow n f)
-counted P f h zero = count-none
-counted P f h (suc n) = go (f n) (h n) (counted P f h n)
-  where
-    go : (t : Bool) → Tests t (P n) → Count P n (countBelow n f) → Count P (suc n) (cond t (suc (countBelow n f)) (countBelow n f))
-    go true a c = one c (a .yes refl)
-    go false a c = skip c (λ p. never (a .back p))
-
 module _ (b : Book) (w : LawfulBook b) (node : ℕ) where
   does-something : {r : Row} {i o : ℕ} → Does node r i o → o ≡ 0 → ⊥
   does-something (sends e z) q = omega arith
@@ -153,7 +149,7 @@ module _ (b : Book) (w : LawfulBook b) (node : ℕ) where
 
   pub balance-computed : BalanceOf b node (dataCount b) (used b node) (freeCount b node)
   balance-computed = record {
-    all-data = counted (Data (b .plan)) (isData (b .plan)) (tests-data (b .plan)) (cycleSlots (b .plan));
+    all-data = counted (isData (b .site .plan)) (tests-data (b .site .plan)) (cycleSlots (b .site .plan));
     all-used = refl;
-    all-free = counted (λ slot. Entry b node slot 0 0) (λ slot. eqb (cellOf b node slot (b .rows) .operation) 0) tests-sleep (cycleSlots (b .plan));
+    all-free = counted (λ slot. eqb (cellOf b node slot (b .rows) .operation) 0) tests-sleep (cycleSlots (b .site .plan));
   }

@@ -1,3 +1,5 @@
-pub mod More
+pub mod Judging
 pub mod Routed
+pub mod More
 pub mod Planned
+pub mod Placed

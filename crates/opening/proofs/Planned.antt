@@ -1,68 +1,80 @@
--- The rows that were decoded are the book's topology, and the planner's answer over them is that of the book. Assumes nothing.
+-- The links that were decoded are the book's, and the planner's answer over them is that of the book.
 use mathlib.Core.Path.{_≡_, refl, sym, ap, _∙_, subst}
-use mathlib.Core.List.{List}
-use Prim.Native.Nat.{ℕ, _+_, _*_, _<_, _≤_}
+use mathlib.Core.List.{List, []}
+use Prim.Native.Nat.{ℕ, _+_, _*_, _≤_}
 use native.Mathlib.Omega.{arith}
 use lib.ListN.{length, take}
-use lib.Seq.{length-take-le}
-use Rattle.rules.specs.Topology.{Topology, nodes, Route}
+use Rattle.rules.specs.Topology.{Topology, nodes, allNodes, Route}
 use Rattle.rules.specs.Topology as topologies
-use Rattle.rules.specs.Image.{nodesOf, linksAt, topologyOf, Stored}
-use Rattle.rules.proofs.Written.{length-linksAt}
-use Rattle.model.specs.Reading.{bookIn}
+use Rattle.rules.specs.Image.{linksStart, versionOf, nodesOf, setsAt, linksOf}
+use Rattle.rules.specs.Calls.{anyMiddle}
+use Rattle.rules.specs.Placing as placing
+use Rattle.rules.proofs.Middles.{route-any, no-route-any}
+use Rattle.rules.proofs.Written.{length-sets-at}
+use Rattle.rules.proofs.Reading.{bookIn, LawfulImage}
 use Rattle.image.specs.Header.{HeaderOf}
-use Rattle.image.specs.Places.{Links}
+use Rattle.image.specs.Places.{Sets}
 use Rattle.image.specs.declared.Book as head
 use Rattle.image.proofs.Stands.{stored-length}
-use Rattle.routes.specs.Rows.{topology}
+use Rattle.bitset.specs.Rows.{topology}
 use Rattle.routes.specs.Planner.{Asked, Says, PlannerSays}
 use Rattle.routes.specs.declared.Planned.{Planned}
 use Rattle.routes.specs.declared.Reach.{Reach}
 use Rattle.routes.specs.declared.Reach.the-variants.{Found, NoRoute}
+use Rattle.opening.specs.Beside.{AskedBeside}
 
 -- a route has at most 15 hops, and no route none
-pub hops-most : (T : Topology) (source destination : ℕ) (r : Planned) → PlannerSays T source destination r → r .hops ≤ 15
-hops-most T source destination r w = go (r .reach) w
+pub hops-most : (T : Topology) (middle source destination : ℕ) (r : Planned) → PlannerSays T middle source destination r → r .hops ≤ 15
+hops-most T middle source destination r w = go (r .reach) w
   where
-    go : (reach : Reach) → Says T source destination reach (r .hops) (r .nodes) → r .hops ≤ 15
+    go : (reach : Reach) → Says T middle source destination reach (r .hops) (r .nodes) → r .hops ≤ 15
     go Found w = w .most
     go NoRoute w = omega (arith, w .no-hops)
 
-module _ (s : List ℕ) (book : head.Book) (h : Stored s (bookIn s)) (read : HeaderOf s book) where
-  pub known : nodes (topologyOf s) ≡ nodesOf s
-  known = length-linksAt s 16 (nodesOf s)
+module _ {s : List ℕ} (h : LawfulImage s) where
+  pub known : nodes (linksOf s) ≡ nodesOf s
+  known = length-sets-at s (linksStart (versionOf s)) (nodesOf s)
+
+  pub nodes-few : nodes (linksOf s) ≤ 64
+  nodes-few = h .lawful .site .nodes .1
+
+module _ {s words : List ℕ} {book : head.Book} {q : placing.Asked} {place : ℕ} (w : AskedBeside s words book q place) where
+  lawful : LawfulImage s
+  lawful = w .image .newest .lawful
 
   pub nodes-most : book .nodes ≤ 64
-  nodes-most = omega (arith, read .nodes, known, h .lawful .nodes .1)
+  nodes-most = omega (arith, w .header .nodes, known lawful, nodes-few lawful)
 
-  pub rows-inside : 16 + 8 * book .nodes ≤ length s
-  rows-inside = omega (arith, read .nodes, stored-length h)
+  pub links-inside : linksStart (versionOf s) + 8 * book .nodes ≤ length s
+  links-inside = omega (arith, w .header .nodes, stored-length lawful)
 
-  module _ (rows : List ℕ) (w : Links s 16 (book .nodes) rows) where
-    pub same-links : take (book .nodes) rows ≡ topologyOf s .links
-    same-links = w .rows ∙ ap (linksAt s 16) (read .nodes)
+  module _ {rows : List ℕ} (l : Sets s (linksStart (versionOf s)) (book .nodes) rows) where
+    pub same-links : take (book .nodes) rows ≡ linksOf s .rows
+    same-links = l .rows ∙ ap (setsAt s (linksStart (versionOf s))) (w .header .nodes)
 
-    pub same-topology : topology (take (book .nodes) rows) ≡ topologyOf s
+    pub same-topology : topology (take (book .nodes) rows) ≡ linksOf s
     same-topology = ap topology same-links
 
-    pub asked : (source destination : ℕ) → source < nodesOf s → destination < nodesOf s → (source ≡ destination → ⊥) → Asked (topology (take (book .nodes) rows)) source destination
-    asked source destination a b f =
-        subst (λ (T : Topology). Asked T source destination) (sym same-topology)
+    pub asked : Asked (topology (take (book .nodes) rows)) (q .source) (q .destination)
+    asked =
+        subst (λ (T : Topology). Asked T (q .source) (q .destination)) (sym same-topology)
         record {
-          range = h .lawful .nodes;
-          sound = h .lawful .topology;
-          source-known = omega (arith, known);
-          destination-known = omega (arith, known);
-          apart = f;
+          range = lawful .lawful .site .nodes;
+          sound = lawful .lawful .site .topologies .links-sound;
+          source-known = omega (arith, known lawful, w .source);
+          destination-known = omega (arith, known lawful, w .destination);
+          apart = w .apart;
         }
 
-    module _ (source destination : ℕ) (r : Planned) (p : PlannerSays (topology (take (book .nodes) rows)) source destination r) where
-      pub planned-route : r .reach ≡ Found → Route (topologyOf s) source destination (take (r .hops + 1) (r .nodes))
+    module _ (r : Planned) (p : PlannerSays (topology (take (book .nodes) rows)) (allNodes 64) (q .source) (q .destination) r) where
+      pub planned-route : r .reach ≡ Found → Route (linksOf s) (anyMiddle (bookIn s)) (q .source) (q .destination) (take (r .hops + 1) (r .nodes))
       planned-route e =
-          subst (λ (T : Topology). Route T source destination (take (r .hops + 1) (r .nodes))) same-topology
-          (subst (λ (reach : Reach). Says (topology (take (book .nodes) rows)) source destination reach (r .hops) (r .nodes)) e p .route)
+          route-any 64 (nodes (linksOf s)) (linksOf s) (nodes-few lawful) (omega arith) (take (r .hops + 1) (r .nodes))
+          (subst (λ (T : Topology). Route T (allNodes 64) (q .source) (q .destination) (take (r .hops + 1) (r .nodes))) same-topology
+          (subst (λ (reach : Reach). Says (topology (take (book .nodes) rows)) (allNodes 64) (q .source) (q .destination) reach (r .hops) (r .nodes)) e p .route))
 
-      pub planned-none : r .reach ≡ NoRoute → topologies.NoRoute (topologyOf s) source destination
+      pub planned-none : r .reach ≡ NoRoute → topologies.NoRoute (linksOf s) (anyMiddle (bookIn s)) (q .source) (q .destination)
       planned-none e =
-          subst (λ (T : Topology). topologies.NoRoute T source destination) same-topology
-          (subst (λ (reach : Reach). Says (topology (take (book .nodes) rows)) source destination reach (r .hops) (r .nodes)) e p .none)
+          no-route-any 64 (nodes (linksOf s)) (linksOf s) (nodes-few lawful) (omega arith)
+          (subst (λ (T : Topology). topologies.NoRoute T (allNodes 64) (q .source) (q .destination)) same-topology
+          (subst (λ (reach : Reach). Says (topology (take (book .nodes) rows)) (allNodes 64) (q .source) (q .destination) reach (r .hops) (r .nodes)) e p .none))

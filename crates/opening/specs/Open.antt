@@ -1,67 +1,72 @@
--- What an open says of a lawful image. Assumes nothing.
+-- What an open says of a lawful image, part by part.
 use mathlib.Core.Path.{_≡_}
 use mathlib.Core.List.{List, [], _∷_}
 use Prim.Native.Nat.{ℕ, _<_}
 use lib.ListN.{length}
-use Rattle.rules.specs.Says.{Refusal, _when_}
-use Rattle.rules.specs.Book.{Row, Book, Plus}
+use Rattle.rules.specs.Says.{Refusal, _when_, Says}
+use Rattle.rules.specs.Tiles.{periodAt}
+use Rattle.rules.specs.Periods.{InList}
 use Rattle.rules.specs.Topology.{NoRoute}
-use Rattle.rules.specs.Placing.{FirstPlacing, NoPlacing, Full}
-use Rattle.rules.specs.Image.{encode}
-use Rattle.rules.specs.Calls.{OfRoute, Opened, openRefusals}
-use Rattle.model.specs.Reading.{bookIn}
+use Rattle.rules.specs.Book.{Row, Book, Known, Plus}
+use Rattle.rules.specs.Placing.{Asked, Full, NewRows, NoPlacings}
+use Rattle.rules.specs.Image.{newest, encode}
+use Rattle.rules.specs.Calls.{anyMiddle, OfRoutes, NoRoom, MadeImage, askedRefusals, requestRefusals}
+use Rattle.rules.specs.Calls.Request.{Open}
+use Rattle.rules.proofs.Says.{None}
+use Rattle.rules.proofs.Reading.{bookIn}
 use Rattle.answers.specs.Reply.{Reply}
+use Rattle.opening.specs.declared.Judged.{Judged}
+use Rattle.opening.specs.declared.Judged.the-variants.{Refused, InOrder}
 
--- the image of the book with the row in it
-abbrev pub MoreImage : Book → Row → List ℕ → Type 0
-MoreImage b r bytes = (c : Book) × Plus b r c × (bytes ≡ encode c)
+-- what is wrong with a request by itself; or nothing is, and its period is at the place
+abbrev pub JudgedBy : Asked → ℕ → Judged → Type 0
+JudgedBy q N (Refused n) = Says (askedRefusals q N) n × (n ≡ 0 → ⊥)
+JudgedBy q N (InOrder place) = None (askedRefusals q N) × InList place × (periodAt place ≡ q .period)
 
--- the only refusal that is left, where the row is known
-abbrev pub roomRefusals : Row → ℕ → Book → List Refusal
-roomRefusals r room b = (12 when ((c : Book) × Plus b r c × (room < length (encode c)))) ∷ []
+-- where the rows are known: the image of the book with them in it
+abbrev pub MoreImage : Book → List Row → List ℕ → Type 0
+MoreImage b new bytes = (c : Book) × Plus b new c × (bytes ≡ encode newest c)
 
-abbrev pub PutsIn : List ℕ → Row → List ℕ → ℕ → ℕ → List ℕ → Type 0
-PutsIn s r out number len out′ = Reply (roomRefusals r (length out) (bookIn s)) (MoreImage (bookIn s) r) out number len out′
+abbrev pub moreRefusals : List Row → ℕ → Book → List Refusal
+moreRefusals new room b = (12 when ((c : Book) × Plus b new c × (room < length (encode newest c)))) ∷ []
 
--- the stream's row on a route that is known: the first placing on it
-pub record RowOn (b : Book) (id K : ℕ) (route : List ℕ) (r : Row) : Type 0 where
-  pub named : r .id ≡ id
-  pub every : r .period ≡ K
-  pub along : r .route ≡ route
-  pub placed : FirstPlacing b K (r .route) (r .offsets)
+abbrev pub PutsIn : List ℕ → List Row → List ℕ → ℕ → ℕ → List ℕ → Type 0
+PutsIn s new out number len out′ = Reply (moreRefusals new (length out) (bookIn s)) (MoreImage (bookIn s) new) out number len out′
 
--- c is the book with that row put in
-abbrev pub OpenedOn : Book → ℕ → ℕ → List ℕ → Book → Type 0
-OpenedOn b id K route c = (r : Row) × RowOn b id K route r × Plus b r c
+-- where the routes are known: c is the book with the rows on them put in
+pub record OpenedOn (b : Book) (q : Asked) (routes : List (List ℕ)) (c : Book) : Type 0 where
+  pub new : List Row
+  pub placed : NewRows b q routes new
+  pub plus : Plus b new c
 
--- the refusals that are left, where the route is known
-abbrev pub routedRefusals : ℕ → ℕ → List ℕ → ℕ → Book → List Refusal
-routedRefusals id K route room b =
-    (8 when Full b route) ∷ (9 when NoPlacing b K route) ∷ (12 when ((c : Book) × OpenedOn b id K route c × (room < length (encode c)))) ∷ []
+abbrev pub RoutedImage : Book → Asked → List (List ℕ) → List ℕ → Type 0
+RoutedImage b q routes bytes = (c : Book) × OpenedOn b q routes c × (bytes ≡ encode newest c)
 
-abbrev pub RoutedImage : Book → ℕ → ℕ → List ℕ → List ℕ → Type 0
-RoutedImage b id K route bytes = (c : Book) × OpenedOn b id K route c × (bytes ≡ encode c)
+abbrev pub routedRefusals : Asked → List (List ℕ) → ℕ → Book → List Refusal
+routedRefusals q routes room b =
+    (8 when Full b routes) ∷ (9 when NoPlacings b q routes) ∷ (12 when ((c : Book) × OpenedOn b q routes c × (room < length (encode newest c)))) ∷ []
 
-abbrev pub Routed : List ℕ → ℕ → ℕ → List ℕ → List ℕ → ℕ → ℕ → List ℕ → Type 0
-Routed s id K route out number len out′ = Reply (routedRefusals id K route (length out) (bookIn s)) (RoutedImage (bookIn s) id K route) out number len out′
+abbrev pub Routed : List ℕ → Asked → List (List ℕ) → List ℕ → ℕ → ℕ → List ℕ → Type 0
+Routed s q routes out number len out′ = Reply (routedRefusals q routes (length out) (bookIn s)) (RoutedImage (bookIn s) q routes) out number len out′
 
--- the refusals that are left, where the request is in order and its id is new
-abbrev pub newRefusals : ℕ → ℕ → ℕ → ℕ → ℕ → Book → List Refusal
-newRefusals id source destination K room b =
-    (7 when NoRoute (b .topology) source destination)
-    ∷ (8 when OfRoute b source destination (Full b))
-    ∷ (9 when OfRoute b source destination (NoPlacing b K))
-    ∷ (12 when ((c : Book) × Opened b id source destination K c × (room < length (encode c))))
+-- where the request is in order and its id is new
+abbrev pub newRefusals : Asked → ℕ → Book → List Refusal
+newRefusals q room b =
+    (7 when NoRoute (b .site .links) (anyMiddle b) (q .source) (q .destination))
+    ∷ (8 when OfRoutes (anyMiddle b) q b (Full b))
+    ∷ (9 when OfRoutes (anyMiddle b) q b (NoPlacings b q))
+    ∷ (12 when NoRoom (anyMiddle b) room (Open q) b)
     ∷ []
 
--- the image of the book with the stream in it
-abbrev pub OpenedImage : Book → ℕ → ℕ → ℕ → ℕ → List ℕ → Type 0
-OpenedImage b id source destination K bytes = (c : Book) × Opened b id source destination K c × (bytes ≡ encode c)
+abbrev pub OpenedImage : Asked → Book → List ℕ → Type 0
+OpenedImage q b = MadeImage (anyMiddle b) b (Open q)
 
-abbrev pub OpensNew : List ℕ → ℕ → ℕ → ℕ → ℕ → List ℕ → ℕ → ℕ → List ℕ → Type 0
-OpensNew s id source destination K out number len out′ =
-    Reply (newRefusals id source destination K (length out) (bookIn s)) (OpenedImage (bookIn s) id source destination K) out number len out′
+abbrev pub OpensNew : List ℕ → Asked → List ℕ → ℕ → ℕ → List ℕ → Type 0
+OpensNew s q out number len out′ = Reply (newRefusals q (length out) (bookIn s)) (OpenedImage q (bookIn s)) out number len out′
 
-abbrev pub Opens : List ℕ → ℕ → ℕ → ℕ → ℕ → List ℕ → ℕ → ℕ → List ℕ → Type 0
-Opens s id source destination K out number len out′ =
-    Reply (openRefusals id source destination K (length out) (bookIn s)) (OpenedImage (bookIn s) id source destination K) out number len out′
+-- where the request is in order
+abbrev pub OpensAsked : List ℕ → Asked → List ℕ → ℕ → ℕ → List ℕ → Type 0
+OpensAsked s q out number len out′ = Reply ((2 when Known (bookIn s) (q .id)) ∷ newRefusals q (length out) (bookIn s)) (OpenedImage q (bookIn s)) out number len out′
+
+abbrev pub Opens : List ℕ → Asked → List ℕ → ℕ → ℕ → List ℕ → Type 0
+Opens s q out number len out′ = Reply (requestRefusals (anyMiddle (bookIn s)) (Open q) (length out) (bookIn s)) (OpenedImage q (bookIn s)) out number len out′

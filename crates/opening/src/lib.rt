@@ -1,25 +1,32 @@
-// Opens a stream on the image of a lawful book.
+// Opens a stream on the image of a lawful book in the newest version.
 ghost use mathlib.Core.Path.{_≡_};
+ghost use mathlib.Core.List.{[], _∷_};
 ghost use mathlib.Core.Logic.{_⊎_};
-ghost use Prim.Native.Nat.{_+_, _*_, _<_, _≤_};
+ghost use Prim.Native.Nat.{_+_, _<_, _≤_};
 ghost use lib.ListN.{length};
-ghost use Rattle.rules.specs.Words.{Tests};
-ghost use Rattle.rules.specs.Tiles.{periodAt};
+ghost use Rattle.rules.specs.Words.{Tests, TwoBytes};
+ghost use Rattle.rules.specs.Topology.{mostRouteHops};
+ghost use Rattle.rules.specs.Periods.{theAsked};
 ghost use Rattle.rules.specs.Book.{mostStreams, mostHops};
-ghost use Rattle.rules.specs.Image.{nodesOf, streamsOf, hopsOf, Stored};
-ghost use Rattle.model.specs.Reading.{bookIn};
-ghost use Rattle.placing.specs.Rows.{BookBeside};
-ghost use Rattle.placing.specs.Answers.{Asked};
+ghost use Rattle.rules.specs.Image.{streamsOf, hopsOf};
+ghost use Rattle.rules.proofs.Reading.{NewestImage};
 ghost use Rattle.finding.specs.Spot.{Vacant};
-ghost use Rattle.opening.specs.Open.{PutsIn, Routed, OpensNew, Opens};
+ghost use Rattle.opening.specs.Open.{JudgedBy, PutsIn, Routed, OpensNew, OpensAsked, Opens};
+ghost use Rattle.opening.specs.Beside.{ImageBeside, AskedBeside, NewBeside, RouteBeside};
 use answers::Answer;
 use finding::Spot;
 use image::Book;
 use placing::Found;
 use routes::Reach;
-use rules::Node;
+use rules::Asked;
 use rules::Place;
 use rules::Tile;
+
+// What is wrong with a request by itself; or nothing is, and its period is at the place.
+pub enum Judged {
+    Refused(u8),
+    InOrder(usize),
+}
 
 // Writes the image with a row more at the place.
 fn put_in(
@@ -31,14 +38,14 @@ fn put_in(
     offsets: &[u16],
     out: &mut [u8],
 ) -> Answer
-    requires { ⌜ Stored (now image) (bookIn (now image)) × Vacant (now image) id at ⌝ }
-    requires { ⌜ (length (now route) ≡ length (now offsets) + 1) × (length (now offsets) ≤ 15) × (period .0 < 256) ⌝ }
-    requires { ⌜ (streamsOf (now image) < 64) × (hopsOf (now image) + length (now offsets) ≤ 512) ⌝ }
-    ensures { λ r. ⌜ PutsIn (now (image .entry)) (record { id = id; period = period .0; route = now (route .entry); offsets = now (offsets .entry) }) (now (out .entry)) (r .number) (r .length) (now (out .exit)) ⌝ }
+    requires { ⌜ NewestImage (now image) × Vacant (now image) id at ⌝ }
+    requires { ⌜ (length (now route) ≡ length (now offsets) + 1) × (length (now offsets) ≤ mostRouteHops) × (period .0 < 256) ⌝ }
+    requires { ⌜ (streamsOf (now image) < mostStreams) × (hopsOf (now image) + length (now offsets) ≤ mostHops) ⌝ }
+    ensures { λ r. ⌜ PutsIn (now (image .entry)) (record { id = id; period = period .0; route = now (route .entry); offsets = now (offsets .entry) } ∷ []) (now (out .entry)) (r .number) (r .length) (now (out .exit)) ⌝ }
 {
     let book = Book::read(image);
     let hops = offsets.len();
-    let size = 5 + 3 * hops;
+    let size = image::ROW + image::HOP * hops;
     let length = image.len() + size;
     if out.len() < length {
         return answers::refused(12);
@@ -55,9 +62,9 @@ fn put_in(
     answers::done(length)
 }
 
-// Whether the book has 64 streams already, or with these hops more than 512.
+// Whether the book has no room for a stream of so many hops.
 fn is_full(book: Book, hops: usize) -> bool
-    requires { ⌜ (book .hops < 65536) × (hops ≤ 15) ⌝ }
+    requires { ⌜ TwoBytes (book .hops) × (hops ≤ mostRouteHops) ⌝ }
     ensures { λ r. ⌜ Tests r ((mostStreams ≤ book .streams) ⊎ (mostHops < book .hops + hops)) ⌝ }
 {
     if Book::STREAMS <= book.streams {
@@ -69,95 +76,115 @@ fn is_full(book: Book, hops: usize) -> bool
 // Places the stream on its route, and writes the image with its row.
 fn open_routed(
     image: &[u8],
+    index: &[u64; index::WORDS],
     book: Book,
-    links: &[u64],
-    at: usize,
-    id: u16,
+    q: Asked,
     place: usize,
+    at: usize,
+    hearing: &[u64],
     route: &[u8],
     out: &mut [u8],
 ) -> Answer
-    requires { ⌜ Asked (now image) book (now links) (now route) place × Vacant (now image) id at ⌝ }
-    ensures { λ r. ⌜ Routed (now (image .entry)) id (periodAt place) (now (route .entry)) (now (out .entry)) (r .number) (r .length) (now (out .exit)) ⌝ }
+    requires { ⌜ RouteBeside (now image) (now index) book (theAsked q) place at (now hearing) (now route) ⌝ }
+    ensures { λ r. ⌜ Routed (now (image .entry)) (theAsked q) (now (route .entry) ∷ []) (now (out .entry)) (r .number) (r .length) (now (out .exit)) ⌝ }
 {
     let hops = route.len() - 1;
     if is_full(book, hops) {
         return answers::refused(8);
     }
-    let placing = placing::first_placing(image, book, links, route, place);
+    let plan = book.plan;
+    let placing = placing::first_placing(plan, hearing, route, place, index);
     let found = placing.found;
     let offsets = placing.offsets;
     match found {
         Found::NoPlacing => answers::refused(9),
-        Found::Placed => put_in(
-            image,
-            at,
-            id,
-            rules::period_at(place),
-            route,
-            &offsets[..hops],
-            out,
-        ),
+        Found::Placed => put_in(image, at, q.id, q.period, route, &offsets[..hops], out),
     }
 }
 
 // Seeks the route of a request that is in order, and opens the stream on it.
 fn open_new(
     image: &[u8],
+    index: &[u64; index::WORDS],
     book: Book,
-    at: usize,
-    id: u16,
-    source: Node,
-    destination: Node,
+    q: Asked,
     place: usize,
+    at: usize,
     out: &mut [u8],
 ) -> Answer
-    requires { ⌜ BookBeside (now image) book place × Vacant (now image) id at ⌝ }
-    requires { ⌜ (source .0 < nodesOf (now image)) × (destination .0 < nodesOf (now image)) × (source .0 ≡ destination .0 → ⊥) ⌝ }
-    ensures { λ r. ⌜ OpensNew (now (image .entry)) id (source .0) (destination .0) (periodAt place) (now (out .entry)) (r .number) (r .length) (now (out .exit)) ⌝ }
+    requires { ⌜ NewBeside (now image) (now index) book (theAsked q) place at ⌝ }
+    ensures { λ r. ⌜ OpensNew (now (image .entry)) (theAsked q) (now (out .entry)) (r .number) (r .length) (now (out .exit)) ⌝ }
 {
     let n = book.nodes;
-    let rows = image::links(image, image::HEADER, n);
-    let planned = routes::plan(&rows[..n], source, destination);
+    let rows = image::sets(image, image::HEADER, n);
+    let planned = routes::plan(&rows[..n], bitset::ALL, q.source, q.destination);
     let reach = planned.reach;
     let end = planned.hops + 1;
     let nodes = planned.nodes;
     match reach {
         Reach::NoRoute => answers::refused(7),
-        Reach::Found => open_routed(image, book, &rows[..n], at, id, place, &nodes[..end], out),
+        Reach::Found => open_routed(
+            image,
+            index,
+            book,
+            q,
+            place,
+            at,
+            &rows[..n],
+            &nodes[..end],
+            out,
+        ),
     }
 }
 
-// Opens the stream of the id from the source to the destination, every so many tiles.
-pub fn open_on(
+// Opens the stream of a request that is in order.
+fn open_asked(
     image: &[u8],
-    id: u16,
-    source: Node,
-    destination: Node,
-    period: Tile,
+    index: &[u64; index::WORDS],
+    book: Book,
+    q: Asked,
+    place: usize,
     out: &mut [u8],
 ) -> Answer
-    requires { ⌜ Stored (now image) (bookIn (now image)) ⌝ }
-    ensures { λ r. ⌜ Opens (now (image .entry)) id (source .0) (destination .0) (period .0) (now (out .entry)) (r .number) (r .length) (now (out .exit)) ⌝ }
+    requires { ⌜ AskedBeside (now image) (now index) book (theAsked q) place ⌝ }
+    ensures { λ r. ⌜ OpensAsked (now (image .entry)) (theAsked q) (now (out .entry)) (r .number) (r .length) (now (out .exit)) ⌝ }
+{
+    match finding::find(image, q.id) {
+        Spot::Here(_) => answers::refused(2),
+        Spot::Between(at) => open_new(image, index, book, q, place, at, out),
+    }
+}
+
+// Judges a request by itself, on a site of so many nodes.
+fn judge(q: Asked, nodes: usize) -> Judged
+    ensures { λ r. ⌜ JudgedBy (theAsked q) nodes r ⌝ }
+{
+    if q.id == 0 {
+        return Judged::Refused(1);
+    }
+    if nodes <= q.source.0 as usize {
+        return Judged::Refused(4);
+    }
+    if nodes <= q.destination.0 as usize {
+        return Judged::Refused(4);
+    }
+    if q.source.0 == q.destination.0 {
+        return Judged::Refused(5);
+    }
+    match rules::place_of(q.period) {
+        Place::At(place) => Judged::InOrder(place),
+        Place::Nowhere => Judged::Refused(6),
+    }
+}
+
+// Opens the stream that is asked for.
+pub fn open_on(image: &[u8], index: &[u64; index::WORDS], q: Asked, out: &mut [u8]) -> Answer
+    requires { ⌜ ImageBeside (now image) (now index) ⌝ }
+    ensures { λ r. ⌜ Opens (now (image .entry)) (theAsked q) (now (out .entry)) (r .number) (r .length) (now (out .exit)) ⌝ }
 {
     let book = Book::read(image);
-    if id == 0 {
-        return answers::refused(1);
-    }
-    if book.nodes <= source.0 as usize {
-        return answers::refused(4);
-    }
-    if book.nodes <= destination.0 as usize {
-        return answers::refused(4);
-    }
-    if source.0 == destination.0 {
-        return answers::refused(5);
-    }
-    let Place::At(place) = rules::place_of(period) else {
-        return answers::refused(6);
-    };
-    match finding::find(image, id) {
-        Spot::Here(_) => answers::refused(2),
-        Spot::Between(at) => open_new(image, book, at, id, source, destination, place, out),
+    match judge(q, book.nodes) {
+        Judged::Refused(number) => answers::refused(number),
+        Judged::InOrder(place) => open_asked(image, index, book, q, place, out),
     }
 }

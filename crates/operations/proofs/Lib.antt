@@ -1,2 +1,2 @@
 pub mod Working
-pub mod Ends
+pub mod Stops

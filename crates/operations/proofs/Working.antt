@@ -1,12 +1,9 @@
--- The operations 1 to 4 are those in which a node works for a stream. Assumes nothing.
+-- The operations 1 to 4 are those in which a node works for a stream.
 use mathlib.Core.Path.{_≡_, refl}
 use mathlib.Core.Bool.{Bool, true, false, cond}
 use Prim.Native.Nat.{ℕ, _<_, _≤_}
 use native.Mathlib.Omega.{arith}
 use borrow.Author.Tests.{le-leb, lt-leb}
-use Rattle.rules.specs.Book.{Row}
-use Rattle.rules.specs.Table.{Does}
-use Rattle.rules.specs.Table.Does.{sends, receives, forwards, delivers}
 use Rattle.operations.specs.Operations.{isWorking, whereWorking}
 
 pub working : (operation n : ℕ) → 1 ≤ operation → operation ≤ 4 → n ≡ whereWorking operation n
@@ -18,24 +15,10 @@ sleeping operation n e = rw (lt-leb 1 operation (omega arith))
 pub controlling : (operation n : ℕ) → 4 < operation → 0 ≡ whereWorking operation n
 controlling operation n h = rw (le-leb 1 operation (omega arith), lt-leb operation 4 h)
 
-either : (t : Bool) → _≡_ {A = ℕ} (cond t 0 0) 0
-either true = refl
-either false = refl
-
-pub working-most : (operation n : ℕ) → whereWorking operation n ≤ n
-working-most operation n = go (isWorking operation)
-  where
-    go : (t : Bool) → cond t n 0 ≤ n
-    go true = omega arith
-    go false = omega arith
-
 -- an entry without a stream has no id
 pub no-id : (operation : ℕ) → whereWorking operation 0 ≡ 0
 no-id operation = either (isWorking operation)
-
--- what a node does in a hop is one of them
-pub does-work : {node i operation : ℕ} {r : Row} → Does node r i operation → (1 ≤ operation) × (operation ≤ 4)
-does-work (sends e z) = (omega arith, omega arith)
-does-work (receives e l) = (omega arith, omega arith)
-does-work (forwards e l) = (omega arith, omega arith)
-does-work (delivers e l) = (omega arith, omega arith)
+  where
+    either : (t : Bool) → _≡_ {A = ℕ} (cond t 0 0) 0
+    either true = refl
+    either false = refl

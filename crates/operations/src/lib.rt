@@ -1,24 +1,43 @@
-// What a node does in a hop of a stream, and how often in a cycle.
+// What a node does in the hops of a stream, and how often in a cycle.
 ghost use mathlib.Core.Path.{_≡_};
-ghost use Prim.Native.Nat.{_≤_, _<_};
+ghost use Prim.Native.Nat.{_≤_};
 ghost use Rattle.rules.specs.Tiles.{Period, repeats, cycleTiles};
-ghost use Rattle.rules.specs.Book.{hops};
-ghost use Rattle.image.specs.Places.{rowAt, Whole};
-ghost use Rattle.operations.specs.Operations.{whereWorking, OperationIn};
+ghost use Rattle.image.specs.Places.{rowAt, RowHere};
+ghost use Rattle.operations.specs.Operations.{whereWorking, StopOf, arrival, departure};
 use rules::Node;
-use rules::Place;
 use rules::Tile;
 
-// The cycle is always 100 tiles.
-pub const CYCLE: u16 = 100;
+// The operations: sleep,
+pub const SLEEP: u8 = 0;
+
+// send from above,
+pub const SEND: u8 = 1;
+
+// receive to buffer,
+pub const RECEIVE: u8 = 2;
+
+// forward from buffer,
+pub const FORWARD: u8 = 3;
+
+// receive for above,
+pub const DELIVER: u8 = 4;
+
+// and control slot.
+pub const CONTROL: u8 = 5;
+
+// Where a node stands in a route: at the place of its list of nodes, or nowhere.
+pub enum Stop {
+    At(usize),
+    Nowhere,
+}
 
 // The number n in the operations 1 to 4, which have a stream, and 0 in the others.
 pub fn where_working(operation: u8, n: u16) -> u16
     ensures { λ r. ⌜ r ≡ whereWorking operation n ⌝ }
 {
     match operation {
-        0 => 0,
-        1..=4 => n,
+        SLEEP => 0,
+        SEND..=DELIVER => n,
         _ => 0,
     }
 }
@@ -28,29 +47,35 @@ pub fn repeats_of(period: Tile) -> u16
     requires { ⌜ Period (period .0) ⌝ }
     ensures { λ r. ⌜ (r ≡ repeats (period .0)) × (r ≤ cycleTiles) ⌝ }
 {
-    let place = rules::place_of(period);
-    match place {
-        Place::At(i) => rules::repeats_at(i),
-        Place::Nowhere => 0,
-    }
+    rules::CYCLE / period.0
 }
 
-// What the node does in hop i of the row at a place, 0 where it is no end of it.
-pub fn operation_at(image: &[u8], at: usize, node: Node, i: usize, last: usize) -> u8
-    requires { ⌜ Whole (now image) at × (i < last) × (last ≡ hops (rowAt (now image) at)) ⌝ }
-    ensures { λ r. ⌜ OperationIn (node .0) (rowAt (now (image .entry)) at) i r ⌝ }
+// Where the node stands in the route of the row at a place.
+pub fn stop_of(image: &[u8], at: usize, node: Node) -> Stop
+    requires { ⌜ RowHere (now image) at ⌝ }
+    ensures { λ r. ⌜ StopOf (node .0) (rowAt (now (image .entry)) at) r ⌝ }
 {
-    if node.0 == image::node_at(image, at, i).0 {
-        if i == 0 {
-            return 1;
+    let last = image::hops_at(image, at);
+    let mut place: usize = 0;
+    while place <= last {
+        if node.0 == image::node_at(image, at, place).0 {
+            return Stop::At(place);
         }
-        return 3;
+        place += 1;
     }
-    if node.0 == image::node_at(image, at, i + 1).0 {
-        if i + 1 == last {
-            return 4;
-        }
-        return 2;
-    }
-    0
+    Stop::Nowhere
+}
+
+// What the node at a place of a route does in the hop that leads there.
+pub fn arriving(place: usize, last: usize) -> u8
+    ensures { λ r. ⌜ r ≡ arrival place last ⌝ }
+{
+    if place == last { DELIVER } else { RECEIVE }
+}
+
+// What it does in the hop that leads on.
+pub fn leaving(place: usize) -> u8
+    ensures { λ r. ⌜ r ≡ departure place ⌝ }
+{
+    if place == 0 { SEND } else { FORWARD }
 }

@@ -1,131 +1,168 @@
--- An open and a close leave a lawful book, whose image a full-size buffer holds. Assumes nothing.
-use mathlib.Core.Path.{_≡_, sym, ap, _∙_, subst}
+-- An open and a close leave a lawful book, whose image a full-size buffer holds.
+use mathlib.Core.Path.{_≡_, refl, sym, ap, _∙_, subst}
 use mathlib.Core.Logic.{_⊎_, inl, inr, ⊎-elim}
-use mathlib.Core.List.{List}
+use mathlib.Core.List.{List, [], _∷_, _++_}
 use Prim.Native.Nat.{ℕ, _+_, _*_, _<_, _≤_}
 use native.Mathlib.Omega.{arith}
 use lib.ListN.{length}
-use Rattle.rules.specs.Words.{TwoBytes, _∈_, With}
+use Rattle.rules.specs.Words.{_∈_, total}
 use Rattle.rules.specs.Says.{Says}
 use Rattle.rules.specs.Tiles.{Period, periods}
-use Rattle.rules.specs.Topology.{hopCount}
-use Rattle.rules.specs.Book.{Row, Book, hops, hopsInAll, mostStreams, mostHops, rowHop, rowOffset, RisingById, OnData, LawfulRow, MeetsClashing, LawfulBook}
-use Rattle.rules.specs.Placing.{Full, NewRow}
-use Rattle.rules.specs.Image.{longestImage, encode}
-use Rattle.rules.specs.Calls.{OfRoute, Opened, openRefusals, Closed}
-use Rattle.rules.proofs.Says.{says-none}
-use Rattle.rules.proofs.Lists.{with-in, with-other, with-less}
-use Rattle.rules.proofs.Clashes.{clash-turned}
-use Rattle.rules.proofs.Meeting.{in-at, meet-turned}
-use Rattle.rules.proofs.Encoding.{length-encode, all-sized}
+use Rattle.rules.specs.Topology.{hopCount, hopAt, mostRouteHops, Path, PathWithin}
+use Rattle.rules.specs.Book.{Site, Row, Book, key, hops, hopsInAll, mostStreams, mostHops, rowHop, rowOffset, OnData, LawfulRow, MeetsClashing, RowsMeet}
+use Rattle.rules.specs.Book.{LawfulBook}
+use Rattle.rules.specs.Placing.{Asked, Full, NewRow, beside, NewRows}
+use Rattle.rules.specs.Image.{newest, Fits, longestImage, encode, Stored}
+use Rattle.rules.specs.Calls.{OfRoutes, Opened, Closed, openRefusals, Request, Made, NoRoom, requestRefusals}
+use Rattle.rules.specs.Calls.Request.{Open, Close}
+use Rattle.rules.specs.Order.{IdInRange}
 use Rattle.rules.proofs.Tests.{decided}
-use Rattle.model.specs.Answer.{withRows}
-use Rattle.model.proofs.Reading.{tests-in}
-use Rattle.order.proofs.Lists.{with-length, with-total}
+use Rattle.rules.proofs.Says.{says-none}
+use Rattle.rules.proofs.Lists.{reordered-in, reordered-back, in-append, in-left, in-right}
+use Rattle.rules.proofs.Clashes.{rows-meet-turned}
+use Rattle.rules.proofs.Meeting.{in-at}
+use Rattle.rules.proofs.Encoding.{length-encode}
+use Rattle.rules.proofs.Added.{planned-path, OnRoute, new-route, new-count, new-hops}
+use Rattle.rules.proofs.Reading.{withRows}
+use Rattle.model.proofs.Tests.{tests-in}
+use Rattle.order.proofs.Lists.{joined-length, joined-total}
 
 -- a full-size buffer holds the image of every lawful book
-pub lawful-length : (c : Book) → LawfulBook c → length (encode c) ≤ longestImage
-lawful-length c l = omega (arith, length-encode c (all-sized c l), l .nodes .1, l .streams, l .hops)
+pub lawful-length : (c : Book) → LawfulBook c → length (encode newest c) ≤ longestImage newest
+lawful-length c l = omega (arith, length-encode newest c l, l .site .nodes .1, l .streams, l .hops)
 
--- a book of the same plan and topology differs in its rows alone
-pub same-site : (b c : Book) → c .plan ≡ b .plan → c .topology ≡ b .topology → withRows b (c .rows) ≡ c
-same-site b c p t = λ i. record { plan = sym p i; topology = sym t i; rows = c .rows }
+-- a book of the same site differs in its rows alone
+pub same-site : (b c : Book) → c .site ≡ b .site → withRows b (c .rows) ≡ c
+same-site b c s = λ i. record { site = sym s i; rows = c .rows }
 
-module _ (b : Book) (l : LawfulBook b) where
-  -- the clashing hops of two rows do not meet
-  abbrev Kept : Row → Row → Type 0
-  Kept r x = (i : ℕ) → i < hops r → MeetsClashing (b .topology) (b .plan .slots) x (r .period) (rowHop r i) (rowOffset r i) → ⊥
+-- a request leaves the site
+pub made-site : (middle : ℕ) (b : Book) (q : Request) (c : Book) → Made middle b q c → c .site ≡ b .site
+made-site middle b (Open q) c g = g .plus .site
+made-site middle b (Close id) c g = sym (g .plus .site)
 
-  kept-turned : (r x : Row) → Kept r x → Kept x r
-  kept-turned r x k i l m =
-      k (m .hop) (m .there) record { hop = i; there = l; clash = clash-turned (b .topology) (rowHop x i) (rowHop r (m .hop)) (m .clash); meet = meet-turned (m .meet) }
+-- no two of the rows with different keys meet
+abbrev Quiet : Site → List Row → Type 0
+Quiet site rows = (x y : Row) → x ∈ rows → y ∈ rows → (key x ≡ key y → ⊥) → RowsMeet site x y → ⊥
 
-  module _ (id source destination K : ℕ) (small : TwoBytes id) (some : id ≡ 0 → ⊥) (allowed : (Period K → ⊥) → ⊥) (room : OfRoute b source destination (Full b) → ⊥) where
-    module _ (r : Row) (new : NewRow b id source destination K r) where
-      row-lawful : LawfulRow (b .plan) (b .topology) r
-      row-lawful = record {
-        id-some = omega (arith, new .named, some);
-        id-most = omega (arith, new .named);
-        period = subst Period (sym (new .every)) (period (decided (tests-in K periods)));
-        route = new .planned .between .path;
-        offsets = record {
-          count = new .placed .placing .offsets-hold .count;
-          rising = new .placed .placing .offsets-hold .rising;
-          within = λ o m. subst (λ (k : ℕ). o < k * b .plan .slots) (sym (new .every)) (new .placed .placing .offsets-hold .within o m);
-        };
-        on-data = λ o m.
-            let i = in-at o (r .offsets) m in
-            subst (λ (k : ℕ). OnData (b .plan) k o) (sym (new .every))
-            (subst (OnData (b .plan) K) (sym (i .2)) (new .placed .placing .free (i .0) (omega (arith, i .1, new .placed .placing .offsets-hold .count)) .on-data));
-      }
-        where
-          period : Dec (Period K) → Period K
-          period (yes p) = p
-          period (no f) = absurd (allowed f)
+lawful-quiet : (b : Book) → LawfulBook b → Quiet (b .site) (b .rows)
+lawful-quiet b l x y m n d h = l .never-meet record { one = x; other = y; one-there = m; other-there = n; different = d; meets = h }
 
-      row-kept : (x : Row) → x ∈ b .rows → Kept r x
-      row-kept x h i l m =
-          new .placed .placing .free i l .never-meet x h
-          (subst (λ (k : ℕ). MeetsClashing (b .topology) (b .plan .slots) x k (rowHop r i) (rowOffset r i)) (new .every) m)
+module _ (site : Site) (r : Row) (rows : List Row) (q : Quiet site rows) (new : (x : Row) → x ∈ rows → RowsMeet site r x → ⊥) where
+  quiet-more : Quiet site (r ∷ rows)
+  quiet-more x y (inl m) (inl n) d h = d (ap key (m ∙ sym n))
+  quiet-more x y (inl m) (inr n) d h = new y n (subst (λ (v : Row). RowsMeet site v y) m h)
+  quiet-more x y (inr m) (inl n) d h = new x m (rows-meet-turned site x r (subst (RowsMeet site x) n h))
+  quiet-more x y (inr m) (inr n) d h = q x y m n d h
 
-      all-kept : (x y : Row) → (x .id ≡ y .id → ⊥) → (x ≡ r) ⊎ (x ∈ b .rows) → (y ≡ r) ⊎ (y ∈ b .rows) → Kept x y
-      all-kept x y d (inl m) (inl n) = absurd (d (ap (λ (v : Row). v .id) (m ∙ sym n)))
-      all-kept x y d (inl m) (inr n) = subst (λ (v : Row). Kept v y) (sym m) (row-kept y n)
-      all-kept x y d (inr m) (inl n) = subst (λ (v : Row). Kept x v) (sym n) (kept-turned r x (row-kept x m))
-      all-kept x y d (inr m) (inr n) = λ i h k. l .never-meet record { one = x; other = y; one-there = m; other-there = n; different = d; hop = i; hop-there = h; meets = k }
+module _ (q : Asked) where
+  new-quiet : (b : Book) (p : List ℕ) (r : Row) → NewRow b q p r → (x : Row) → x ∈ b .rows → RowsMeet (b .site) r x → ⊥
+  new-quiet b p r new x h m =
+      let e : hops r ≡ hopCount p = ap hopCount (new .on) in
+      new .placed .placing .free (m .hop) (omega (arith, m .there)) .never-meet x h
+      (subst (λ (route : List ℕ). MeetsClashing (b .site) x (q .period) (hopAt route (m .hop)) (rowOffset r (m .hop))) (new .on)
+      (subst (λ (k : ℕ). MeetsClashing (b .site) x k (rowHop r (m .hop)) (rowOffset r (m .hop))) (new .every) (m .meets)))
 
-      with-row : (d : List Row) → With r (b .rows) d → RisingById d → LawfulBook (withRows b d)
-      with-row d w up =
-          let g : mostStreams ≤ length (b .rows) → ⊥ = λ k. room (r .route, new .planned, inl k) in
-          let h : mostHops < hopsInAll (b .rows) + hopCount (r .route) → ⊥ = λ k. room (r .route, new .planned, inr k) in
-          record {
-            plan = l .plan;
-            nodes = l .nodes;
-            topology = l .topology;
-            streams = omega (arith, with-length w);
-            hops = omega (arith, with-total hops w);
-            rows = λ x m. ⊎-elim (λ (e : x ≡ r). subst (LawfulRow (b .plan) (b .topology)) (sym e) row-lawful) (λ (k : x ∈ b .rows). l .rows x k) (with-in x w m);
-            rising = up;
-            never-meet = λ m. all-kept (m .one) (m .other) (m .different) (with-in (m .one) w (m .one-there)) (with-in (m .other) w (m .other-there)) (m .hop) (m .hop-there) (m .meets);
-          }
+  moved : (r x : Row) (rs rows : List Row) → x ∈ ((r ∷ rs) ++ rows) → x ∈ (rs ++ (r ∷ rows))
+  moved r x rs rows (inl e) = in-right x rs (r ∷ rows) (inl e)
+  moved r x rs rows (inr h) = ⊎-elim (λ (k : x ∈ rs). in-left x rs (r ∷ rows) k) (λ (k : x ∈ rows). in-right x rs (r ∷ rows) (inr k)) (in-append x rs rows h)
 
-    -- a new row beside which there is room leaves the book lawful
-    pub opened-lawful : (c : Book) → Opened b id source destination K c → LawfulBook c
-    opened-lawful c (r, new, u) = subst LawfulBook (same-site b c (u .plan) (u .topology)) (with-row r new (c .rows) (u .rows) (u .rising))
+  all-quiet : (b : Book) (ps : List (List ℕ)) (rs : List Row) → NewRows b q ps rs → Quiet (b .site) (b .rows) → Quiet (b .site) (rs ++ b .rows)
+  all-quiet b [] [] n quiet = quiet
+  all-quiet b [] (r ∷ rs) n quiet = absurd n
+  all-quiet b (p ∷ ps) [] n quiet = absurd n
+  all-quiet b (p ∷ ps) (r ∷ rs) n quiet = λ x y m k.
+      all-quiet (beside r b) ps rs (n .1) (quiet-more (b .site) r (b .rows) quiet (new-quiet b p r (n .0))) x y (moved r x rs (b .rows) m) (moved r y rs (b .rows) k)
 
-    pub open-fits : (room : ℕ) → longestImage ≤ room → ((c : Book) × Opened b id source destination K c × (room < length (encode c))) → ⊥
-    open-fits room full (c, o, long) = omega (arith, lawful-length c (opened-lawful c o))
+module _ (b : Book) (l : LawfulBook b) (middle : ℕ) where
+  -- AN OPEN
+  module _ (q : Asked) (small : IdInRange (Open q)) (some : q .id ≡ 0 → ⊥) (allowed : (Period (q .period) → ⊥) → ⊥) (room : OfRoutes middle q b (Full b) → ⊥) where
+    period : Dec (Period (q .period)) → Period (q .period)
+    period (yes p) = p
+    period (no f) = absurd (allowed f)
 
-  -- so does an open that is done
-  pub open-lawful : (id source destination K room : ℕ) → TwoBytes id → Says (openRefusals id source destination K room b) 0 → (c : Book) → Opened b id source destination K c → LawfulBook c
-  open-lawful id source destination K room small h =
-      let none = says-none (openRefusals id source destination K room b) (omega arith) h in
-      opened-lawful id source destination K small (none .0) (none .1 .1 .1 .0) (none .1 .1 .1 .1 .1 .1 .0)
+    row-lawful : (rows : List Row) (p : List ℕ) (r : Row) → PathWithin mostRouteHops (b .site .links) middle (q .source) (q .destination) p
+        → NewRow (withRows b rows) q p r → LawfulRow (b .site) r
+    row-lawful rows p r path new = record {
+      id-some = omega (arith, new .named, some);
+      id-most = omega (arith, new .named);
+      period = subst Period (sym (new .every)) (period (decided (tests-in (q .period) periods)));
+      route = subst (Path (b .site .links)) (sym (new .on)) (path .between .path);
+      route-most = omega (arith, even, path .most);
+      offsets = record {
+        count = new .placed .placing .offsets-hold .count ∙ sym even;
+        rising = new .placed .placing .offsets-hold .rising;
+        within = λ o m. subst (λ (k : ℕ). o < k * b .site .plan .slots) (sym (new .every)) (new .placed .placing .offsets-hold .within o m);
+      };
+      on-data = λ o m.
+          let i = in-at o (r .offsets) m in
+          subst (λ (k : ℕ). OnData (b .site .plan) k o) (sym (new .every))
+          (subst (OnData (b .site .plan) (q .period)) (sym (i .2)) (new .placed .placing .free (i .0) (omega (arith, i .1, new .placed .placing .offsets-hold .count)) .on-data));
+    }
+      where
+        even : hops r ≡ hopCount p
+        even = ap hopCount (new .on)
 
-  without-row : (r : Row) (d : List Row) → With r d (b .rows) → LawfulBook (withRows b d)
-  without-row r d w = record {
-    plan = l .plan;
-    nodes = l .nodes;
-    topology = l .topology;
-    streams = omega (arith, l .streams, with-length w);
-    hops = omega (arith, l .hops, with-total hops w);
-    rows = λ x m. l .rows x (with-other x w m);
-    rising = with-less (λ (r x : Row). r .id < x .id) w (l .rising);
-    never-meet = λ m. l .never-meet record {
-      one = m .one;
-      other = m .other;
-      one-there = with-other (m .one) w (m .one-there);
-      other-there = with-other (m .other) w (m .other-there);
-      different = m .different;
-      hop = m .hop;
-      hop-there = m .hop-there;
-      meets = m .meets;
-    };
+    -- new rows for which there is room leave the book lawful
+    opened-lawful : (c : Book) → Opened middle b q c → LawfulBook c
+    opened-lawful c o = subst LawfulBook (same-site b c (o .plus .site)) record {
+      site = l .site;
+      streams = omega (arith, joined-length (o .new) (b .rows) (o .plus .rows), new-count q b (o .routes) (o .new) (o .placed), few);
+      hops = omega (arith, joined-total hops (o .new) (b .rows) (o .plus .rows), new-hops q b (o .routes) (o .new) (o .placed), short);
+      rows = λ x m. ⊎-elim (λ (k : x ∈ o .new). lawful x (new-route q b (o .routes) (o .new) (o .placed) x k)) (λ (k : x ∈ b .rows). l .rows x k) (from x m);
+      rising = o .plus .rising;
+      never-meet = λ m. all-quiet q b (o .routes) (o .new) (o .placed) (lawful-quiet b l) (m .one) (m .other)
+          (reordered-in (m .one) (o .plus .rows) (m .one-there)) (reordered-in (m .other) (o .plus .rows) (m .other-there)) (m .different) (m .meets);
+    }
+      where
+        from : (x : Row) → x ∈ c .rows → (x ∈ o .new) ⊎ (x ∈ b .rows)
+        from x m = in-append x (o .new) (b .rows) (reordered-in x (o .plus .rows) m)
+
+        lawful : (x : Row) → OnRoute b q (o .routes) x → LawfulRow (b .site) x
+        lawful x n = row-lawful (n .rows) (n .route) x (planned-path (o .planned) (n .route) (n .given)) (n .new)
+
+        few : mostStreams < length (b .rows) + length (o .routes) → ⊥
+        few k = room (o .routes, o .planned, inl k)
+
+        short : mostHops < hopsInAll (b .rows) + total hopCount (o .routes) → ⊥
+        short k = room (o .routes, o .planned, inr k)
+
+    pub open-fits : (size : ℕ) → longestImage newest ≤ size → NoRoom middle size (Open q) b → ⊥
+    open-fits size full n = omega (arith, n .2, lawful-length (n .0) (opened-lawful (n .0) (n .1)))
+
+  -- A CLOSE
+  closed-lawful : (id : ℕ) (c : Book) → Closed b id c → LawfulBook c
+  closed-lawful id c o = subst LawfulBook (same-site b c (sym (o .plus .site))) record {
+    site = l .site;
+    streams = omega (arith, l .streams, joined-length (o .gone) (c .rows) (o .plus .rows));
+    hops = omega (arith, l .hops, joined-total hops (o .gone) (c .rows) (o .plus .rows));
+    rows = λ x m. l .rows x (there x m);
+    rising = o .rising;
+    never-meet = λ m. lawful-quiet b l (m .one) (m .other) (there (m .one) (m .one-there)) (there (m .other) (m .other-there)) (m .different) (m .meets);
   }
+    where
+      there : (x : Row) → x ∈ c .rows → x ∈ b .rows
+      there x m = reordered-back x (o .plus .rows) (in-right x (o .gone) (c .rows) m)
 
-  -- and a close
-  pub closed-lawful : (id : ℕ) (c : Book) → Closed b id c → LawfulBook c
-  closed-lawful id c (r, e, u) = subst LawfulBook (same-site b c (sym (u .plan)) (sym (u .topology))) (without-row r (c .rows) (u .rows))
+  pub close-fits : (id size : ℕ) → longestImage newest ≤ size → NoRoom middle size (Close id) b → ⊥
+  close-fits id size full n = omega (arith, n .2, lawful-length (n .0) (closed-lawful id (n .0) (n .1)))
 
-  pub close-fits : (id room : ℕ) → longestImage ≤ room → ((c : Book) × Closed b id c × (room < length (encode c))) → ⊥
-  close-fits id room full (c, o, long) = omega (arith, lawful-length c (closed-lawful id c o))
+  -- A REQUEST that is done leaves a lawful book
+  pub made-lawful : (q : Request) (size : ℕ) → IdInRange q → Says (requestRefusals middle q size b) 0 → (c : Book) → Made middle b q c → LawfulBook c
+  made-lawful (Open q) size small h =
+      let none = says-none (openRefusals middle q size b) (omega arith) h in
+      opened-lawful q small (none .0) (none .1 .1 .1 .0) (none .1 .1 .1 .1 .1 .1 .0)
+  made-lawful (Close id) size small h = closed-lawful id
+
+-- the newest version holds what another one holds
+fits-newest : (v : ℕ) (b c : Book) → c .site ≡ b .site → Fits v b → Fits newest c
+fits-newest v b c s f = subst (Fits newest) (same-site b c s) record { hearing = f .hearing }
+
+-- and what is written is its image
+pub made-stored : {image : List ℕ} {v : ℕ} {b : Book} → Stored image v b → (middle : ℕ) (q : Request) (size : ℕ) → IdInRange q → Says (requestRefusals middle q size b) 0
+    → (c : Book) → Made middle b q c → Stored (encode newest c) newest c
+made-stored {v = v} {b} s middle q size small h c g = record {
+  version = (omega arith, omega arith);
+  lawful = made-lawful b (s .lawful) middle q size small h c g;
+  fits = fits-newest v b c (made-site middle b q c g) (s .fits);
+  bytes = refl;
+}

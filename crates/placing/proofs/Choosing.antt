@@ -1,19 +1,15 @@
--- Offsets chosen hop by hop, each the least after the one before, are the first placing. Assumes nothing.
+-- Offsets chosen hop by hop, each the least after the one before, are the first placing.
 use mathlib.Core.Path.{_≡_, refl, sym, ap, _∙_, subst, subst₂}
 use mathlib.Core.List.{List, [], _∷_, _++_, append-assoc, append-nil}
 use Prim.Native.Nat.{ℕ, suc, _+_, _-_, _<_, _≤_}
 use native.Mathlib.Nat.{zero-add, add-zero}
 use native.Mathlib.Numerals.{add-one}
 use native.Mathlib.Omega.{arith}
-use lib.ListN.{length, getD, take, drop, set, replicate, length-set}
+use lib.ListN.{length, take, drop, set, replicate, length-set}
 use lib.Seq.{take-suc-set, drop-set-lt, drop-drop}
-use Rattle.rules.specs.Topology.{hopCount, mostRouteHops}
-use Rattle.rules.specs.Book.{Book}
-use Rattle.rules.specs.Placing.{Free, FirstPlacing}
-use Rattle.rules.proofs.Greedy.{Least, FirstPlaces, NoPlaces, none-from, none-behind, first-behind, FreeAt, bound, placing-places, places-placing}
-use Rattle.placing.specs.Answers.{Searched, Answers}
-use Rattle.placing.specs.declared.Next.{Next}
-use Rattle.placing.specs.declared.Next.the-variants.{At, Nowhere}
+use Rattle.rules.specs.Topology.{mostRouteHops}
+use Rattle.rules.proofs.Greedy.{Least, FirstPlaces, NoPlaces, none-from, none-behind, first-behind}
+use Rattle.placing.specs.Answers.{Answers}
 use Rattle.placing.specs.declared.Found.the-variants.{Placed, NoPlacing}
 
 -- what is first from the hop h on, put behind what was chosen, is first from the start; and where there is nothing from there on, there is no placing
@@ -43,37 +39,17 @@ pub record Chosen (F : ℕ → ℕ → Type 0) (B n h lo : ℕ) (offsets : List 
   pub zeros : drop h offsets ≡ replicate (mostRouteHops - h) 0
   pub rest : Rest F B n h lo (take h offsets)
 
-module _ (b : Book) (K : ℕ) (route : List ℕ) where
-  abbrev F : ℕ → ℕ → Type 0
-  F = FreeAt b K route
-
-  abbrev B : ℕ
-  B = bound b K route
-
-  abbrev pub ChosenTo : ℕ → ℕ → List ℕ → Type 0
-  ChosenTo = Chosen (FreeAt b K route) (bound b K route) (hopCount route)
-
-  pub chosen-none : hopCount route ≤ mostRouteHops → ChosenTo 0 0 (replicate mostRouteHops 0)
-  chosen-none few = record { few = few; most = omega arith; size = refl; zeros = refl; rest = rest-start F B (hopCount route) }
+module _ (F : ℕ → ℕ → Type 0) (B n : ℕ) where
+  pub chosen-none : n ≤ mostRouteHops → Chosen F B n 0 0 (replicate mostRouteHops 0)
+  chosen-none few = record { few = few; most = omega arith; size = refl; zeros = refl; rest = rest-start F B n }
 
   less : (h : ℕ) → h < mostRouteHops → drop {A = ℕ} 1 (replicate (mostRouteHops - h) 0) ≡ replicate (mostRouteHops - (h + 1)) 0
   less h l =
       let e : mostRouteHops - h ≡ suc (mostRouteHops - (h + 1)) = omega arith in
       ap (λ (k : ℕ). drop {A = ℕ} 1 (replicate k 0)) e
 
-  -- the search for the hop h, by the nodes that were read
-  hop-searched : (h lo : ℕ) (r : Next) → Searched (Free b K (record { from = getD route h 0; to = getD route (h + 1) 0 })) lo B r → Searched (F h) lo B r
-  hop-searched h lo r s = subst (λ (i : ℕ). Searched (Free b K (record { from = getD route h 0; to = getD route i 0 })) lo B r) (add-one h) s
-
-  pub search-found : (h lo o : ℕ) {r : Next} → r ≡ At o → Searched (Free b K (record { from = getD route h 0; to = getD route (h + 1) 0 })) lo B r → Least (F h) lo B o
-  search-found h lo o {r} e s = subst (Searched (F h) lo B) e (hop-searched h lo r s)
-
-  pub search-failed : (h lo : ℕ) {r : Next} → r ≡ Nowhere → Searched (Free b K (record { from = getD route h 0; to = getD route (h + 1) 0 })) lo B r
-      → (k : ℕ) → lo ≤ k → k < B → F h k → ⊥
-  search-failed h lo {r} e s = subst (Searched (F h) lo B) e (hop-searched h lo r s)
-
   -- the search for the hop h found its offset
-  pub chosen-more : (h lo o : ℕ) (offsets : List ℕ) → h < hopCount route → ChosenTo h lo offsets → Least (F h) lo B o → ChosenTo (h + 1) (o + 1) (set offsets h o)
+  pub chosen-more : (h lo o : ℕ) (offsets : List ℕ) → h < n → Chosen F B n h lo offsets → Least (F h) lo B o → Chosen F B n (h + 1) (o + 1) (set offsets h o)
   chosen-more h lo o offsets l w s =
       let inside : h < length offsets = omega (arith, w .size, w .few) in
       let after : h < h + 1 = omega arith in
@@ -82,23 +58,20 @@ module _ (b : Book) (K : ℕ) (route : List ℕ) where
         most = omega arith;
         size = length-set offsets h o ∙ w .size;
         zeros = drop-set-lt (h + 1) offsets h o after ∙ sym (drop-drop 1 h offsets) ∙ ap (drop 1) (w .zeros) ∙ less h (omega (arith, w .few));
-        rest = subst (Rest F B (hopCount route) (h + 1) (o + 1)) (sym (ap (λ (k : ℕ). take k (set offsets h o)) (add-one h) ∙ take-suc-set offsets h o inside))
-            (rest-more F B (hopCount route) h lo o (take h offsets) s (w .rest));
+        rest = subst (Rest F B n (h + 1) (o + 1)) (sym (ap (λ (k : ℕ). take k (set offsets h o)) (add-one h) ∙ take-suc-set offsets h o inside))
+            (rest-more F B n h lo o (take h offsets) s (w .rest));
       }
 
   -- every hop has its offset
-  pub chosen-all : (h lo : ℕ) (offsets : List ℕ) → hopCount route ≤ h → ChosenTo h lo offsets → Answers b K route Placed offsets
+  pub chosen-all : (h lo : ℕ) (offsets : List ℕ) → n ≤ h → Chosen F B n h lo offsets → Answers F B n Placed offsets
   chosen-all h lo offsets l w =
-      let e : h ≡ hopCount route = omega (arith, w .most) in
-      let p : FirstPlaces F B (hopCount route) 0 0 (take h offsets) =
-      subst (FirstPlaces F B (hopCount route) 0 0) (append-nil (take h offsets)) (w .rest .first 0 (add-zero h ∙ e) [] record { places = tt; first = λ ps q. tt }) in
-      let f : FirstPlacing b K route (take h offsets) =
-      record { placing = places-placing b K route (take h offsets) (p .places); first = λ ps q. p .first ps (placing-places b K route ps q) } in
-      (subst (λ (k : ℕ). FirstPlacing b K route (take k offsets)) e f, ap (λ (k : ℕ). drop k offsets) (sym e) ∙ w .zeros ∙ ap (λ (k : ℕ). replicate (mostRouteHops - k) 0) e)
+      let e : h ≡ n = omega (arith, w .most) in
+      let p : FirstPlaces F B n 0 0 (take h offsets) =
+      subst (FirstPlaces F B n 0 0) (append-nil (take h offsets)) (w .rest .first 0 (add-zero h ∙ e) [] record { places = tt; first = λ ps q. tt }) in
+      (subst (λ (k : ℕ). FirstPlaces F B n 0 0 (take k offsets)) e p, ap (λ (k : ℕ). drop k offsets) (sym e) ∙ w .zeros ∙ ap (λ (k : ℕ). replicate (mostRouteHops - k) 0) e)
 
   -- the search for the hop h found nothing
-  pub chosen-failed : (h lo : ℕ) (offsets : List ℕ) → h < hopCount route → ChosenTo h lo offsets → ((k : ℕ) → lo ≤ k → k < B → F h k → ⊥)
-      → Answers b K route NoPlacing (replicate mostRouteHops 0)
+  pub chosen-failed : (h lo : ℕ) (offsets : List ℕ) → h < n → Chosen F B n h lo offsets → ((k : ℕ) → lo ≤ k → k < B → F h k → ⊥)
+      → Answers F B n NoPlacing (replicate mostRouteHops 0)
   chosen-failed h lo offsets l w s =
-      let q : h + suc (hopCount route - suc h) ≡ hopCount route = omega arith in
-      (λ ps p. w .rest .none (suc (hopCount route - suc h)) q (none-from F B (hopCount route - suc h) h lo s) ps (placing-places b K route ps p), refl)
+      let q : h + suc (n - suc h) ≡ n = omega arith in (w .rest .none (suc (n - suc h)) q (none-from F B (n - suc h) h lo s), refl)

@@ -1,6 +1,4 @@
-pub mod Marking
-pub mod RowHops
-pub mod BookRows
-pub mod Searching
 pub mod Choosing
+pub mod Searching
 pub mod OneAnswer
+pub mod Beside

@@ -1,98 +1,64 @@
--- The search for an offset that is free beside the rows of a book. Assumes nothing.
-use mathlib.Core.Path.{_≡_, refl, sym, ap, _∙_, subst}
-use mathlib.Core.Logic.{⊎-elim}
+-- The search for an offset that is free for a hop.
+use mathlib.Core.Path.{_≡_, subst}
 use mathlib.Core.List.{List}
-use Prim.Native.Nat.{ℕ, zero, suc, _+_, _*_, _/_, _%_, _<_, _≤_}
+use Prim.Native.Nat.{ℕ, suc, _+_, _*_, _<_, _≤_}
 use native.Mathlib.Omega.{arith}
 use native.Mathlib.Nat.{mul-le-mul}
-use lib.ListN.{getD, replicate}
-use Rattle.rules.specs.Words.{bit}
+use native.Mathlib.Numerals.{add-one}
+use lib.ListN.{getD}
 use Rattle.rules.specs.Tiles.{Plan, PlanInRange, periodAt}
-use Rattle.rules.specs.Topology.{Hop, hopCount}
-use Rattle.rules.specs.Periods.{InList, thePlan}
-use Rattle.rules.specs.Book.{Book}
-use Rattle.rules.specs.Placing.{Free}
-use Rattle.rules.specs.Image.{planOf, topologyOf}
-use Rattle.model.specs.Reading.{rowsIn, bookIn}
-use Rattle.image.specs.declared.Book as image
+use Rattle.rules.specs.Topology.{Topology, Hop, hopCount}
+use Rattle.rules.specs.Periods.{InList}
+use Rattle.rules.proofs.Greedy.{Least}
 use Rattle.rules.proofs.Lists.{at-in}
 use Rattle.rules.proofs.Periods.{period-most}
-use Rattle.bitset.proofs.Bits.{zero-none}
+use Rattle.clash.specs.Reach.{Clashes, Between, ReachOf}
 use Rattle.clash.specs.declared.Reach.{Reach}
-use Rattle.clash.specs.Reach.{topology, Between, ReachOf}
-use Rattle.placing.specs.Marks.{mostOffsets, Marked, Adds}
-use Rattle.placing.specs.Rows.{BookBeside, NearAny}
-use Rattle.placing.specs.Answers.{FreeIn, Searched, LinksOf, Asked}
+use Rattle.index.specs.Index.{indexSlots}
+use Rattle.index.specs.Marks.{InReach}
+use Rattle.index.proofs.Meets.{reach-meets, meets-reach}
+use Rattle.placing.specs.Answers.{FreeBy, FreeAt, Searched, Asked}
 use Rattle.placing.specs.declared.Next.{Next}
 use Rattle.placing.specs.declared.Next.the-variants.{At, Nowhere}
 
--- an offset of a period has a bit in the table
-pub span-most : {plan : Plan} {place : ℕ} → PlanInRange plan → InList place → periodAt place * plan .slots ≤ mostOffsets
+-- the offsets of a period are slots of the index
+pub span-most : {plan : Plan} {place : ℕ} → PlanInRange plan → InList place → periodAt place * plan .slots ≤ indexSlots
 span-most {place = place} w h = mul-le-mul (period-most place h) (w .most)
 
--- a search for what holds alike below the end finds the same
-pub searched-alike : {F G : ℕ → Type 0} (lo end : ℕ) (r : Next) → ((k : ℕ) → k < end → F k → G k) → ((k : ℕ) → k < end → G k → F k) → Searched F lo end r → Searched G lo end r
-searched-alike lo end (At o) f g s = record {
-  above = s .above;
-  below = s .below;
-  holds = f o (s .below) (s .holds);
-  none-before = λ k l m h. s .none-before k l m (g k (omega (arith, s .below)) h);
+-- a search for what holds alike finds the same
+pub searched-alike : {F G : ℕ → Type 0} (lo end : ℕ) (r : Next) → ((k : ℕ) → F k → G k) → ((k : ℕ) → G k → F k) → Searched F lo end r → Searched G lo end r
+searched-alike lo end (At o) f g s = record { above = s .above; below = s .below; holds = f o (s .holds); none-before = λ k l m h. s .none-before k l m (g k h) }
+searched-alike lo end Nowhere f g s = λ k l m h. s k l m (g k h)
+
+-- what the reach leaves free, the hop may have
+pub search-law : {hearing : Topology} {h : Hop} {reach : Reach} (plan : Plan) (words : List ℕ) (K lo end : ℕ) (r : Next) → ReachOf hearing h reach
+    → Searched (FreeBy (InReach reach) plan words K) lo end r → Searched (FreeBy (Clashes hearing h) plan words K) lo end r
+search-law plan words K lo end r w =
+    searched-alike lo end r (λ k f. record { on-data = f .on-data; quiet = λ m. f .quiet (meets-reach w m) })
+    (λ k f. record { on-data = f .on-data; quiet = λ m. f .quiet (reach-meets w m) })
+
+-- THE HOPS OF THE ROUTE
+module _ (plan : Plan) (hearing : Topology) (words : List ℕ) (K : ℕ) (route : List ℕ) where
+  -- hop h, by the nodes that were read
+  abbrev pub FreeHop : ℕ → ℕ → Type 0
+  FreeHop h = FreeBy (Clashes hearing (record { from = getD route h 0; to = getD route (h + 1) 0 })) plan words K
+
+  hop-searched : (h lo end : ℕ) (r : Next) → Searched (FreeHop h) lo end r → Searched (FreeAt plan hearing words K route h) lo end r
+  hop-searched h lo end r s =
+      subst (λ (i : ℕ). Searched (FreeBy (Clashes hearing (record { from = getD route h 0; to = getD route i 0 })) plan words K) lo end r) (add-one h) s
+
+  pub search-found : (h lo end o : ℕ) {r : Next} → r ≡ At o → Searched (FreeHop h) lo end r → Least (FreeAt plan hearing words K route h) lo end o
+  search-found h lo end o {r} e s = subst (Searched (FreeAt plan hearing words K route h) lo end) e (hop-searched h lo end r s)
+
+  pub search-failed : (h lo end : ℕ) {r : Next} → r ≡ Nowhere → Searched (FreeHop h) lo end r → (k : ℕ) → lo ≤ k → k < end → FreeAt plan hearing words K route h k → ⊥
+  search-failed h lo end {r} e s = subst (Searched (FreeAt plan hearing words K route h) lo end) e (hop-searched h lo end r s)
+
+-- each is one between nodes of the topology
+pub asked-hop : {plan : Plan} {hearing : Topology} {route : List ℕ} {place : ℕ} → Asked plan hearing route place → (i : ℕ) → i < hopCount route
+    → Between hearing (record { from = getD route i 0; to = getD route (i + 1) 0 })
+asked-hop {route = route} w i l = record {
+  sound = w .sound;
+  most = w .most;
+  from = w .known _ (at-in route i (omega arith));
+  to = w .known _ (at-in route (i + 1) (omega arith));
 }
-searched-alike lo end Nowhere f g s = λ k l m h. s k l m (g k m h)
-
--- BESIDE THE ROWS
-pub zeros-none : (n o : ℕ) → Marked (replicate n 0) o → ⊥
-zeros-none n o h = zero-none (o % 64) (sym (ap (λ (x : ℕ). bit x (o % 64)) (all-zero n (o / 64))) ∙ h)
-  where
-    all-zero : (n i : ℕ) → getD {A = ℕ} (replicate n 0) i 0 ≡ 0
-    all-zero zero i = refl
-    all-zero (suc n) zero = refl
-    all-zero (suc n) (suc i) = all-zero n i
-
--- an offset that is not marked is met by no clashing hop of the rows
-module _ (b : Book) (K : ℕ) (h : Hop) (n : ℕ) {reach : Reach} {table : List ℕ} (w : ReachOf (b .topology) h reach)
-    (a : Adds (NearAny reach (b .plan .slots) K (b .rows)) (replicate n 0) table) where
-  pub free-beside : (o : ℕ) → o < K * b .plan .slots → FreeIn (b .plan) K table o → Free b K h o
-  free-beside o l f = record {
-    on-data = f .on-data;
-    never-meet = λ r m c.
-        f .unmarked (a .all o (r, m, record { below = l; hop = c .hop; there = c .there; reached = w .all _ (c .clash); meet = c .meet }));
-  }
-
-  pub beside-free : (o : ℕ) → o < K * b .plan .slots → Free b K h o → FreeIn (b .plan) K table o
-  beside-free o l f = record { on-data = f .on-data; unmarked = λ m. ⊎-elim (λ z. zeros-none n o z) (λ k. met k) (a .only o m) }
-    where
-      met : NearAny reach (b .plan .slots) K (b .rows) o → ⊥
-      met k = let c = k .2 in f .never-meet (k .0) (k .1) record { hop = c .hop; there = c .there; clash = w .only _ (c .reached); meet = c .meet }
-
--- so the search of the table is the one beside the rows of the image's book
-pub search-law : {s links table : List ℕ} {book : image.Book} {place : ℕ} (h : Hop) {reach : Reach} (n lo : ℕ) (r : Next)
-    → BookBeside s book place → LinksOf s links → ReachOf (topology links) h reach
-    → Adds (NearAny reach (book .plan .slots .0) (periodAt place) (rowsIn s)) (replicate n 0) table
-    → Searched (FreeIn (thePlan (book .plan)) (periodAt place) table) lo (periodAt place * book .plan .slots .0) r
-    → Searched (Free (bookIn s) (periodAt place) h) lo (periodAt place * planOf s .slots) r
-search-law {s} {table = table} {place = place} h {reach} n lo r w l f =
-    subst
-    (λ (plan : Plan). Adds (NearAny reach (plan .slots) (periodAt place) (rowsIn s)) (replicate n 0) table
-    → Searched (FreeIn plan (periodAt place) table) lo (periodAt place * plan .slots) r
-    → Searched (Free (bookIn s) (periodAt place) h) lo (periodAt place * planOf s .slots) r)
-    (sym (w .header .plan))
-    (λ a. searched-alike lo (periodAt place * planOf s .slots) r (free-beside (bookIn s) (periodAt place) h n g a) (beside-free (bookIn s) (periodAt place) h n g a))
-  where
-    g : ReachOf (topologyOf s) h reach
-    g = subst (λ (x : List ℕ). ReachOf (topology x) h reach) l f
-
--- WHAT IS ASKED
-module _ {s links route : List ℕ} {book : image.Book} {place : ℕ} (w : Asked s book links route place) where
-  -- each hop of the route is one between nodes of the topology
-  pub asked-hop : (i : ℕ) → i < hopCount route → Between (topology links) (record { from = getD route i 0; to = getD route (i + 1) 0 })
-  asked-hop i l =
-      subst (λ (x : List ℕ). Between (topology x) (record { from = getD route i 0; to = getD route (i + 1) 0 })) (sym (w .linked)) record {
-        sound = w .beside .stored .lawful .topology;
-        most = w .beside .stored .lawful .nodes .1;
-        from = w .path .known _ (at-in route i (omega arith));
-        to = w .path .known _ (at-in route (i + 1) (omega arith));
-      }
-
-  pub asked-span : periodAt place * planOf s .slots ≤ mostOffsets
-  asked-span = span-most (w .beside .stored .lawful .plan) (w .beside .period)

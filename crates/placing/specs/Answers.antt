@@ -1,46 +1,50 @@
--- What a search for an offset and for a placing answers. Assumes nothing.
+-- What a search for an offset and for a placing answers, by the words of an index.
 use mathlib.Core.Path.{_≡_}
 use mathlib.Core.List.{List}
-use Prim.Native.Nat.{ℕ, _-_, _<_, _≤_}
-use lib.ListN.{take, drop, replicate}
-use Rattle.rules.specs.Tiles.{Plan}
-use Rattle.rules.specs.Topology.{Path, hopCount, mostRouteHops}
+use Prim.Native.Nat.{ℕ, _*_, _-_, _<_, _≤_}
+use lib.ListN.{length, take, drop, replicate}
+use Rattle.rules.specs.Words.{_∈_}
+use Rattle.rules.specs.Tiles.{Plan, PlanInRange}
+use Rattle.rules.specs.Topology.{Topology, nodes, SoundTopology, hopAt, hopCount, mostRouteHops}
+use Rattle.rules.specs.Periods.{InList}
 use Rattle.rules.specs.Book.{OnData}
-use Rattle.rules.specs.Book as rules
-use Rattle.rules.specs.Image.{topologyOf}
-use Rattle.rules.specs.Placing as rules-placing
-use Rattle.rules.specs.Placing.{FirstPlacing}
-use Rattle.rules.proofs.Greedy.{Least}
-use Rattle.image.specs.declared.Book.{Book}
+use Rattle.rules.proofs.Greedy.{Least, FirstPlaces, NoPlaces}
+use Rattle.clash.specs.Reach.{End, Clashes}
+use Rattle.index.specs.Marks.{MeetsIn}
 use Rattle.placing.specs.declared.Next.{Next}
 use Rattle.placing.specs.declared.Next.the-variants.{At, Nowhere}
 use Rattle.placing.specs.declared.Found.{Found}
 use Rattle.placing.specs.declared.Found.the-variants.{Placed, NoPlacing}
-use Rattle.placing.specs.Marks.{Marked}
-use Rattle.placing.specs.Rows.{BookBeside}
 
--- the offset takes only data slots and is not marked in the table
-pub record FreeIn (plan : Plan) (K : ℕ) (table : List ℕ) (o : ℕ) : Type 0 where
+-- a hop of period K may have the offset: only data slots, and in none of them a node with C is at work
+pub record FreeBy (C : End → ℕ → Type 0) (plan : Plan) (words : List ℕ) (K o : ℕ) : Type 0 where
   pub on-data : OnData plan K o
-  pub unmarked : Marked table o → ⊥
+  pub quiet : MeetsIn C (plan .slots) words K o → ⊥
 
 -- the least number from lo on, below the end, with F, or that there is none
 abbrev pub Searched : (ℕ → Type 0) → ℕ → ℕ → Next → Type 0
 Searched F lo end (At o) = Least F lo end o
 Searched F lo end Nowhere = (k : ℕ) → lo ≤ k → k < end → F k → ⊥
 
--- the links are those of the image's topology
-abbrev pub LinksOf : List ℕ → List ℕ → Type 0
-LinksOf s links = links ≡ topologyOf s .links
+-- what a placing is asked for: a plan, a topology, a route over its nodes, the place of a period
+pub record Asked (plan : Plan) (hearing : Topology) (route : List ℕ) (place : ℕ) : Type 0 where
+  pub in-range : PlanInRange plan
+  pub sound : SoundTopology hearing
+  pub most : nodes hearing ≤ 64
+  pub some : 1 ≤ length route
+  pub few : hopCount route ≤ mostRouteHops
+  pub known : (a : ℕ) → a ∈ route → a < nodes hearing
+  pub period : InList place
 
--- what a placing is asked for: a lawful image and its topology, a route of it, the place of a period
-pub record Asked (s : List ℕ) (book : Book) (links route : List ℕ) (place : ℕ) : Type 0 where
-  pub beside : BookBeside s book place
-  pub linked : LinksOf s links
-  pub path : Path (topologyOf s) route
+-- hop i of the route may have the offset: no node is at work that clashes with it
+abbrev pub FreeAt : Plan → Topology → List ℕ → ℕ → List ℕ → ℕ → ℕ → Type 0
+FreeAt plan hearing words K route i o = FreeBy (Clashes hearing (hopAt route i)) plan words K o
 
--- the first placing and zeros after it; or that there is none, and zeros
-abbrev pub Answers : rules.Book → ℕ → List ℕ → Found → List ℕ → Type 0
-Answers b K route Placed offsets =
-    FirstPlacing b K route (take (hopCount route) offsets) × (drop (hopCount route) offsets ≡ replicate (mostRouteHops - hopCount route) 0)
-Answers b K route NoPlacing offsets = rules-placing.NoPlacing b K route × (offsets ≡ replicate mostRouteHops 0)
+-- the first offsets with F for n hops, below B, and zeros after them; or that there are none, and zeros
+abbrev pub Answers : (ℕ → ℕ → Type 0) → ℕ → ℕ → Found → List ℕ → Type 0
+Answers F B n Placed offsets = FirstPlaces F B n 0 0 (take n offsets) × (drop n offsets ≡ replicate (mostRouteHops - n) 0)
+Answers F B n NoPlacing offsets = NoPlaces F B n 0 0 × (offsets ≡ replicate mostRouteHops 0)
+
+-- those of the route's hops, by the words
+abbrev pub AnswersBy : Plan → Topology → List ℕ → ℕ → List ℕ → Found → List ℕ → Type 0
+AnswersBy plan hearing words K route = Answers (FreeAt plan hearing words K route) (K * plan .slots) (hopCount route)

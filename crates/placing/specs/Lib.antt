@@ -1,3 +1,1 @@
-pub mod Marks
-pub mod Rows
 pub mod Answers

@@ -1,21 +1,21 @@
--- From a lawful image to any image: the image's refusal, or what the call says of its book. Assumes nothing.
+-- From a lawful image to any image: the image's refusal, or what the call says of its book.
 use mathlib.Core.Path.{_≡_, refl, sym, ap, _∙_, subst}
-use mathlib.Core.Logic.{_⊎_, inl, inr}
-use mathlib.Core.List.{List, [], _∷_, _++_}
+use mathlib.Core.Logic.{inl, inr}
+use mathlib.Core.List.{List}
 use Prim.Native.Nat.{ℕ, _<_, _≤_}
 use native.Mathlib.Omega.{arith}
 use native.Mathlib.Decide.{ℕ-discrete}
-use lib.ListN.{length, drop}
+use lib.ListN.{length}
 use Rattle.rules.specs.Says.{Refusal, Says}
-use Rattle.rules.specs.Book.{Book}
-use Rattle.rules.specs.Image.{imageRefusals, encode, planOf, nodesOf, topologyOf, Stored}
-use Rattle.rules.specs.Table.{tableLength, TableOf, BalanceOf}
-use Rattle.rules.specs.Calls.{OfBook, SaysOf, Wrote, Unchanged, Rewrite, rewriteRefusals, Open, openRefusals, Opened, Close, closeRefusals, Closed, Expand, expandRefusals, Balance, balanceRefusals, Check, checkRefusals}
-use Rattle.model.specs.Reading.{bookIn}
 use Rattle.rules.specs.Tiles.{PlanInRange}
 use Rattle.rules.specs.Topology.{nodes}
 use Rattle.rules.specs.Periods.{thePlan}
-use Rattle.rules.proofs.Written.{length-linksAt}
+use Rattle.rules.specs.Book.{Book}
+use Rattle.rules.specs.Image.{imageRefusals, encode, linksStart, versionOf, planOf, nodesOf, linksOf}
+use Rattle.rules.specs.Table.{tableLength, TableOf, BalanceOf}
+use Rattle.rules.specs.Calls.{SaysOf, CallOf, ReplyOf, rewriteRefusals, Request, anyMiddle, MadeImage, requestRefusals, expandRefusals, balanceRefusals, checkRefusals, Check, Rewrite, Serve, Expand, Balance}
+use Rattle.rules.proofs.Written.{length-sets-at}
+use Rattle.rules.proofs.Reading.{bookIn, LawfulImage}
 use Rattle.image.specs.Header.{HeaderOf}
 use Rattle.image.specs.declared.Book as head
 use Rattle.writer.specs.Over.{over}
@@ -23,119 +23,113 @@ use Rattle.writer.proofs.Laws.{over-front}
 use Rattle.tables.specs.Entries.{Filled}
 use Rattle.answers.specs.Reply.{Reply}
 use Rattle.answers.proofs.Replies.{reply-refused, reply-next, reply-done}
-use Rattle.closing.specs.Close.{ClosedImage, Closes}
-use Rattle.opening.specs.Open.{OpenedImage, Opens}
 use Rattle.lawful.specs.Verdict.{Verdict}
 
-module _ (s : List ℕ) {n : ℕ} (v : Verdict s n) where
-  -- the image is refused
-  module _ (f : n ≡ 0 → ⊥) {number len : ℕ} (out : List ℕ) (a : number ≡ n) (b : len ≡ 0) where
-    says : (refusals : Book → List Refusal) → SaysOf s refusals number
-    says refusals = inl (subst (Says (imageRefusals s)) (sym a) (v .says), λ z. f (sym a ∙ z))
+-- ANY CALL
 
-    unchanged : (number ≡ 0 → ⊥) → Unchanged out len out
-    unchanged g = record { length-is = b; buffer = refl }
+-- the image is refused
+module _ {s words : List ℕ} {n number : ℕ} (v : Verdict s n words) (f : n ≡ 0 → ⊥) (a : number ≡ n) where
+  refused-says : (refusals : ℕ → Book → List Refusal) → SaysOf s refusals number
+  refused-says refusals = inl (subst (Says (imageRefusals s)) (sym a) (v .says), λ z. f (sym a ∙ z))
 
+  pub image-refused : (refusals : ℕ → Book → List Refusal) {R : Type 0} {D : ℕ → Book → Type 0} → R → CallOf s refusals R D number
+  image-refused refusals r = record { says = refused-says refusals; refused = λ g. r; done = λ z. absurd (f (sym a ∙ z)) }
+
+  pub reply-image : (refusals : ℕ → Book → List Refusal) (P : ℕ → Book → List ℕ → Type 0) (out : List ℕ) {len : ℕ} → len ≡ 0 → ReplyOf s refusals P out number len out
+  reply-image refusals P out b =
+      record { says = refused-says refusals; refused = λ g. record { length-is = b; buffer = refl }; done = λ z. absurd (f (sym a ∙ z)) }
+
+  module _ (out : List ℕ) {len : ℕ} (b : len ≡ 0) where
     pub rewrite-refused : Rewrite s out number len out
-    rewrite-refused = record { says = says (rewriteRefusals (length out)); refused = unchanged; done = λ z. absurd (f (sym a ∙ z)) }
+    rewrite-refused = reply-image (rewriteRefusals (length out)) (λ v b bytes. bytes ≡ encode v b) out b
 
-    pub open-refused : (id source destination K : ℕ) → Open s id source destination K out number len out
-    open-refused id source destination K =
-        record { says = says (openRefusals id source destination K (length out)); refused = unchanged; done = λ z. absurd (f (sym a ∙ z)) }
-
-    pub close-refused : (id : ℕ) → Close s id out number len out
-    close-refused id = record { says = says (closeRefusals id (length out)); refused = unchanged; done = λ z. absurd (f (sym a ∙ z)) }
+    pub serve-refused : (q : Request) → Serve s q out number len out
+    serve-refused q = reply-image (λ v b. requestRefusals (anyMiddle b) q (length out) b) (λ v b. MadeImage (anyMiddle b) b q) out b
 
     pub expand-refused : (node : ℕ) → Expand s node out number len out
-    expand-refused node = record { says = says (expandRefusals node (length out)); refused = unchanged; done = λ z. absurd (f (sym a ∙ z)) }
+    expand-refused node = reply-image (expandRefusals node (length out)) (λ v b. TableOf b node) out b
 
-    pub balance-refused : (node : ℕ) {d u e : ℕ} → d ≡ 0 → u ≡ 0 → e ≡ 0 → Balance s node number d u e
-    balance-refused node x y z = record { says = says (balanceRefusals node); refused = λ g. (x, y, z); done = λ q. absurd (f (sym a ∙ q)) }
-
-  -- a check says the image's number
-  pub checked : {number len : ℕ} → number ≡ n → len ≡ 0 → Check s number len
-  checked {number} a b = record { says = go (ℕ-discrete n 0); length-is = b }
-    where
-      go : Dec (n ≡ 0) → SaysOf s checkRefusals number
-      go (yes z) = inr (bookIn s, v .stored z, a ∙ z)
-      go (no f) = says f [] a refl checkRefusals
+  pub balance-refused : (node : ℕ) {d u e : ℕ} → d ≡ 0 → u ≡ 0 → e ≡ 0 → Balance s node number d u e
+  balance-refused node x y z = image-refused (balanceRefusals node) (x, y, z)
 
 -- the image is that of a lawful book
-module _ (s : List ℕ) (h : Stored s (bookIn s)) {number len : ℕ} {out out′ : List ℕ} where
-  pub rewrite-on : Reply (rewriteRefusals (length out) (bookIn s)) (λ (bytes : List ℕ). bytes ≡ s) out number len out′ → Rewrite s out number len out′
-  rewrite-on w = record {
-    says = inr (bookIn s, h, w .says);
-    refused = w .refused;
-    done = λ z. let d = w .done z in (bookIn s, h, subst (λ (bytes : List ℕ). Wrote bytes out len out′) (d .1 ∙ h .bytes) (d .2));
-  }
+pub reply-book : {s : List ℕ} → LawfulImage s → (refusals : ℕ → Book → List Refusal) (P : ℕ → Book → List ℕ → Type 0) {number len : ℕ} {out out′ : List ℕ}
+    → Reply (refusals (versionOf s) (bookIn s)) (P (versionOf s) (bookIn s)) out number len out′ → ReplyOf s refusals P out number len out′
+reply-book {s} h refusals P w = record {
+  says = inr (versionOf s, bookIn s, h, w .says);
+  refused = w .refused;
+  done = λ z. let d = w .done z in (d .0, (versionOf s, bookIn s, h, d .1), d .2);
+}
 
-  pub open-on : (id source destination K : ℕ) → Opens s id source destination K out number len out′ → Open s id source destination K out number len out′
-  open-on id source destination K w = record {
-    says = inr (bookIn s, h, w .says);
-    refused = w .refused;
-    done = λ z. let d = w .done z in (bookIn s, h, (d .1 .0, d .1 .1, subst (λ (bytes : List ℕ). Wrote bytes out len out′) (d .1 .2) (d .2)));
-  }
+-- OPEN AND CLOSE
+pub serve-on : {s : List ℕ} → LawfulImage s → (q : Request) {number len : ℕ} {out out′ : List ℕ}
+    → Reply (requestRefusals (anyMiddle (bookIn s)) q (length out) (bookIn s)) (MadeImage (anyMiddle (bookIn s)) (bookIn s) q) out number len out′ → Serve s q out number len out′
+serve-on h q {out = out} w = reply-book h (λ v b. requestRefusals (anyMiddle b) q (length out) b) (λ v b. MadeImage (anyMiddle b) b q) w
 
-  pub close-on : (id : ℕ) → Closes s id out number len out′ → Close s id out number len out′
-  close-on id w = record {
-    says = inr (bookIn s, h, w .says);
-    refused = w .refused;
-    done = λ z. let d = w .done z in (bookIn s, h, (d .1 .0, d .1 .1, subst (λ (bytes : List ℕ). Wrote bytes out len out′) (d .1 .2) (d .2)));
-  }
-
-  pub expand-on : (node : ℕ) → Reply (expandRefusals node (length out) (bookIn s)) (TableOf (bookIn s) node) out number len out′ → Expand s node out number len out′
-  expand-on node w = record {
-    says = inr (bookIn s, h, w .says);
-    refused = w .refused;
-    done = λ z. let d = w .done z in (bookIn s, h, (d .0, d .1, d .2));
-  }
+-- CHECK says the image's number
+pub checked : (s : List ℕ) {words : List ℕ} {n number len : ℕ} → Verdict s n words → number ≡ n → len ≡ 0 → Check s number len
+checked s {n = n} {number} {len} v a b = go (ℕ-discrete n 0)
+  where
+    go : Dec (n ≡ 0) → Check s number len
+    go (yes z) = record {
+      says = inr (versionOf s, bookIn s, v .stored z, a ∙ z);
+      refused = λ g. b;
+      done = λ y. (versionOf s, bookIn s, v .stored z, b);
+    }
+    go (no f) = image-refused v f a checkRefusals b
 
 -- REWRITE
-module _ (s : List ℕ) (h : Stored s (bookIn s)) {number len : ℕ} (out : List ℕ) where
+module _ {s : List ℕ} (h : LawfulImage s) {number len : ℕ} (out : List ℕ) where
+  rewrite-on : {out′ : List ℕ} → Reply (rewriteRefusals (length out) (versionOf s) (bookIn s)) (λ (bytes : List ℕ). bytes ≡ encode (versionOf s) (bookIn s)) out number len out′
+      → Rewrite s out number len out′
+  rewrite-on w = reply-book h (rewriteRefusals (length out)) (λ v b bytes. bytes ≡ encode v b) w
+
   pub rewrite-short : length out < length s → number ≡ 12 → len ≡ 0 → Rewrite s out number len out
-  rewrite-short l a b = rewrite-on s h (reply-refused (omega (arith, ap length (h .bytes))) (λ z. omega arith) a b)
+  rewrite-short l a b = rewrite-on (reply-refused (omega (arith, ap length (h .bytes))) (λ z. omega arith) a b)
 
   pub rewrite-done : {out′ : List ℕ} → length s ≤ length out → number ≡ 0 → len ≡ length s → out′ ≡ over out 0 s → Rewrite s out number len out′
-  rewrite-done l a b w =
-      rewrite-on s h (reply-next (λ k. omega (arith, k, ap length (h .bytes))) (reply-done s refl a b (w ∙ over-front out s)))
+  rewrite-done l a b w = rewrite-on (reply-next (λ k. omega (arith, k, ap length (h .bytes))) (reply-done s (h .bytes) a b (w ∙ over-front out s)))
 
 -- EXPAND
-module _ (s : List ℕ) (h : Stored s (bookIn s)) (book : head.Book) (read : HeaderOf s book) where
+module _ {s : List ℕ} (h : LawfulImage s) {book : head.Book} (read : HeaderOf s book) where
   pub plan-held : PlanInRange (thePlan (book .plan))
-  plan-held = subst PlanInRange (sym (read .plan)) (h .lawful .plan)
+  plan-held = subst PlanInRange (sym (read .plan)) (h .lawful .site .plan)
 
-  pub known : nodes (topologyOf s) ≡ book .nodes
-  known = length-linksAt s 16 (nodesOf s) ∙ sym (read .nodes)
+  pub known : nodes (linksOf s) ≡ book .nodes
+  known = length-sets-at s (linksStart (versionOf s)) (nodesOf s) ∙ sym (read .nodes)
 
-  pub expand-unknown : (node : ℕ) {number len : ℕ} (out : List ℕ) → book .nodes ≤ node → number ≡ 4 → len ≡ 0 → Expand s node out number len out
-  expand-unknown node out l a b = expand-on s h node (reply-refused (omega (arith, known)) (λ z. omega arith) a b)
+  size-is : {size : ℕ} → size ≡ tableLength (thePlan (book .plan)) → size ≡ tableLength (planOf s)
+  size-is e = e ∙ ap tableLength (read .plan)
 
-  module _ (node : ℕ) (l : node < book .nodes) (size : ℕ) (e : size ≡ tableLength (thePlan (book .plan))) where
-    size-is : size ≡ tableLength (planOf s)
-    size-is = e ∙ ap tableLength (read .plan)
+  module _ (node : ℕ) {number len : ℕ} (out : List ℕ) where
+    expand-on : {out′ : List ℕ} → Reply (expandRefusals node (length out) (versionOf s) (bookIn s)) (TableOf (bookIn s) node) out number len out′ → Expand s node out number len out′
+    expand-on w = reply-book h (expandRefusals node (length out)) (λ v b. TableOf b node) w
 
-    pub expand-short : {number len : ℕ} (out : List ℕ) → length out < size → number ≡ 12 → len ≡ 0 → Expand s node out number len out
-    expand-short out k a b =
-        expand-on s h node (reply-next (λ m. omega (arith, m, known)) (reply-refused (omega (arith, size-is)) (λ z. omega arith) a b))
+    pub expand-unknown : book .nodes ≤ node → number ≡ 4 → len ≡ 0 → Expand s node out number len out
+    expand-unknown l a b = expand-on (reply-refused (omega (arith, known)) (λ z. omega arith) a b)
 
-    pub expand-done : {number len : ℕ} (out : List ℕ) {out′ : List ℕ} → size ≤ length out → number ≡ 0 → len ≡ size → Filled s node out out′ → Expand s node out number len out′
-    expand-done out k a b f =
-        expand-on s h node
-        (reply-next (λ m. omega (arith, m, known)) (reply-next (λ m. omega (arith, m, size-is))
-        (reply-done (f .table) (f .table-of) a (b ∙ size-is ∙ sym (f .table-of .size)) (f .buffer))))
+    module _ (l : node < book .nodes) {size : ℕ} (e : size ≡ tableLength (thePlan (book .plan))) where
+      pub expand-short : length out < size → number ≡ 12 → len ≡ 0 → Expand s node out number len out
+      expand-short k a b = expand-on (reply-next (λ m. omega (arith, m, known)) (reply-refused (omega (arith, size-is e)) (λ z. omega arith) a b))
 
--- BALANCE
-module _ (s : List ℕ) (h : Stored s (bookIn s)) (book : head.Book) (read : HeaderOf s book) (node : ℕ) {number d u f : ℕ} where
-  pub balance-unknown : book .nodes ≤ node → number ≡ 4 → d ≡ 0 → u ≡ 0 → f ≡ 0 → Balance s node number d u f
-  balance-unknown l a x y z = record {
-    says = inr (bookIn s, h, inl (omega (arith, known s h book read), a));
-    refused = λ g. (x, y, z);
-    done = λ q. absurd (omega (arith, q, a));
-  }
+      pub expand-done : {out′ : List ℕ} → size ≤ length out → number ≡ 0 → len ≡ size → Filled s node out out′ → Expand s node out number len out′
+      expand-done k a b f =
+          expand-on
+          (reply-next (λ m. omega (arith, m, known)) (reply-next (λ m. omega (arith, m, size-is e))
+          (reply-done (f .table) (f .table-of) a (b ∙ size-is e ∙ sym (f .table-of .size)) (f .buffer))))
 
-  pub balance-done : node < book .nodes → number ≡ 0 → BalanceOf (bookIn s) node d u f → Balance s node number d u f
-  balance-done l a w = record {
-    says = inr (bookIn s, h, inr (λ m. omega (arith, m, known s h book read), a));
-    refused = λ g. absurd (g a);
-    done = λ z. (bookIn s, h, w);
-  }
+  -- BALANCE
+  module _ (node : ℕ) {number d u f : ℕ} where
+    pub balance-unknown : book .nodes ≤ node → number ≡ 4 → d ≡ 0 → u ≡ 0 → f ≡ 0 → Balance s node number d u f
+    balance-unknown l a x y z = record {
+      says = inr (versionOf s, bookIn s, h, inl (omega (arith, known), a));
+      refused = λ g. (x, y, z);
+      done = λ q. absurd (omega (arith, q, a));
+    }
+
+    pub balance-done : node < book .nodes → number ≡ 0 → BalanceOf (bookIn s) node d u f → Balance s node number d u f
+    balance-done l a w = record {
+      says = inr (versionOf s, bookIn s, h, inr (λ m. omega (arith, m, known), a));
+      refused = λ g. absurd (g a);
+      done = λ z. (versionOf s, bookIn s, h, w);
+    }

@@ -1,4 +1,4 @@
--- A new book: refused by its own number, or the image of the book without streams. Assumes nothing.
+-- A new book: refused by its own number, or the image of the book without streams.
 use mathlib.Core.Path.{_≡_, refl, sym, ap, _∙_, subst}
 use mathlib.Core.Logic.{_⊎_, inl, inr}
 use mathlib.Core.List.{List, [], _∷_, _++_}
@@ -8,11 +8,12 @@ use native.Mathlib.Nat.{zero-add}
 use lib.ListN.{length, take, drop, length-append}
 use Rattle.rules.specs.Tiles.{Plan, PlanInRange}
 use Rattle.rules.specs.Topology.{Topology, nodes, NodesInRange, SoundTopology}
-use Rattle.rules.specs.Image.{word64, inTurn, encodeHeader, encode, linksAt, topologyAt}
-use Rattle.rules.specs.Calls.{Wrote, Unchanged, New, newBook, newRefusals}
-use Rattle.rules.proofs.Written.{Bytes, links-written, length-linksAt}
-use Rattle.image.specs.Places.{Links}
-use Rattle.routes.specs.Rows.{topology}
+use Rattle.rules.specs.Image.{newest, headerLength, word64, inTurn, encodeHeader, encode, setsAt, topologyAt}
+use Rattle.rules.specs.Calls.{TopologiesGiven, New, newBook, newRefusals}
+use Rattle.rules.proofs.Hearing.{heard-links}
+use Rattle.rules.proofs.Written.{Bytes, sets-written, length-sets-at}
+use Rattle.image.specs.Places.{Sets}
+use Rattle.bitset.specs.Rows.{topology}
 use Rattle.writer.specs.Over.{over}
 use Rattle.writer.proofs.Laws.{over-front}
 use Rattle.answers.specs.Reply.{Reply}
@@ -27,46 +28,43 @@ append-nil [] = refl
 append-nil (x ∷ l) = ap (λ (t : List ℕ). x ∷ t) (append-nil l)
 
 module _ (plan : Plan) (N : ℕ) (links : List ℕ) where
-  new-of : (out : List ℕ) {number len : ℕ} {out′ : List ℕ} → Reply (newRefusals plan N links (length out)) (λ (bytes : List ℕ). bytes ≡ encode (newBook plan N links)) out number len out′ → New plan N links out number len out′
-  new-of out {number} {len} {out′} w = record {
-    says = w .says;
-    refused = w .refused;
-    done = λ z. let d = w .done z in subst (λ (bytes : List ℕ). Wrote bytes out len out′) (d .1) (d .2);
-  }
+  new-of : (out : List ℕ) {number len : ℕ} {out′ : List ℕ} → Reply (newRefusals plan N links (length out)) (λ (bytes : List ℕ). bytes ≡ encode newest (newBook plan N links)) out number len out′
+      → New plan N links out number len out′
+  new-of out w = record { says = w .says; refused = w .refused; done = w .done }
 
   pub new-range : (out : List ℕ) {number len : ℕ} → ((PlanInRange plan × NodesInRange N) → ⊥) → number ≡ 10 → len ≡ 0 → New plan N links out number len out
   new-range out f a b = new-of out (reply-refused f (λ z. omega arith) a b)
 
   module _ (fits : PlanInRange plan × NodesInRange N) where
-    pub new-topology : (out : List ℕ) {number len : ℕ} → (((length links ≡ 8 * N) × SoundTopology (topologyAt links 0 N)) → ⊥) → number ≡ 11 → len ≡ 0 → New plan N links out number len out
+    pub new-topology : (out : List ℕ) {number len : ℕ} → (TopologiesGiven N links → ⊥) → number ≡ 11 → len ≡ 0 → New plan N links out number len out
     new-topology out f a b = new-of out (reply-next (λ g. g fits) (reply-refused f (λ z. omega arith) a b))
 
     module _ (long : length links ≡ 8 * N) (sound : SoundTopology (topologyAt links 0 N)) (bytes : Bytes links) where
-      back : inTurn word64 (linksAt links 0 N) ≡ links
+      back : inTurn word64 (setsAt links 0 N) ≡ links
       back =
           let e : 0 + 8 * N ≡ length links = omega arith in
-          sym (links-written links bytes N 0 (omega arith)
-          ∙ ap (λ (k : ℕ). inTurn word64 (linksAt links 0 N) ++ drop k links) e ∙ ap (λ (l : List ℕ). inTurn word64 (linksAt links 0 N) ++ l) (drop-all links)
-          ∙ append-nil (inTurn word64 (linksAt links 0 N)))
+          sym (sets-written links bytes N 0 (omega arith)
+          ∙ ap (λ (k : ℕ). inTurn word64 (setsAt links 0 N) ++ drop k links) e ∙ ap (λ (l : List ℕ). inTurn word64 (setsAt links 0 N) ++ l) (drop-all links)
+          ∙ append-nil (inTurn word64 (setsAt links 0 N)))
 
-      image : encode (newBook plan N links) ≡ encodeHeader plan N 0 0 ++ links
+      image : encode newest (newBook plan N links) ≡ encodeHeader newest plan N 0 0 ++ links
       image =
-          ap (λ (n : ℕ). encodeHeader plan n 0 0 ++ (inTurn word64 (linksAt links 0 N) ++ [])) (length-linksAt links 0 N)
-          ∙ ap (λ (l : List ℕ). encodeHeader plan N 0 0 ++ l) (append-nil (inTurn word64 (linksAt links 0 N)) ∙ back)
+          ap (λ (n : ℕ). encodeHeader newest plan n 0 0 ++ (inTurn word64 (setsAt links 0 N) ++ [])) (length-sets-at links 0 N)
+          ∙ ap (λ (l : List ℕ). encodeHeader newest plan N 0 0 ++ l) (append-nil (inTurn word64 (setsAt links 0 N)) ∙ back)
 
-      size : length (encode (newBook plan N links)) ≡ 16 + length links
+      size : length (encode newest (newBook plan N links)) ≡ headerLength + length links
       size = ap length image ∙ omega arith
 
-      pub new-short : (out : List ℕ) {number len : ℕ} → length out < 16 + length links → number ≡ 12 → len ≡ 0 → New plan N links out number len out
+      pub new-short : (out : List ℕ) {number len : ℕ} → length out < headerLength + length links → number ≡ 12 → len ≡ 0 → New plan N links out number len out
       new-short out l a b =
-          new-of out (reply-next (λ g. g fits) (reply-next (λ g. g (long, sound)) (reply-refused (omega (arith, size)) (λ z. omega arith) a b)))
+          new-of out (reply-next (λ g. g fits) (reply-next (λ g. g (record { links-whole = long; sound = heard-links _ sound })) (reply-refused (omega (arith, size)) (λ z. omega arith) a b)))
 
-      pub new-done : (out : List ℕ) {number len : ℕ} {out′ : List ℕ} → 16 + length links ≤ length out → number ≡ 0 → len ≡ 16 + length links → out′ ≡ over out 0 (encodeHeader plan N 0 0 ++ links) → New plan N links out number len out′
+      pub new-done : (out : List ℕ) {number len : ℕ} {out′ : List ℕ} → headerLength + length links ≤ length out → number ≡ 0 → len ≡ headerLength + length links → out′ ≡ over out 0 (encodeHeader newest plan N 0 0 ++ links) → New plan N links out number len out′
       new-done out l a b w =
           new-of out
-          (reply-next (λ g. g fits) (reply-next (λ g. g (long, sound)) (reply-next (λ k. omega (arith, k, size))
-          (reply-done (encode (newBook plan N links)) refl a (b ∙ sym size) (w ∙ ap (over out 0) (sym image) ∙ over-front out (encode (newBook plan N links)))))))
+          (reply-next (λ g. g fits) (reply-next (λ g. g (record { links-whole = long; sound = heard-links _ sound })) (reply-next (λ k. omega (arith, k, size))
+          (reply-done (encode newest (newBook plan N links)) refl a (b ∙ sym size) (w ∙ ap (over out 0) (sym image) ∙ over-front out (encode newest (newBook plan N links)))))))
 
 -- the rows that were decoded are the topology that was given
-pub given-topology : (links rows : List ℕ) (N : ℕ) → Links links 0 N rows → topology (take N rows) ≡ topologyAt links 0 N
+pub given-topology : (links rows : List ℕ) (N : ℕ) → Sets links 0 N rows → topology (take N rows) ≡ topologyAt links 0 N
 given-topology links rows N w = ap topology (w .rows)

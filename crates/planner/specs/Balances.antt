@@ -1,4 +1,4 @@
--- What a balance says, by its fields. Assumes nothing.
+-- What a balance says, by its fields.
 use mathlib.Core.List.{List}
 use Prim.Native.Nat.{ℕ}
 use Rattle.rules.specs.Calls as calls

@@ -1,6 +1,8 @@
 // The C interface: the seven calls over bare numbers.
 ghost use mathlib.Core.Path.{_≡_};
-ghost use Rattle.rules.specs.Calls.{New, Check, Rewrite, Open, Close, Expand, Balance};
+ghost use Rattle.rules.specs.Calls.{New, Check, Rewrite, Serve, Expand, Balance};
+ghost use Rattle.rules.specs.Calls.Request.{Open, Close};
+use rules::Asked;
 use rules::Node;
 use rules::Plan;
 use rules::Slot;
@@ -64,9 +66,15 @@ pub extern "C" fn lindurask_open(
     out: &mut [u8],
     length: &mut usize,
 ) -> u8
-    ensures { λ r. ⌜ Open (now (book .entry)) id source destination period (now (out .entry)) r (now (length .exit)) (now (out .exit)) ⌝ }
+    ensures { λ r. ⌜ Serve (now (book .entry)) (Open (record { id = id; source = source; destination = destination; period = period })) (now (out .entry)) r (now (length .exit)) (now (out .exit)) ⌝ }
 {
-    let answer = crate::open_stream(book, id, Node(source), Node(destination), Tile(period), out);
+    let asked = Asked {
+        id,
+        source: Node(source),
+        destination: Node(destination),
+        period: Tile(period),
+    };
+    let answer = crate::open_stream(book, asked, out);
     *length = answer.length;
     answer.number
 }
@@ -74,7 +82,7 @@ pub extern "C" fn lindurask_open(
 // Closes a stream.
 #[no_mangle]
 pub extern "C" fn lindurask_close(book: &[u8], id: u16, out: &mut [u8], length: &mut usize) -> u8
-    ensures { λ r. ⌜ Close (now (book .entry)) id (now (out .entry)) r (now (length .exit)) (now (out .exit)) ⌝ }
+    ensures { λ r. ⌜ Serve (now (book .entry)) (Close id) (now (out .entry)) r (now (length .exit)) (now (out .exit)) ⌝ }
 {
     let answer = crate::close_stream(book, id, out);
     *length = answer.length;

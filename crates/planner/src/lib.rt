@@ -1,13 +1,14 @@
 // The public calls: each takes a book as its stored image, and says back a number.
 ghost use mathlib.Core.Path.{_≡_};
-ghost use Rattle.rules.specs.Periods.{thePlan};
-ghost use Rattle.rules.specs.Calls.{New, Check, Rewrite, Open, Close, Expand};
+ghost use Rattle.rules.specs.Periods.{thePlan, theAsked};
+ghost use Rattle.rules.specs.Calls.{New, Check, Rewrite, Serve, Expand};
+ghost use Rattle.rules.specs.Calls.Request.{Open, Close};
 ghost use Rattle.planner.specs.Balances.{BalanceSays};
 use answers::Answer;
 use image::Book;
+use rules::Asked;
 use rules::Node;
 use rules::Plan;
-use rules::Tile;
 
 mod interface;
 
@@ -33,7 +34,7 @@ pub fn new_book(plan: Plan, nodes: u8, topology: &[u8], out: &mut [u8]) -> Answe
     if topology.len() != 8 * n {
         return answers::refused(11);
     }
-    let rows = image::links(topology, 0, n);
+    let rows = image::sets(topology, 0, n);
     if !routes::topology::sound(&rows[..n]) {
         return answers::refused(11);
     }
@@ -49,14 +50,16 @@ pub fn new_book(plan: Plan, nodes: u8, topology: &[u8], out: &mut [u8]) -> Answe
 pub fn check(image: &[u8]) -> Answer
     ensures { λ r. ⌜ Check (now (image .entry)) (r .number) (r .length) ⌝ }
 {
-    answers::refused(lawful::verdict(image))
+    let mut index = [0u64; index::WORDS];
+    answers::refused(lawful::verdict(image, &mut index))
 }
 
 // Writes the image of the same book.
 pub fn rewrite(image: &[u8], out: &mut [u8]) -> Answer
     ensures { λ r. ⌜ Rewrite (now (image .entry)) (now (out .entry)) (r .number) (r .length) (now (out .exit)) ⌝ }
 {
-    let number = lawful::verdict(image);
+    let mut index = [0u64; index::WORDS];
+    let number = lawful::verdict(image, &mut index);
     if number != 0 {
         return answers::refused(number);
     }
@@ -68,28 +71,23 @@ pub fn rewrite(image: &[u8], out: &mut [u8]) -> Answer
 }
 
 // Opens a stream: writes the image of the book with it.
-pub fn open_stream(
-    image: &[u8],
-    id: u16,
-    source: Node,
-    destination: Node,
-    period: Tile,
-    out: &mut [u8],
-) -> Answer
-    ensures { λ r. ⌜ Open (now (image .entry)) id (source .0) (destination .0) (period .0) (now (out .entry)) (r .number) (r .length) (now (out .exit)) ⌝ }
+pub fn open_stream(image: &[u8], asked: Asked, out: &mut [u8]) -> Answer
+    ensures { λ r. ⌜ Serve (now (image .entry)) (Open (theAsked asked)) (now (out .entry)) (r .number) (r .length) (now (out .exit)) ⌝ }
 {
-    let number = lawful::verdict(image);
+    let mut index = [0u64; index::WORDS];
+    let number = lawful::verdict(image, &mut index);
     if number != 0 {
         return answers::refused(number);
     }
-    opening::open_on(image, id, source, destination, period, out)
+    opening::open_on(image, &index, asked, out)
 }
 
 // Closes a stream: writes the image of the book without it.
 pub fn close_stream(image: &[u8], id: u16, out: &mut [u8]) -> Answer
-    ensures { λ r. ⌜ Close (now (image .entry)) id (now (out .entry)) (r .number) (r .length) (now (out .exit)) ⌝ }
+    ensures { λ r. ⌜ Serve (now (image .entry)) (Close id) (now (out .entry)) (r .number) (r .length) (now (out .exit)) ⌝ }
 {
-    let number = lawful::verdict(image);
+    let mut index = [0u64; index::WORDS];
+    let number = lawful::verdict(image, &mut index);
     if number != 0 {
         return answers::refused(number);
     }
@@ -100,7 +98,8 @@ pub fn close_stream(image: &[u8], id: u16, out: &mut [u8]) -> Answer
 pub fn expand(image: &[u8], node: Node, out: &mut [u8]) -> Answer
     ensures { λ r. ⌜ Expand (now (image .entry)) (node .0) (now (out .entry)) (r .number) (r .length) (now (out .exit)) ⌝ }
 {
-    let number = lawful::verdict(image);
+    let mut index = [0u64; index::WORDS];
+    let number = lawful::verdict(image, &mut index);
     if number != 0 {
         return answers::refused(number);
     }
@@ -132,7 +131,8 @@ fn no_balance(number: u8) -> Balance
 pub fn balance_of(image: &[u8], node: Node) -> Balance
     ensures { λ r. ⌜ BalanceSays (now (image .entry)) (node .0) r ⌝ }
 {
-    let number = lawful::verdict(image);
+    let mut index = [0u64; index::WORDS];
+    let number = lawful::verdict(image, &mut index);
     if number != 0 {
         return no_balance(number);
     }

@@ -1,4 +1,4 @@
--- What a buffer holds where no call wrote. Assumes nothing.
+-- What a buffer holds where no call wrote.
 use mathlib.Core.Path.{_≡_}
 use mathlib.Core.List.{List}
 use Prim.Native.Nat.{ℕ, _<_, _≤_}

@@ -1,80 +1,158 @@
--- An open adds its stream, a close removes its stream, and nothing else moves; a close undoes an open. Assumes nothing.
+-- An open adds its stream, a close removes its stream, and nothing else moves; a close undoes an open.
 use mathlib.Core.Path.{_≡_, refl, sym, ap, _∙_, subst}
-use mathlib.Core.Logic.{_⊎_, inl, inr, ⊎-elim, _↔_}
+use mathlib.Core.Logic.{_⊎_, inl, inr, ⊎-elim}
 use mathlib.Core.List.{List, [], _∷_}
-use Prim.Native.Nat.{ℕ, zero, suc, _<_, _≤_}
+use Prim.Native.Nat.{ℕ}
 use native.Mathlib.Omega.{arith}
 use lib.ListN.{length, take}
 use Rattle.rules.specs.Words.{TwoBytes, _∈_}
 use Rattle.rules.specs.Says.{Says}
-use Rattle.rules.specs.Book.{Row, Book, Plus}
-use Rattle.rules.specs.Placing.{NewRow}
-use Rattle.rules.specs.Image.{encode, Stored}
-use Rattle.rules.specs.Calls.{SaysOf, Wrote, Open, openRefusals, Opened, Close, closeRefusals, Closed}
+use Rattle.rules.specs.Topology.{Topology}
+use Rattle.rules.specs.Book.{Row, Book, LawfulBook, Known}
+use Rattle.rules.specs.Placing.{Asked, Planned, NewRows}
+use Rattle.rules.specs.Placing.Planned.{one}
+use Rattle.rules.specs.Image.{newest, Version, encode, Stored}
+use Rattle.rules.specs.Calls.{OfBook, Wrote, Request, anyMiddle, Made, MadeImage, Closed, openRefusals, closeRefusals, requestRefusals, Serve}
+use Rattle.rules.specs.Calls.Request.{Open, Close}
+use Rattle.rules.specs.Order.{IdInRange}
 use Rattle.rules.proofs.Says.{None, says-none}
-use Rattle.rules.proofs.Lists.{with-in, with-this, with-other, with-alone}
+use Rattle.rules.proofs.Lists.{reordered-in, reordered-back, in-append, in-left, in-right}
 use Rattle.rules.proofs.Choice.{closed-unique}
-use Rattle.rules.proofs.Encoding.{stored-unique}
 use Rattle.rules.proofs.Unique.{says-of-unique}
-use Rattle.order.proofs.Lawful.{open-lawful, closed-lawful}
-use Rattle.order.proofs.Calls.{says-on, taken}
+use Rattle.rules.proofs.Added.{new-route}
+use Rattle.model.proofs.Tests.{tests-known}
+use Rattle.model.proofs.Reading.{stable}
+use Rattle.order.proofs.Lawful.{made-stored}
+use Rattle.order.proofs.Calls.{of-stored, says-on, taken}
 use Rattle.promises.specs.Promises.{OnlyMoves, OpenAdds, CloseRemoves, CloseUndoesOpen}
 
--- what a done open is: the book, the new one, its row, and what was written
-pub record Done (image : List ℕ) (id source destination K : ℕ) (out : List ℕ) (len : ℕ) (out′ : List ℕ) : Type 0 where
+-- what a done request is: the book, what it made of it, and that this was written
+pub record Done (image : List ℕ) (q : Request) (size len : ℕ) (out′ : List ℕ) : Type 0 where
+  pub version : ℕ
   pub before : Book
   pub after : Book
-  pub row : Row
-  pub held : Stored image before
-  pub new : NewRow before id source destination K row
-  pub plus : Plus before row after
-  pub stored : Stored (take len out′) after
-  pub none : None (openRefusals id source destination K (length out) before)
+  pub held : Stored image version before
+  pub says : Says (requestRefusals (anyMiddle before) q size before) 0
+  pub made : Made (anyMiddle before) before q after
+  pub stored : Stored (take len out′) newest after
 
-pub opened : (image : List ℕ) (id source destination K : ℕ) (out : List ℕ) (len : ℕ) (out′ : List ℕ) → TwoBytes id → Open image id source destination K out 0 len out′ → Done image id source destination K out len out′
-opened image id source destination K out len out′ small h =
-    let (b, held, (c, (r, new, u), w)) = h .done refl in
-    let says = says-on image b (openRefusals id source destination K (length out)) 0 held (h .says) in
-    let none = says-none (openRefusals id source destination K (length out) b) (omega arith) says in
-    let lawful = open-lawful b (held .lawful) id source destination K (length out) small says c (r, new, u) in
-    record { before = b; after = c; row = r; held = held; new = new; plus = u; stored = record { lawful = lawful; bytes = taken w }; none = none }
+done : (image : List ℕ) (q : Request) (out : List ℕ) (len : ℕ) (out′ : List ℕ)
+    → ((b : Book) → LawfulBook b → Says (requestRefusals (anyMiddle b) q (length out) b) 0 → IdInRange q) → Serve image q out 0 len out′ → Done image q (length out) len out′
+done image q out len out′ small h =
+    let (bytes, (v, b, held, (c, g, e)), w) = h .done refl in
+    let says = says-on image v b (λ v b. requestRefusals (anyMiddle b) q (length out) b) 0 held (h .says) in
+    let stored = made-stored held (anyMiddle b) q (length out) (small b (held .lawful) says) says c g in
+    record { version = v; before = b; after = c; held = held; says = says; made = g; stored = subst (λ (s : List ℕ). Stored s newest c) (sym (taken w ∙ e)) stored }
+
+-- where no refusal applies to a close the id is there
+closing-known : (middle id size : ℕ) (b : Book) → Says (closeRefusals middle id size b) 0 → Known b id
+closing-known middle id size b h = stable (tests-known b id) (says-none (closeRefusals middle id size b) (omega arith) h .1 .0)
+
+-- an open adds a row at least
+new-some : {T : Topology} {middle : ℕ} {q : Asked} {ps : List (List ℕ)} (b : Book) (rs : List Row) → Planned T middle q ps → NewRows b q ps rs
+    → (r : Row) × (r ∈ rs) × (r .id ≡ q .id)
+new-some b [] (one g) n = absurd n
+new-some b (r ∷ rs) (one g) n = (r, inl refl, n .0 .named)
+
+module _ (image : List ℕ) (q : Asked) (out : List ℕ) (len : ℕ) (out′ : List ℕ) (small : TwoBytes (q .id)) (h : Serve image (Open q) out 0 len out′) where
+  opened : Done image (Open q) (length out) len out′
+  opened = done image (Open q) out len out′ (λ b l s. small) h
+
+  none-applies : None (openRefusals (anyMiddle (opened .before)) q (length out) (opened .before))
+  none-applies = says-none (openRefusals (anyMiddle (opened .before)) q (length out) (opened .before)) (omega arith) (opened .says)
+
+  new-named : (r : Row) → r ∈ opened .made .new → r .id ≡ q .id
+  new-named r m = new-route q (opened .before) (opened .made .routes) (opened .made .new) (opened .made .placed) r m .new .named
+
+  new-there : (r : Row) × (r ∈ opened .after .rows) × (r .id ≡ q .id)
+  new-there =
+      let t = new-some (opened .before) (opened .made .new) (opened .made .planned) (opened .made .placed) in
+      (t .0, reordered-back (t .0) (opened .made .plus .rows) (in-left (t .0) (opened .made .new) (opened .before .rows) (t .1)), t .2)
+
+  fresh : (r : Row) → r ∈ opened .before .rows → r .id ≡ q .id → ⊥
+  fresh r m e = none-applies .1 .1 .1 .1 .0 record { row = r; there = m; named = e }
+
+  only-added : OnlyMoves (q .id) (opened .before) (opened .after)
+  only-added = record {
+    site = opened .made .plus .site;
+    others = λ r f. (
+      λ m. reordered-back r (opened .made .plus .rows) (in-right r (opened .made .new) (opened .before .rows) m),
+      λ m. ⊎-elim (λ (k : r ∈ opened .made .new). absurd (f (new-named r k))) (λ (k : r ∈ opened .before .rows). k)
+          (in-append r (opened .made .new) (opened .before .rows) (reordered-in r (opened .made .plus .rows) m)),
+    );
+  }
+
+  -- without the new rows it is the book before
+  back : Closed (opened .after) (q .id) (opened .before)
+  back = record { gone = opened .made .new; of-id = new-named; none-left = fresh; rising = opened .held .lawful .rising; plus = opened .made .plus }
 
 pub open-adds : OpenAdds
-open-adds image id source destination K out len out′ small h =
-    let d = opened image id source destination K out len out′ small h in
-    let others : OnlyMoves id (d .before) (d .after) = record {
-      plan = d .plus .plan;
-      topology = d .plus .topology;
-      others = λ x f. (λ m. with-other x (d .plus .rows) m, λ m. ⊎-elim (λ (e : x ≡ d .row). absurd (f (ap (λ (v : Row). v .id) e ∙ d .new .named))) (λ k. k) (with-in x (d .plus .rows) m));
-    } in
-    (d .before, d .after, d .held, d .stored, others, λ x m e. d .none .1 .1 .1 .1 .0 record { row = x; there = m; named = e }, (d .row, with-this (d .plus .rows), d .new .named))
+open-adds image q out len out′ small h =
+    let d = opened image q out len out′ small h in (
+      d .before,
+      d .after,
+      record { version = d .version; before = d .held; after = d .stored; only = only-added image q out len out′ small h },
+      fresh image q out len out′ small h,
+      new-there image q out len out′ small h,
+    )
 
 pub close-removes : CloseRemoves
 close-removes image id out len out′ h =
-    let (b, held, (c, (r, e, u), w)) = h .done refl in
-    let lawful = closed-lawful b (held .lawful) id c (r, e, u) in
-    let others : OnlyMoves id b c = record {
-      plan = sym (u .plan);
-      topology = sym (u .topology);
-      others = λ x f. (λ m. ⊎-elim (λ (q : x ≡ r). absurd (f (ap (λ (v : Row). v .id) q ∙ e))) (λ k. k) (with-in x (u .rows) m), λ m. with-other x (u .rows) m);
-    } in
-    (b, c, held, record { lawful = lawful; bytes = taken w }, others, (r, with-this (u .rows), e), λ x m q. with-alone x (u .rows) (u .rising) m (q ∙ sym e))
+    (d .before, d .after, record { version = d .version; before = d .held; after = d .stored; only = only }, (k .row, k .there, k .named), d .made .none-left)
+  where
+    in-range : (b : Book) → LawfulBook b → Says (closeRefusals (anyMiddle b) id (length out) b) 0 → TwoBytes id
+    in-range b l s = let k = closing-known (anyMiddle b) id (length out) b s in omega (arith, l .rows (k .row) (k .there) .id-most, k .named)
+
+    d : Done image (Close id) (length out) len out′
+    d = done image (Close id) out len out′ in-range h
+
+    k : Known (d .before) id
+    k = closing-known (anyMiddle (d .before)) id (length out) (d .before) (d .says)
+
+    only : OnlyMoves id (d .before) (d .after)
+    only = record {
+      site = sym (d .made .plus .site);
+      others = λ r f. (
+        λ m. ⊎-elim (λ (g : r ∈ d .made .gone). absurd (f (d .made .of-id r g))) (λ (g : r ∈ d .after .rows). g)
+            (in-append r (d .made .gone) (d .after .rows) (reordered-in r (d .made .plus .rows) m)),
+        λ m. reordered-back r (d .made .plus .rows) (in-right r (d .made .gone) (d .after .rows) m),
+      );
+    }
+
+-- there is one version
+one-version : (v : ℕ) → Version v → v ≡ newest
+one-version v k = omega (arith, k .0, k .1)
 
 pub close-undoes-open : CloseUndoesOpen
-close-undoes-open image id source destination K out len out′ small h out₂ number len₂ out₂′ room k =
-    let d = opened image id source destination K out len out′ small h in
-    let back : Closed (d .after) id (d .before) = (d .row, d .new .named, d .plus) in
-    let says : Says (closeRefusals id (length out₂) (d .after)) 0 =
-    inr (
-      d .none .0,
-      inr (
-        λ f. f record { row = d .row; there = with-this (d .plus .rows); named = d .new .named },
-        inr (λ c. omega (arith, c .2, room, ap length (d .held .bytes), ap (λ (v : Book). length (encode v)) (closed-unique (d .after) id (c .0) (d .before) (c .1) back)), refl),
-      ),
-    )
-    in
-    let zero-said : number ≡ 0 = says-of-unique (take len out′) (closeRefusals id (length out₂)) number 0 (k .says) (inr (d .after, d .stored, says)) in
-    let (c, held, (b, closed, w)) = k .done zero-said in
-    let same = stored-unique (take len out′) c (d .after) held (d .stored) in
-    let one = closed-unique (d .after) id b (d .before) (subst (λ (v : Book). Closed v id b) same closed) back in
-    (zero-said, taken w ∙ ap encode one ∙ sym (d .held .bytes))
+close-undoes-open image q out len out′ small h out₂ number len₂ out₂′ room k = (zero-said, undone (k .done zero-said))
+  where
+    d : Done image (Open q) (length out) len out′
+    d = opened image q out len out′ small h
+
+    there : Closed (d .after) (q .id) (d .before)
+    there = back image q out len out′ small h
+
+    same : image ≡ encode newest (d .before)
+    same = d .held .bytes ∙ ap (λ (v : ℕ). encode v (d .before)) (one-version (d .version) (d .held .version))
+
+    says : Says (closeRefusals (anyMiddle (d .after)) (q .id) (length out₂) (d .after)) 0
+    says =
+        inr (
+          none-applies image q out len out′ small h .0,
+          inr (
+            λ f. let t = new-there image q out len out′ small h in f record { row = t .0; there = t .1; named = t .2 },
+            inr (
+              λ c. omega (arith, c .2, room, ap length same, ap (λ (b : Book). length (encode newest b)) (closed-unique (d .after) (q .id) (c .0) (d .before) (c .1) there)),
+              refl,
+            ),
+          ),
+        )
+
+    zero-said : number ≡ 0
+    zero-said =
+        says-of-unique (take len out′) (λ v b. closeRefusals (anyMiddle b) (q .id) (length out₂) b) number 0 (k .says) (inr (newest, d .after, d .stored, says))
+
+    undone : ((bytes : List ℕ) × OfBook (take len out′) (λ (v : ℕ) (b : Book). MadeImage (anyMiddle b) b (Close (q .id)) bytes) × Wrote bytes out₂ len₂ out₂′) → take len₂ out₂′ ≡ image
+    undone (bytes, o, w) =
+        let (b, closed, e) = of-stored {P = λ v b. MadeImage (anyMiddle b) b (Close (q .id)) bytes} (d .stored) o in
+        taken w ∙ e ∙ ap (encode newest) (closed-unique (d .after) (q .id) b (d .before) closed there) ∙ sym same

@@ -1,23 +1,16 @@
--- More rows never make room. Assumes nothing.
-use mathlib.Core.Path.{_≡_, sym, subst}
-use mathlib.Core.List.{List}
-use Prim.Native.Nat.{ℕ}
+-- More rows never make room.
+use mathlib.Core.Path.{sym, subst}
 use lib.ListN.{getD}
-use Rattle.rules.specs.Words.{_∈_}
-use Rattle.rules.specs.Tiles.{Plan}
-use Rattle.rules.specs.Topology.{Topology, hopCount, hopAt}
-use Rattle.rules.specs.Book.{Row, Book, Offsets, OnData, MeetsClashing}
-use Rattle.rules.specs.Placing.{Free, Placing, NoPlacing}
+use Rattle.rules.specs.Topology.{hopCount, hopAt}
+use Rattle.rules.specs.Book.{Site, Offsets, OnData, MeetsClashing}
 use Rattle.promises.specs.Promises.{MoreRowsNeverHelp}
 
 pub more-rows-never-help : MoreRowsNeverHelp
-more-rows-never-help b c K route p t f none offsets w =
+more-rows-never-help b c K route s f none offsets w =
     none offsets record {
-      offsets-hold = subst (λ (plan : Plan). Offsets (plan .slots) K (hopCount route) offsets) p (w .offsets-hold);
+      offsets-hold = subst (λ (site : Site). Offsets (site .plan .slots) K (hopCount route) offsets) s (w .offsets-hold);
       free = λ i l. record {
-        on-data = subst (λ (plan : Plan). OnData plan K (getD offsets i 0)) p (w .free i l .on-data);
-        never-meet = λ r m d. w .free i l .never-meet r (f r m)
-            (subst (λ (plan : Plan). MeetsClashing (c .topology) (plan .slots) r K (hopAt route i) (getD offsets i 0)) (sym p)
-            (subst (λ (T : Topology). MeetsClashing T (b .plan .slots) r K (hopAt route i) (getD offsets i 0)) (sym t) d));
+        on-data = subst (λ (site : Site). OnData (site .plan) K (getD offsets i 0)) s (w .free i l .on-data);
+        never-meet = λ r m d. w .free i l .never-meet r (f r m) (subst (λ (site : Site). MeetsClashing site r K (hopAt route i) (getD offsets i 0)) (sym s) d);
       };
     }

@@ -1,4 +1,4 @@
--- What a reader finds at its place, and where it goes on. Assumes nothing.
+-- What a reader finds at its place.
 use mathlib.Core.Path.{_≡_}
 use mathlib.Core.List.{List}
 use Prim.Native.Nat.{ℕ}
@@ -10,12 +10,3 @@ use Rattle.reader.specs.declared.Cut.the-variants.{Row, Nothing}
 abbrev pub CutAt : List ℕ → ℕ → Cut → Type 0
 CutAt s at (Row id next) = Whole s at × (id ≡ rowAt s at .id) × (next ≡ nextAt s at)
 CutAt s at Nothing = Whole s at → ⊥
-
--- the place after the row at a place, and where there is none the same place
-pub record After (s : List ℕ) (at next : ℕ) : Type 0 where
-  pub row : Whole s at → next ≡ nextAt s at
-  pub none : (Whole s at → ⊥) → next ≡ at
-
--- what is at the place after
-abbrev pub CutBehind : List ℕ → ℕ → Cut → Type 0
-CutBehind s at c = (next : ℕ) × After s at next × CutAt s next c

@@ -1,4 +1,4 @@
--- The walk down gives the planner's route, and there is one answer. Assumes nothing.
+-- The walk down gives the planner's route, and there is one answer.
 use mathlib.Core.Path.{_≡_, refl, sym, ap, _∙_, subst}
 use mathlib.Core.List.{List}
 use Prim.Native.Nat.{ℕ, _+_, _<_, _≤_}
@@ -8,58 +8,58 @@ use lib.ListN.{length, getD, take, replicate}
 use lib.Seq.{ext-getD, getD-take, length-take-le}
 use Rattle.rules.specs.Topology.{Topology, hopCount, mostRouteHops}
 use Rattle.rules.specs.Topology as rules
-use Rattle.rules.proofs.Ways.{NoWay, route-way, planned}
-use Rattle.rules.proofs.Choice.{route-unique}
+use Rattle.rules.proofs.Ways.{NoWay, no-path, planned}
+use Rattle.rules.proofs.Choice.{best-unique}
 use Rattle.routes.specs.declared.Reach.{Reach}
 use Rattle.routes.specs.declared.Reach.the-variants.{Found, NoRoute}
 use Rattle.routes.specs.declared.Planned.{Planned}
-use Rattle.routes.specs.Planner.{Asked, SaysRoute, SaysNone, Says, PlannerSays}
+use Rattle.routes.specs.Planner.{Asked, routePlaces, SaysRoute, SaysNone, Says, PlannerSays}
 use Rattle.routes.specs.Levels.{Reached, Descended}
 
-pub says-route : {T : Topology} {source z hops : ℕ} {sets chosen : List ℕ} → Asked T source z → Reached T source z hops sets → Descended T source z hops chosen
-    → SaysRoute T source z hops chosen
-says-route {T} {source} {z} {hops} a r d = record {
+pub says-route : {T : Topology} {middle source z hops : ℕ} {sets chosen : List ℕ} → Asked T source z → Reached T middle source z hops sets → Descended T middle source z hops chosen
+    → SaysRoute T middle source z hops chosen
+says-route {T} {middle} {source} {z} {hops} a r d = record {
   some = r .some;
   most = r .most;
   size = d .size;
-  route = rw (d .list) (planned T source z (a .apart) hops (d .rest) (r .some) (omega (arith, r .most)) (d .lowest) (λ j h l. r .there .nearest j l));
+  route = rw (d .list) (planned T middle source z (a .apart) mostRouteHops hops (d .rest) (r .some) (r .most) (d .lowest) (λ j h l. r .there .nearest j l));
   after = d .after;
 }
 
-pub says-none : {T : Topology} {source z : ℕ} → ((n : ℕ) → n ≤ mostRouteHops → NoWay T z n source) → SaysNone T source z 0 (replicate 16 0)
-says-none {T} {source} {z} f = record {
-  none = λ q g. let w = route-way T source z q g in f (hopCount q) (g .path .most) (w .0) (w .2);
+pub says-none : {T : Topology} {middle source z : ℕ} → ((n : ℕ) → n ≤ mostRouteHops → NoWay T middle z n source) → SaysNone T middle source z 0 (replicate routePlaces 0)
+says-none {T} {middle} {source} {z} f = record {
+  none = λ q g. no-path T middle source z q (f (hopCount q) (g .most)) (g .between);
   no-hops = refl;
   zeros = refl;
 }
 
 -- ONE ANSWER
-module _ {T : Topology} {source z : ℕ} where
-  one-hops : {h k : ℕ} {xs ys : List ℕ} → SaysRoute T source z h xs → SaysRoute T source z k ys → h ≡ k
+module _ {T : Topology} {middle source z : ℕ} where
+  one-hops : {h k : ℕ} {xs ys : List ℕ} → SaysRoute T middle source z h xs → SaysRoute T middle source z k ys → h ≡ k
   one-hops {h} {k} {xs} {ys} a b =
-      let e = ap length (route-unique T source z (take (h + 1) xs) (take (k + 1) ys) (a .route) (b .route)) in
+      let e = ap length (best-unique (a .route) (b .route)) in
       omega (arith, e, length-take-le (h + 1) xs (omega (arith, a .size, a .most)), length-take-le (k + 1) ys (omega (arith, b .size, b .most)))
 
-  one-route : {h : ℕ} {xs ys : List ℕ} → SaysRoute T source z h xs → SaysRoute T source z h ys → xs ≡ ys
+  one-route : {h : ℕ} {xs ys : List ℕ} → SaysRoute T middle source z h xs → SaysRoute T middle source z h ys → xs ≡ ys
   one-route {h} {xs} {ys} a b = ext-getD 0 xs ys (a .size ∙ sym (b .size)) (λ i l. at i (decLt i (h + 1)))
     where
       same : take (h + 1) xs ≡ take (h + 1) ys
-      same = route-unique T source z (take (h + 1) xs) (take (h + 1) ys) (a .route) (b .route)
+      same = best-unique (a .route) (b .route)
 
       at : (i : ℕ) → Dec (i < h + 1) → getD xs i 0 ≡ getD ys i 0
       at i (yes l) = sym (getD-take (h + 1) xs i 0 l) ∙ ap (λ (x : List ℕ). getD x i 0) same ∙ getD-take (h + 1) ys i 0 l
       at i (no l) = a .after i (omega arith) ∙ sym (b .after i (omega arith))
 
-module _ (T : Topology) (source z : ℕ) where
-  one-case : (c d : Reach) (h k : ℕ) (xs ys : List ℕ) → Says T source z c h xs → Says T source z d k ys → (c ≡ d) × (h ≡ k) × (xs ≡ ys)
+module _ (T : Topology) (middle source z : ℕ) where
+  one-case : (c d : Reach) (h k : ℕ) (xs ys : List ℕ) → Says T middle source z c h xs → Says T middle source z d k ys → (c ≡ d) × (h ≡ k) × (xs ≡ ys)
   one-case Found Found h k xs ys a b =
-      let e = one-hops a b in (refl, e, one-route a (subst (λ (x : ℕ). SaysRoute T source z x ys) (sym e) b))
-  one-case Found NoRoute h k xs ys a b = absurd (b .none (take (h + 1) xs) (a .route .between))
-  one-case NoRoute Found h k xs ys a b = absurd (a .none (take (k + 1) ys) (b .route .between))
+      let e = one-hops a b in (refl, e, one-route a (subst (λ (x : ℕ). SaysRoute T middle source z x ys) (sym e) b))
+  one-case Found NoRoute h k xs ys a b = absurd (b .none (take (h + 1) xs) (a .route .is))
+  one-case NoRoute Found h k xs ys a b = absurd (a .none (take (k + 1) ys) (b .route .is))
   one-case NoRoute NoRoute h k xs ys a b = (refl, a .no-hops ∙ sym (b .no-hops), a .zeros ∙ sym (b .zeros))
 
 -- two answers that the contract allows are equal
-pub planner-unique : (T : Topology) (source z : ℕ) (r s : Planned) → PlannerSays T source z r → PlannerSays T source z s → r ≡ s
-planner-unique T source z r s a b =
-    let e = one-case T source z (r .reach) (s .reach) (r .hops) (s .hops) (r .nodes) (s .nodes) a b in
+pub planner-unique : (T : Topology) (middle source z : ℕ) (r s : Planned) → PlannerSays T middle source z r → PlannerSays T middle source z s → r ≡ s
+planner-unique T middle source z r s a b =
+    let e = one-case T middle source z (r .reach) (s .reach) (r .hops) (s .hops) (r .nodes) (s .nodes) a b in
     λ i. record { reach = e .0 i; hops = e .1 i; nodes = e .2 i }

@@ -1,11 +1,11 @@
--- The neighbours of a set, gathered from the rows of its members in turn. Assumes nothing.
+-- The neighbours of a set, gathered from the rows of its members in turn.
 use mathlib.Core.Path.{_≡_, subst}
 use mathlib.Core.Logic.{_⊎_, inl, inr, ⊎-elim}
 use Prim.Native.Nat.{ℕ}
 use native.Mathlib.Omega.{arith}
 use lib.ListN.{getD}
 use Rattle.rules.specs.Words.{Has, NoBitFrom}
-use Rattle.rules.specs.Topology.{Topology, Linked}
+use Rattle.rules.specs.Topology.{Topology, Joined}
 use Rattle.bitset.specs.Sets.{SetOf, Lowest}
 use Rattle.bitset.proofs.Bits.{zero-none}
 use Rattle.bitset.proofs.Members.{lowest-or-rest}
@@ -17,7 +17,7 @@ pub record Gathering (T : Topology) (set around left : ℕ) : Type 0 where
   pub left-fits : NoBitFrom 64 left
   pub left-of : (a : ℕ) → Has left a → Has set a
   pub only : (b : ℕ) → Has around b → Neighbour T set b
-  pub all : (a b : ℕ) → Has set a → Linked T a b → Has left a ⊎ Has around b
+  pub all : (a b : ℕ) → Has set a → Joined T a b → Has left a ⊎ Has around b
 
 pub gather-none : (T : Topology) (set : ℕ) → NoBitFrom 64 set → Gathering T set 0 set
 gather-none T set h = record {
@@ -29,7 +29,7 @@ gather-none T set h = record {
 }
 
 pub gather-more : {T : Topology} {set around left a more less : ℕ} → Gathering T set around left → Lowest left a
-    → SetOf (λ (b : ℕ). Has around b ⊎ Has (getD (T .links) a 0) b) more → SetOf (λ (k : ℕ). Has left k × (Lowest left k → ⊥)) less
+    → SetOf (λ (b : ℕ). Has around b ⊎ Has (getD (T .rows) a 0) b) more → SetOf (λ (k : ℕ). Has left k × (Lowest left k → ⊥)) less
     → Gathering T set more less
 gather-more {T} {set} {around} {left} {a} {more} {less} g low u s = record {
   fits = u .fits;
@@ -39,8 +39,8 @@ gather-more {T} {set} {around} {left} {a} {more} {less} g low u s = record {
   all = λ k b i l. ⊎-elim (λ h. kept k b l (lowest-or-rest k low s h)) (λ h. inr (u .all b (inl h))) (g .all k b i l);
 }
   where
-    kept : (k b : ℕ) → Linked T k b → (k ≡ a) ⊎ Has less k → Has less k ⊎ Has more b
-    kept k b l (inl e) = inr (u .all b (inr (subst (λ (x : ℕ). Linked T x b) e l)))
+    kept : (k b : ℕ) → Joined T k b → (k ≡ a) ⊎ Has less k → Has less k ⊎ Has more b
+    kept k b l (inl e) = inr (u .all b (inr (subst (λ (x : ℕ). Joined T x b) e l)))
     kept k b l (inr h) = inl h
 
 pub gather-done : {T : Topology} {set around : ℕ} → Gathering T set around 0 → SetOf (Neighbour T set) around

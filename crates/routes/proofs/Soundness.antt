@@ -1,28 +1,28 @@
--- The rows of a topology, tested member by member. Assumes nothing.
+-- The rows of a topology, tested member by member.
 use mathlib.Core.Path.{_≡_, sym, subst}
 use mathlib.Core.Logic.{_⊎_, inl, inr, ⊎-elim}
 use Prim.Native.Nat.{ℕ, _<_, _≤_}
 use native.Mathlib.Omega.{arith}
 use lib.ListN.{getD}
 use Rattle.rules.specs.Words.{Has, NoBitFrom}
-use Rattle.rules.specs.Topology.{Topology, nodes, Linked, SoundTopology}
+use Rattle.rules.specs.Topology.{Topology, nodes, Joined, SoundTopology}
 use Rattle.bitset.specs.Sets.{SetOf, Lowest}
 use Rattle.bitset.proofs.Bits.{within, zero-none}
 use Rattle.bitset.proofs.Members.{lowest-or-rest, all-within}
 use Rattle.routes.specs.Rows.{SoundRow}
 
--- the links of a that are not left are right
+-- what the row of a has and is not left are right
 pub record Testing (T : Topology) (a left : ℕ) : Type 0 where
-  pub fits : NoBitFrom 64 (getD (T .links) a 0)
-  pub no-self : Linked T a a → ⊥
+  pub fits : NoBitFrom 64 (getD (T .rows) a 0)
+  pub no-self : Joined T a a → ⊥
   pub left-fits : NoBitFrom 64 left
-  pub left-of : (b : ℕ) → Has left b → Linked T a b
-  pub right : (b : ℕ) → Linked T a b → Has left b ⊎ ((b < nodes T) × Linked T b a)
+  pub left-of : (b : ℕ) → Has left b → Joined T a b
+  pub right : (b : ℕ) → Joined T a b → Has left b ⊎ ((b < nodes T) × Joined T b a)
 
-pub test-none : (T : Topology) (a : ℕ) → NoBitFrom 64 (getD (T .links) a 0) → (Linked T a a → ⊥) → Testing T a (getD (T .links) a 0)
+pub test-none : (T : Topology) (a : ℕ) → NoBitFrom 64 (getD (T .rows) a 0) → (Joined T a a → ⊥) → Testing T a (getD (T .rows) a 0)
 test-none T a h f = record { fits = h; no-self = f; left-fits = h; left-of = λ b l. l; right = λ b l. inl l }
 
-pub test-more : {T : Topology} {a left b less : ℕ} → Testing T a left → Lowest left b → b < nodes T → Linked T b a
+pub test-more : {T : Topology} {a left b less : ℕ} → Testing T a left → Lowest left b → b < nodes T → Joined T b a
     → SetOf (λ (k : ℕ). Has left k × (Lowest left k → ⊥)) less → Testing T a less
 test-more {T} {a} {left} {b} {less} t low k l s = record {
   fits = t .fits;
@@ -32,25 +32,25 @@ test-more {T} {a} {left} {b} {less} t low k l s = record {
   right = λ x h. ⊎-elim (λ i. seen x (lowest-or-rest x low s i)) (λ r. inr r) (t .right x h);
 }
   where
-    seen : (x : ℕ) → (x ≡ b) ⊎ Has less x → Has less x ⊎ ((x < nodes T) × Linked T x a)
-    seen x (inl e) = inr (subst (λ (y : ℕ). y < nodes T) (sym e) k, subst (λ (y : ℕ). Linked T y a) (sym e) l)
+    seen : (x : ℕ) → (x ≡ b) ⊎ Has less x → Has less x ⊎ ((x < nodes T) × Joined T x a)
+    seen x (inl e) = inr (subst (λ (y : ℕ). y < nodes T) (sym e) k, subst (λ (y : ℕ). Joined T y a) (sym e) l)
     seen x (inr h) = inl h
 
 pub test-done : {T : Topology} {a : ℕ} → Testing T a 0 → SoundRow T a
 test-done {T} {a} t = record {
-  low = all-within 64 (nodes T) (getD (T .links) a 0) (t .fits) (λ b l. right b l .0);
+  low = all-within 64 (nodes T) (getD (T .rows) a 0) (t .fits) (λ b l. right b l .0);
   no-self = t .no-self;
   both-ways = λ b k l. right b l .1;
 }
   where
-    right : (b : ℕ) → Linked T a b → (b < nodes T) × Linked T b a
+    right : (b : ℕ) → Joined T a b → (b < nodes T) × Joined T b a
     right b l = ⊎-elim (λ h. absurd (zero-none b h)) (λ r. r) (t .right b l)
 
 -- what a test that fails says of the row
 pub too-high : {T : Topology} {a left b : ℕ} → Testing T a left → Lowest left b → nodes T ≤ b → SoundRow T a → ⊥
-too-high {T} {a} {b = b} t low h s = omega (arith, within (nodes T) (getD (T .links) a 0) b (s .low) (t .left-of b (low .member)))
+too-high {T} {a} {b = b} t low h s = omega (arith, within (nodes T) (getD (T .rows) a 0) b (s .low) (t .left-of b (low .member)))
 
-pub one-way : {T : Topology} {a left b : ℕ} → Testing T a left → Lowest left b → b < nodes T → (Linked T b a → ⊥) → SoundRow T a → ⊥
+pub one-way : {T : Topology} {a left b : ℕ} → Testing T a left → Lowest left b → b < nodes T → (Joined T b a → ⊥) → SoundRow T a → ⊥
 one-way {b = b} t low h f s = f (s .both-ways b h (t .left-of b (low .member)))
 
 -- ALL ROWS

@@ -1,43 +1,69 @@
--- The nodes at each distance from the destination, and the walk down to it. Assumes nothing.
+-- The nodes at each distance from the destination, and the walk down to it.
 use mathlib.Core.Path.{_≡_}
+use mathlib.Core.Logic.{_⊎_}
 use mathlib.Core.List.{List, _∷_}
 use Prim.Native.Nat.{ℕ, _+_, _<_, _≤_}
 use lib.ListN.{length, getD, take}
 use Rattle.rules.specs.Words.{Has}
-use Rattle.rules.specs.Topology.{Topology, Linked, mostRouteHops}
-use Rattle.rules.proofs.Ways.{Way, LowestWay, NoWay}
+use Rattle.rules.specs.Topology.{Topology, Joined, mostRouteHops}
+use Rattle.rules.proofs.Ways.{MayStand, Way, LowestWay, NoWay}
 use Rattle.bitset.specs.Sets.{SetOf}
+use Rattle.routes.specs.Planner.{routePlaces}
 
 -- b is linked to a member of the set
 abbrev pub Neighbour : Topology → ℕ → ℕ → Type 0
-Neighbour T set b = (a : ℕ) × Has set a × Linked T a b
+Neighbour T set b = (a : ℕ) × Has set a × Joined T a b
 
 -- from a there is a way of n links to z, and none of fewer
-pub record Distance (T : Topology) (z n a : ℕ) : Type 0 where
+pub record Distance (T : Topology) (middle z n a : ℕ) : Type 0 where
   pub path : List ℕ
-  pub way : Way T z n a path
-  pub nearest : (j : ℕ) → j < n → NoWay T z j a
+  pub way : Way T middle z n a path
+  pub nearest : (j : ℕ) → j < n → NoWay T middle z j a
 
--- at each k below n the set of the nodes at distance k
-abbrev pub Levels : Topology → ℕ → ℕ → List ℕ → Type 0
-Levels T z n sets = (k : ℕ) → k < n → SetOf (Distance T z k) (getD sets k 0)
+-- a is at distance n, and a way may go on from it
+abbrev pub Stop : Topology → ℕ → ℕ → ℕ → ℕ → Type 0
+Stop T middle z n a = Distance T middle z n a × MayStand middle n a
+
+-- at each k below n the set of the stops at distance k
+abbrev pub Levels : Topology → ℕ → ℕ → ℕ → List ℕ → Type 0
+Levels T middle z n sets = (k : ℕ) → k < n → SetOf (Stop T middle z k) (getD sets k 0)
+
+-- unmet has the nodes that may stand in the middle and are farther than k
+pub record Unmet (T : Topology) (middle z k unmet : ℕ) : Type 0 where
+  pub only : (a : ℕ) → Has unmet a → Has middle a
+  pub farther : (a : ℕ) → Has unmet a → (j : ℕ) → j ≤ k → NoWay T middle z j a
+  pub all : (a : ℕ) → Has middle a → Has unmet a ⊎ ((j : ℕ) × (j ≤ k) × Distance T middle z j a)
+
+-- last has the stops at distance hops, unmet those that are farther, and the source is farther than that
+pub record Front (T : Topology) (middle source z hops last unmet : ℕ) : Type 0 where
+  pub level : SetOf (Stop T middle z hops) last
+  pub ahead : Unmet T middle z hops unmet
+  pub not-yet : (j : ℕ) → j ≤ hops → NoWay T middle z j source
 
 -- the source is at distance hops, and the levels below that are known
-pub record Reached (T : Topology) (source z hops : ℕ) (sets : List ℕ) : Type 0 where
+pub record Reached (T : Topology) (middle source z hops : ℕ) (sets : List ℕ) : Type 0 where
   pub some : 1 ≤ hops
   pub most : hops ≤ mostRouteHops
-  pub there : Distance T z hops source
-  pub levels : Levels T z hops sets
+  pub there : Distance T middle z hops source
+  pub levels : Levels T middle z hops sets
 
 -- what the search from the destination says: the hops, or 0 where there is no route
-pub record Searched (T : Topology) (source z hops : ℕ) (sets : List ℕ) : Type 0 where
-  pub yes : 1 ≤ hops → Reached T source z hops sets
-  pub no : hops ≡ 0 → (n : ℕ) → n ≤ mostRouteHops → NoWay T z n source
+pub record Searched (T : Topology) (middle source z hops : ℕ) (sets : List ℕ) : Type 0 where
+  pub yes : 1 ≤ hops → Reached T middle source z hops sets
+  pub no : hops ≡ 0 → (n : ℕ) → n ≤ mostRouteHops → NoWay T middle z n source
 
 -- the nodes that the walk down chose: the source, then the lowest way; 0 after them
-pub record Descended (T : Topology) (source z hops : ℕ) (chosen : List ℕ) : Type 0 where
-  pub size : length chosen ≡ 16
+pub record Descended (T : Topology) (middle source z hops : ℕ) (chosen : List ℕ) : Type 0 where
+  pub size : length chosen ≡ routePlaces
   pub rest : List ℕ
   pub list : take (hops + 1) chosen ≡ source ∷ rest
-  pub lowest : LowestWay T z hops source rest
+  pub lowest : LowestWay T middle z hops source rest
   pub after : (i : ℕ) → hops < i → getD chosen i 0 ≡ 0
+
+-- the levels are those over some set of middles
+abbrev pub ReachedBySome : Topology → ℕ → ℕ → ℕ → List ℕ → Type 0
+ReachedBySome T source z hops sets = (middle : ℕ) × Reached T middle source z hops sets
+
+-- what was chosen is the lowest way over each such set
+abbrev pub Descends : Topology → ℕ → ℕ → ℕ → List ℕ → List ℕ → Type 0
+Descends T source z hops sets chosen = (middle : ℕ) → Reached T middle source z hops sets → Descended T middle source z hops chosen

@@ -1,4 +1,4 @@
--- What the planner is asked, and what it says of the route. Assumes nothing.
+-- What the planner is asked, and what it says of the route.
 use mathlib.Core.Path.{_≡_}
 use mathlib.Core.List.{List}
 use Prim.Native.Nat.{ℕ, _+_, _<_, _≤_}
@@ -17,25 +17,29 @@ pub record Asked (T : Topology) (source destination : ℕ) : Type 0 where
   pub destination-known : destination < nodes T
   pub apart : source ≡ destination → ⊥
 
+-- the places for a route's nodes
+abbrev pub routePlaces : ℕ
+routePlaces = mostRouteHops + 1
+
 -- the first hops + 1 nodes are the planner's route, and 0 stands after them
-pub record SaysRoute (T : Topology) (source destination hops : ℕ) (chosen : List ℕ) : Type 0 where
+pub record SaysRoute (T : Topology) (middle source destination hops : ℕ) (chosen : List ℕ) : Type 0 where
   pub some : 1 ≤ hops
   pub most : hops ≤ mostRouteHops
-  pub size : length chosen ≡ 16
-  pub route : Route T source destination (take (hops + 1) chosen)
+  pub size : length chosen ≡ routePlaces
+  pub route : Route T middle source destination (take (hops + 1) chosen)
   pub after : (i : ℕ) → hops < i → getD chosen i 0 ≡ 0
 
 -- there is no route of at most 15 hops, and all is 0
-pub record SaysNone (T : Topology) (source destination hops : ℕ) (chosen : List ℕ) : Type 0 where
-  pub none : rules.NoRoute T source destination
+pub record SaysNone (T : Topology) (middle source destination hops : ℕ) (chosen : List ℕ) : Type 0 where
+  pub none : rules.NoRoute T middle source destination
   pub no-hops : hops ≡ 0
-  pub zeros : chosen ≡ replicate 16 0
+  pub zeros : chosen ≡ replicate routePlaces 0
 
 -- what each case says of the hops and the nodes
-abbrev pub Says : Topology → ℕ → ℕ → Reach → ℕ → List ℕ → Type 0
-Says T source destination Found hops chosen = SaysRoute T source destination hops chosen
-Says T source destination NoRoute hops chosen = SaysNone T source destination hops chosen
+abbrev pub Says : Topology → ℕ → ℕ → ℕ → Reach → ℕ → List ℕ → Type 0
+Says T middle source destination Found hops chosen = SaysRoute T middle source destination hops chosen
+Says T middle source destination NoRoute hops chosen = SaysNone T middle source destination hops chosen
 
 -- the planner's answer
-abbrev pub PlannerSays : Topology → ℕ → ℕ → Planned → Type 0
-PlannerSays T source destination r = Says T source destination (r .reach) (r .hops) (r .nodes)
+abbrev pub PlannerSays : Topology → ℕ → ℕ → ℕ → Planned → Type 0
+PlannerSays T middle source destination r = Says T middle source destination (r .reach) (r .hops) (r .nodes)

@@ -1,13 +1,15 @@
-// The planner's route: the shortest, and of several the one that comes first lexicographically.
+// The planner's route, over nodes that may stand in the middle: the shortest, and of several the one that comes first lexicographically.
 ghost use mathlib.Core.Path.{_≡_};
 ghost use Prim.Native.Nat.{ℕ, _<_};
 ghost use lib.ListN.{length};
 ghost use Rattle.rules.specs.Words.{Has};
+ghost use Rattle.rules.specs.Topology.{mostRouteHops};
 ghost use Rattle.bitset.specs.Sets.{SetOf};
-ghost use Rattle.routes.specs.Rows.{topology};
+ghost use Rattle.bitset.specs.Rows.{topology};
 ghost use Rattle.routes.specs.Planner.{Asked, PlannerSays};
-ghost use Rattle.routes.specs.Levels.{Neighbour, Reached, Searched, Descended};
+ghost use Rattle.routes.specs.Levels.{Neighbour, Searched, ReachedBySome, Descends};
 use rules::Node;
+use rules::ROUTE_HOPS;
 
 pub mod topology;
 
@@ -21,7 +23,7 @@ pub enum Reach {
 pub struct Planned {
     pub reach: Reach,
     pub hops: usize,
-    pub nodes: [u8; 16],
+    pub nodes: [u8; ROUTE_HOPS + 1],
 }
 
 // The nodes that are linked to a member of the set.
@@ -39,26 +41,32 @@ fn neighbours(links: &[u64], set: u64) -> u64
     around
 }
 
-// The hops from the source to the destination, 0 where there is no route; in sets the nodes at each lesser distance.
-fn search(links: &[u64], source: usize, destination: usize, sets: &mut [u64; 16]) -> usize
-    requires { ⌜ Asked (topology (now links)) source destination × (length (now sets) ≡ 16) ⌝ }
-    ensures { λ r. ⌜ Searched (topology (now (links .entry))) source destination r (now (sets .exit)) ⌝ }
+// The hops from the source to the destination, 0 where there is no route; in sets the stops at each lesser distance.
+fn search(
+    links: &[u64],
+    middle: u64,
+    source: usize,
+    destination: usize,
+    sets: &mut [u64; ROUTE_HOPS],
+) -> usize
+    requires { ⌜ Asked (topology (now links)) source destination × (length (now sets) ≡ mostRouteHops) ⌝ }
+    ensures { λ r. ⌜ Searched (topology (now (links .entry))) middle source destination r (now (sets .exit)) ⌝ }
 {
     let row = links[source];
     let mut last = bitset::insert(0, destination);
-    let mut near = last;
+    let mut unmet = bitset::difference(middle, last);
     let mut hops = 0;
-    while hops < 15 {
+    while hops < ROUTE_HOPS {
         sets[hops] = last;
         hops += 1;
         if bitset::intersection(row, last) != 0 {
             return hops;
         }
-        last = bitset::difference(neighbours(links, last), near);
+        last = bitset::intersection(neighbours(links, last), unmet);
         if last == 0 {
             return 0;
         }
-        near = bitset::union(near, last);
+        unmet = bitset::difference(unmet, last);
     }
     0
 }
@@ -66,15 +74,15 @@ fn search(links: &[u64], source: usize, destination: usize, sets: &mut [u64; 16]
 // The route of so many hops: from the source on, each time the lowest neighbour that is one link nearer.
 fn descend(
     links: &[u64],
-    sets: &[u64; 16],
+    sets: &[u64; ROUTE_HOPS],
     source: usize,
     destination: usize,
     hops: usize,
-) -> [u8; 16]
-    requires { ⌜ Asked (topology (now links)) source destination × Reached (topology (now links)) source destination hops (now sets) ⌝ }
-    ensures { λ r. ⌜ Descended (topology (now (links .entry))) source destination hops r ⌝ }
+) -> [u8; ROUTE_HOPS + 1]
+    requires { ⌜ Asked (topology (now links)) source destination × ReachedBySome (topology (now links)) source destination hops (now sets) ⌝ }
+    ensures { λ r. ⌜ Descends (topology (now (links .entry))) source destination hops (now (sets .entry)) r ⌝ }
 {
-    let mut nodes = [0u8; 16];
+    let mut nodes = [0u8; ROUTE_HOPS + 1];
     nodes[0] = source as u8;
     let mut node = source;
     let mut left = hops;
@@ -86,20 +94,20 @@ fn descend(
     nodes
 }
 
-// The planner's route from the source to the destination.
-pub fn plan(links: &[u64], source: Node, destination: Node) -> Planned
+// The planner's route from the source to the destination, with only members of the set in the middle.
+pub fn plan(links: &[u64], middle: u64, source: Node, destination: Node) -> Planned
     requires { ⌜ Asked (topology (now links)) (source .0) (destination .0) ⌝ }
-    ensures { λ r. ⌜ PlannerSays (topology (now (links .entry))) (source .0) (destination .0) r ⌝ }
+    ensures { λ r. ⌜ PlannerSays (topology (now (links .entry))) middle (source .0) (destination .0) r ⌝ }
 {
     let from = source.0 as usize;
     let to = destination.0 as usize;
-    let mut sets = [0u64; 16];
-    let hops = search(links, from, to, &mut sets);
+    let mut sets = [0u64; ROUTE_HOPS];
+    let hops = search(links, middle, from, to, &mut sets);
     if hops == 0 {
         return Planned {
             reach: Reach::NoRoute,
             hops: 0,
-            nodes: [0u8; 16],
+            nodes: [0u8; ROUTE_HOPS + 1],
         };
     }
     let nodes = descend(links, &sets, from, to, hops);

@@ -1,26 +1,27 @@
-// Whether rows are a topology: no bit from N up, no self-link, no one-way link.
+// Whether rows are a sound topology: no bit from N up, no node joined to itself, none one way.
 ghost use Prim.Native.Nat.{_<_};
 ghost use lib.ListN.{length};
 ghost use Rattle.rules.specs.Words.{Tests};
 ghost use Rattle.rules.specs.Topology.{NodesInRange, SoundTopology};
-ghost use Rattle.routes.specs.Rows.{topology, SoundRow};
+ghost use Rattle.bitset.specs.Rows.{topology};
+ghost use Rattle.routes.specs.Rows.{SoundRow};
 
 // Whether the row of a node is sound.
-fn row_sound(links: &[u64], node: usize) -> bool
-    requires { ⌜ NodesInRange (length (now links)) × (node < length (now links)) ⌝ }
-    ensures { λ r. ⌜ Tests r (SoundRow (topology (now (links .entry))) node) ⌝ }
+fn row_sound(rows: &[u64], node: usize) -> bool
+    requires { ⌜ NodesInRange (length (now rows)) × (node < length (now rows)) ⌝ }
+    ensures { λ r. ⌜ Tests r (SoundRow (topology (now (rows .entry))) node) ⌝ }
 {
-    let row = links[node];
+    let row = rows[node];
     if bitset::has(row, node) {
         return false;
     }
     let mut left = row;
     while left != 0 {
         let other = bitset::lowest(left);
-        if links.len() <= other {
+        if rows.len() <= other {
             return false;
         }
-        if !bitset::has(links[other], node) {
+        if !bitset::has(rows[other], node) {
             return false;
         }
         left = bitset::remove_lowest(left);
@@ -29,13 +30,13 @@ fn row_sound(links: &[u64], node: usize) -> bool
 }
 
 // Whether every row is sound.
-pub fn sound(links: &[u64]) -> bool
-    requires { ⌜ NodesInRange (length (now links)) ⌝ }
-    ensures { λ r. ⌜ Tests r (SoundTopology (topology (now (links .entry)))) ⌝ }
+pub fn sound(rows: &[u64]) -> bool
+    requires { ⌜ NodesInRange (length (now rows)) ⌝ }
+    ensures { λ r. ⌜ Tests r (SoundTopology (topology (now (rows .entry)))) ⌝ }
 {
     let mut node = 0;
-    while node < links.len() {
-        if !row_sound(links, node) {
+    while node < rows.len() {
+        if !row_sound(rows, node) {
             return false;
         }
         node += 1;

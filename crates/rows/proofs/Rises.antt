@@ -1,4 +1,4 @@
--- A row's offsets tested one by one. Assumes nothing.
+-- A row's offsets tested one by one.
 use mathlib.Core.Path.{_≡_, sym, subst}
 use Prim.Native.Nat.{ℕ, _+_, _*_, _<_, _≤_}
 use native.Mathlib.Omega.{arith}

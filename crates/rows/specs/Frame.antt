@@ -1,19 +1,19 @@
--- What is known of an image once its header was tested. Assumes nothing.
+-- What is known of an image once its header was tested.
 use mathlib.Core.Path.{_≡_}
 use mathlib.Core.List.{List}
 use Prim.Native.Nat.{ℕ}
 use lib.ListN.{length}
-use Rattle.rules.specs.Image.{nodesOf, streamsOf, hopsOf, imageLength, FieldsInRange, topologyOf}
+use Rattle.rules.specs.Image.{statedLength, FieldsInRange, linksOf}
 use Rattle.image.specs.Header.{HeaderOf}
 use Rattle.image.specs.declared.Book.{Book}
 
 -- each field is in its range, and the length is the one that the header gives
 pub record Framed (s : List ℕ) : Type 0 where
   pub fields : FieldsInRange s
-  pub size : length s ≡ imageLength (nodesOf s) (streamsOf s) (hopsOf s)
+  pub size : length s ≡ statedLength s
 
--- what was read of the image: its header, and its topology rows
+-- what was read of the image: its header, and its links
 pub record ReadFrom (s : List ℕ) (b : Book) (links : List ℕ) : Type 0 where
   pub framed : Framed s
   pub header : HeaderOf s b
-  pub links-are : links ≡ topologyOf s .links
+  pub links-are : links ≡ linksOf s .rows

@@ -1,21 +1,31 @@
--- Rows that stand one after the other in an image. Assumes nothing.
+-- Rows that stand one after the other in an image.
 use mathlib.Core.List.{List}
-use Prim.Native.Nat.{ℕ, zero, suc}
+use Prim.Native.Nat.{ℕ, zero, suc, _≤_}
 use Rattle.rules.specs.Words.{_∈_}
 use Rattle.rules.specs.Tiles.{Plan}
-use Rattle.rules.specs.Book.{Row, hops, Offsets, OnData, LawfulRow}
-use Rattle.rules.specs.Image.{planOf, topologyOf}
+use Rattle.rules.specs.Topology.{Topology, Path, mostRouteHops}
+use Rattle.rules.specs.Book.{Site, Row, hops, Offsets, OnData, LawfulRow}
+use Rattle.rules.specs.Image.{siteOf}
 use Rattle.image.specs.Places.{rowAt, nextAt, Whole}
+
+-- its route is one of at most 15 hops
+pub record RouteHolds (links : Topology) (r : Row) : Type 0 where
+  pub route : Path links (r .route)
+  pub most : hops r ≤ mostRouteHops
 
 -- the offsets of the row, of period K, are lawful
 pub record OffsetsHold (plan : Plan) (K : ℕ) (r : Row) : Type 0 where
   pub offsets : Offsets (plan .slots) K (hops r) (r .offsets)
   pub on-data : (o : ℕ) → o ∈ r .offsets → OnData plan K o
 
+-- the site by which a row is judged: its hearing has no say
+abbrev pub judging : Plan → Topology → Site
+judging plan links = record { plan = plan; links = links; hearing = links }
+
 -- a whole lawful row is at the place
 pub record RowStands (s : List ℕ) (at : ℕ) : Type 0 where
   pub whole : Whole s at
-  pub lawful : LawfulRow (planOf s) (topologyOf s) (rowAt s at)
+  pub lawful : LawfulRow (siteOf s) (rowAt s at)
 
 -- n lawful rows stand from the place on
 unfoldable pub RowsStand : List ℕ → ℕ → ℕ → Type 0

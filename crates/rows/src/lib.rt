@@ -1,28 +1,24 @@
-// Whether the rows of an image are lawful, rise by id, and fill it.
+// Whether the rows of an image are lawful, rise by key, and fill it.
 ghost use Prim.Native.Nat.{_≤_};
 ghost use lib.ListN.{length};
 ghost use Rattle.rules.specs.Words.{Tests};
 ghost use Rattle.rules.specs.Tiles.{periodAt, PlanInRange};
-ghost use Rattle.rules.specs.Topology.{Path};
 ghost use Rattle.rules.specs.Book.{LawfulRow};
 ghost use Rattle.rules.specs.Periods.{thePlan, InList};
 ghost use Rattle.rules.specs.Image.{RowsOf};
-ghost use Rattle.model.specs.Reading.{rowsIn};
+ghost use Rattle.rules.proofs.Reading.{rowsIn};
 ghost use Rattle.image.specs.Places.{rowAt, Whole};
-ghost use Rattle.clash.specs.Reach.{topology};
+ghost use Rattle.bitset.specs.Rows.{topology};
 ghost use Rattle.rows.specs.Frame.{ReadFrom};
-ghost use Rattle.rows.specs.Walk.{OffsetsHold};
+ghost use Rattle.rows.specs.Walk.{OffsetsHold, judging, RouteHolds};
 use image::Book;
 use rules::Place;
 use rules::Plan;
 
-// The set of all nodes.
-const EVERY_NODE: u64 = 0xffff_ffff_ffff_ffff;
-
 // Whether the row's route is one: 1 to 15 hops over distinct nodes, each linked to the next.
 fn route_holds(image: &[u8], at: usize, links: &[u64]) -> bool
     requires { ⌜ Whole (now image) at × (length (now links) ≤ 64) ⌝ }
-    ensures { λ r. ⌜ Tests r (Path (topology (now (links .entry))) (rowAt (now (image .entry)) at .route)) ⌝ }
+    ensures { λ r. ⌜ Tests r (RouteHolds (topology (now (links .entry))) (rowAt (now (image .entry)) at)) ⌝ }
 {
     let h = image::hops_at(image, at);
     if h < 1 {
@@ -32,7 +28,7 @@ fn route_holds(image: &[u8], at: usize, links: &[u64]) -> bool
         return false;
     }
     let mut seen: u64 = 0;
-    let mut next = EVERY_NODE;
+    let mut next = bitset::ALL;
     let mut i = 0;
     while i <= h {
         let node = image::node_at(image, at, i).0 as usize;
@@ -78,7 +74,7 @@ fn offsets_hold(image: &[u8], at: usize, plan: Plan, period: usize) -> bool
 // Whether the row at the place is lawful.
 pub fn row_holds(image: &[u8], at: usize, plan: Plan, links: &[u64]) -> bool
     requires { ⌜ Whole (now image) at × PlanInRange (thePlan plan) × (length (now links) ≤ 64) ⌝ }
-    ensures { λ r. ⌜ Tests r (LawfulRow (thePlan plan) (topology (now (links .entry))) (rowAt (now (image .entry)) at)) ⌝ }
+    ensures { λ r. ⌜ Tests r (LawfulRow (judging (thePlan plan) (topology (now (links .entry)))) (rowAt (now (image .entry)) at)) ⌝ }
 {
     if image::id_at(image, at) == 0 {
         return false;

@@ -1,4 +1,4 @@
--- A placing exists exactly if the greedy one does, and then the greedy one is the first. Assumes nothing.
+-- A placing exists exactly if the greedy one does, and then the greedy one is the first.
 use mathlib.Core.Path.{_≡_, refl, sym, ap, subst}
 use mathlib.Core.Logic.{_⊎_, inl, inr, ⊎-elim, _↔_}
 use mathlib.Core.List.{List, [], _∷_}
@@ -157,7 +157,7 @@ module _ (b : Book) (K : ℕ) (route : List ℕ) where
   FreeAt i o = Free b K (hopAt route i) o
 
   abbrev pub bound : ℕ
-  bound = K * b .plan .slots
+  bound = K * b .site .plan .slots
 
   pub placing-places : (os : List ℕ) → Placing b K route os → Places FreeAt bound (hopCount route) 0 0 os
   placing-places os p =

@@ -1,5 +1,8 @@
 pub mod Tests
 pub mod Lists
+pub mod Sets
+pub mod Middles
+pub mod Ways
 pub mod Says
 pub mod Choice
 pub mod Encoding
@@ -12,6 +15,12 @@ pub mod Periods
 pub mod Plans
 pub mod Bytes
 pub mod Greedy
-pub mod Ways
 pub mod Clashes
 pub mod Numbers
+pub mod Reading
+pub mod Sums
+pub mod Counts
+pub mod Slots
+pub mod Balances
+pub mod Added
+pub mod Hearing

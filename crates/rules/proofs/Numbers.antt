@@ -1,10 +1,11 @@
--- The refusals of each call stand in document 01's order. Assumes nothing.
+-- The refusals of each call stand in document 01's order.
 use mathlib.Core.Path.{_≡_, refl}
 use mathlib.Core.List.{List, [], _∷_}
 use Prim.Native.Nat.{ℕ}
 use Rattle.rules.specs.Says.{Refusal}
 use Rattle.rules.specs.Tiles.{Plan}
 use Rattle.rules.specs.Book.{Book}
+use Rattle.rules.specs.Placing.{Asked}
 use Rattle.rules.specs.Image.{imageRefusals}
 use Rattle.rules.specs.Calls.{newRefusals, checkRefusals, rewriteRefusals, openRefusals, closeRefusals, expandRefusals, balanceRefusals}
 
@@ -15,22 +16,22 @@ numbers (r ∷ rs) = r .number ∷ numbers rs
 -- image; then open, close, rewrite, expand, balance; new book
 pub record InOrder : Type 0 where
   pub image : (s : List ℕ) → numbers (imageRefusals s) ≡ 14 ∷ 13 ∷ 10 ∷ 14 ∷ 11 ∷ 15 ∷ 16 ∷ []
-  pub opens : (id source destination K room : ℕ) (b : Book) → numbers (openRefusals id source destination K room b) ≡ 1 ∷ 4 ∷ 5 ∷ 6 ∷ 2 ∷ 7 ∷ 8 ∷ 9 ∷ 12 ∷ []
-  pub closes : (id room : ℕ) (b : Book) → numbers (closeRefusals id room b) ≡ 1 ∷ 3 ∷ 12 ∷ []
-  pub rewrites : (room : ℕ) (b : Book) → numbers (rewriteRefusals room b) ≡ 12 ∷ []
-  pub expands : (node room : ℕ) (b : Book) → numbers (expandRefusals node room b) ≡ 4 ∷ 12 ∷ []
-  pub balances : (node : ℕ) (b : Book) → numbers (balanceRefusals node b) ≡ 4 ∷ []
+  pub opens : (middle : ℕ) (q : Asked) (room : ℕ) (b : Book) → numbers (openRefusals middle q room b) ≡ 1 ∷ 4 ∷ 5 ∷ 6 ∷ 2 ∷ 7 ∷ 8 ∷ 9 ∷ 12 ∷ []
+  pub closes : (middle id room : ℕ) (b : Book) → numbers (closeRefusals middle id room b) ≡ 1 ∷ 3 ∷ 12 ∷ []
+  pub rewrites : (room v : ℕ) (b : Book) → numbers (rewriteRefusals room v b) ≡ 12 ∷ []
+  pub expands : (node room v : ℕ) (b : Book) → numbers (expandRefusals node room v b) ≡ 4 ∷ 12 ∷ []
+  pub balances : (node v : ℕ) (b : Book) → numbers (balanceRefusals node v b) ≡ 4 ∷ []
   pub news : (plan : Plan) (N : ℕ) (links : List ℕ) (room : ℕ) → numbers (newRefusals plan N links room) ≡ 10 ∷ 11 ∷ 12 ∷ []
-  pub checks : (b : Book) → numbers (checkRefusals b) ≡ []
+  pub checks : (v : ℕ) (b : Book) → numbers (checkRefusals v b) ≡ []
 
 pub in-order : InOrder
 in-order = record {
   image = λ s. refl;
-  opens = λ id source destination K room b. refl;
-  closes = λ id room b. refl;
-  rewrites = λ room b. refl;
-  expands = λ node room b. refl;
-  balances = λ node b. refl;
+  opens = λ middle q room b. refl;
+  closes = λ middle id room b. refl;
+  rewrites = λ room v b. refl;
+  expands = λ node room v b. refl;
+  balances = λ node v b. refl;
   news = λ plan N links room. refl;
-  checks = λ b. refl;
+  checks = λ v b. refl;
 }

@@ -1,4 +1,4 @@
--- The tables of periods, repeats and divisors say what the rules mean. Assumes nothing.
+-- The tables of periods, repeats and divisors say what the rules mean.
 use mathlib.Core.Path.{_≡_, sym, ap, _∙_, subst}
 use mathlib.Core.Logic.{_⊎_, inl, inr, ⊎-elim, _↔_}
 use mathlib.Core.Bool.{Bool, true}
@@ -10,7 +10,9 @@ use lib.Dec.{T, eqb, leb, eqb→eq, leb→le}
 use lib.ListN.{length, getD}
 use Rattle.rules.specs.Words.{_∈_, Tests}
 use Rattle.rules.specs.Tiles.{periods, periodAt, Period, repeats, cycleTiles, Meet}
-use Rattle.rules.specs.Periods.{InList, Divisor, Modulus}
+use Rattle.rules.specs.Periods.{InList, PlaceOf, Divisor, Modulus}
+use Rattle.rules.specs.declared.Place.{Place}
+use Rattle.rules.specs.declared.Place.the-variants.{At, Nowhere}
 use Rattle.rules.proofs.Every.{both, both-left, both-right, every, at}
 use Rattle.rules.proofs.Tests.{alike, tests-eq}
 use Rattle.rules.proofs.Meeting.{in-at, divisorOf, divisor-of, meet-iff}
@@ -86,3 +88,10 @@ meet-tests S i o j p m s hi hj ho hp w =
     alike (tests-eq (o % m) (p % m))
     (λ e. r .1 (subst (λ (x : ℕ). o % x ≡ p % x) (w .whole) e))
     (λ q. subst (λ (x : ℕ). o % x ≡ p % x) (sym (w .whole)) (r .0 q))
+
+-- where the place of a period was found, and where it was not
+pub found-at : {K i : ℕ} {p : Place} → PlaceOf K p → p ≡ At i → InList i × (periodAt i ≡ K)
+found-at {K} h e = subst (PlaceOf K) e h
+
+pub found-nowhere : {K : ℕ} {p : Place} → PlaceOf K p → p ≡ Nowhere → Period K → ⊥
+found-nowhere {K} h e = subst (PlaceOf K) e h

@@ -1,4 +1,4 @@
--- The control slots of a tile, and offsets on data slots in all repeats. Assumes nothing.
+-- The control slots of a tile, and offsets on data slots in all repeats.
 use mathlib.Core.Path.{_≡_, refl, sym, ap, _∙_, subst}
 use mathlib.Core.Logic.{_⊎_, inl, inr}
 use mathlib.Core.Bool.{Bool, true, false, cond}

@@ -1,12 +1,14 @@
--- Tests of facts joined, turned round, and of two numbers. Assumes nothing.
-use mathlib.Core.Path.{_≡_, refl, sym, _∙_}
+-- Tests of facts joined, turned round, of two numbers, of all below a number and of the members of a list.
+use mathlib.Core.Path.{_≡_, refl, sym, _∙_, subst}
 use mathlib.Core.Logic.{_⊎_, inl, inr, ⊎-elim}
 use mathlib.Core.Bool.{Bool, true, false, not, _&&_, _||_}
-use Prim.Native.Nat.{ℕ, _<_, _≤_}
+use mathlib.Core.List.{List, [], _∷_}
+use Prim.Native.Nat.{ℕ, zero, suc, _<_, _≤_}
 use native.Mathlib.Omega.{arith}
+use native.Mathlib.Nat.{eq-or-lt-of-le, le-of-suc-le-suc, le-refl, le-trans, le-suc}
 use borrow.Author.Tests.{ltb-true, leb-true, eqb-true, lt-ltb, le-leb, eq-eqb}
 use lib.Dec.{eqb, leb, ltb}
-use Rattle.rules.specs.Words.{Tests}
+use Rattle.rules.specs.Words.{_∈_, Tests}
 
 pub never : {A : Type 0} → false ≡ true → A
 never e = let z : _≡_ {A = ℕ} 0 1 = cc in absurd (omega arith)
@@ -50,3 +52,60 @@ said-yes p = record { yes = λ e. p; back = λ q. refl }
 
 pub said-no : {P : Type 0} → (P → ⊥) → Tests false P
 said-no f = record { yes = λ e. never e; back = λ p. absurd (f p) }
+
+-- a part of Q that failed is a test of Q
+pub part-failed : {t : Bool} {P Q : Type 0} → Tests t P → t ≡ false → (Q → P) → Tests t Q
+part-failed a e f = record { yes = λ y. never (sym e ∙ y); back = λ q. a .back (f q) }
+
+-- where P failed, Q is the test of both
+pub other-part : {t u : Bool} {P Q : Type 0} → Tests t P → t ≡ false → Tests u Q → Tests u (P ⊎ Q)
+other-part a e b = alike b (λ q. inr q) (λ h. ⊎-elim (λ p. absurd (fails a e p)) (λ q. q) h)
+
+-- ALL AND SOME
+-- the test passes at every number below n, and at some number
+abbrev pub allBelow : ℕ → (ℕ → Bool) → Bool
+allBelow zero f = true
+allBelow (suc n) f = f n && allBelow n f
+
+abbrev pub someBelow : ℕ → (ℕ → Bool) → Bool
+someBelow zero f = false
+someBelow (suc n) f = f n || someBelow n f
+
+-- the test passes at every member, and at some member
+abbrev pub allOf : {A : Type 0} → (A → Bool) → List A → Bool
+allOf f [] = true
+allOf f (x ∷ xs) = f x && allOf f xs
+
+abbrev pub someOf : {A : Type 0} → (A → Bool) → List A → Bool
+someOf f [] = false
+someOf f (x ∷ xs) = f x || someOf f xs
+
+module _ {P : ℕ → Type 0} (f : ℕ → Bool) (h : (i : ℕ) → Tests (f i) (P i)) where
+  pub tests-all : (n : ℕ) → Tests (allBelow n f) ((i : ℕ) → i < n → P i)
+  tests-all zero = record { yes = λ e i l. absurd (omega arith); back = λ g. refl }
+  tests-all (suc n) =
+      alike (tests-and (h n) (tests-all n))
+      (λ p i l. ⊎-elim (λ (e : i ≡ n). subst P (sym e) (p .0)) (λ (m : i < n). p .1 i m) (eq-or-lt-of-le (le-of-suc-le-suc l)))
+      (λ g. (g n (le-refl (suc n)), λ i l. g i (le-trans l (le-suc n))))
+
+  pub tests-some : (n : ℕ) → Tests (someBelow n f) ((i : ℕ) × (i < n) × P i)
+  tests-some zero = record { yes = λ e. never e; back = λ p. absurd (omega (arith, p .1)) }
+  tests-some (suc n) =
+      alike (tests-or (h n) (tests-some n))
+      (λ p. ⊎-elim (λ q. (n, le-refl (suc n), q)) (λ q. (q .0, le-trans (q .1) (le-suc n), q .2)) p)
+      (λ p. ⊎-elim (λ (e : p .0 ≡ n). inl (subst P e (p .2))) (λ (m : p .0 < n). inr (p .0, m, p .2)) (eq-or-lt-of-le (le-of-suc-le-suc (p .1))))
+
+module _ {A : Type 0} {P : A → Type 0} (f : A → Bool) (h : (x : A) → Tests (f x) (P x)) where
+  pub tests-member : (xs : List A) → Tests (someOf f xs) ((x : A) × (x ∈ xs) × P x)
+  tests-member [] = record { yes = λ e. never e; back = λ p. absurd (p .1) }
+  tests-member (y ∷ ys) =
+      alike (tests-or (h y) (tests-member ys))
+      (λ p. ⊎-elim (λ q. (y, inl refl, q)) (λ q. (q .0, inr (q .1), q .2)) p)
+      (λ p. ⊎-elim (λ (e : p .0 ≡ y). inl (subst P e (p .2))) (λ (m : p .0 ∈ ys). inr (p .0, m, p .2)) (p .1))
+
+  pub tests-every : (xs : List A) → Tests (allOf f xs) ((x : A) → x ∈ xs → P x)
+  tests-every [] = record { yes = λ e x m. absurd m; back = λ p. refl }
+  tests-every (y ∷ ys) =
+      alike (tests-and (h y) (tests-every ys))
+      (λ p x m. ⊎-elim (λ (e : x ≡ y). subst P (sym e) (p .0)) (λ (k : x ∈ ys). p .1 x k) m)
+      (λ g. (g y (inl refl), λ x m. g x (inr m)))

@@ -1,4 +1,4 @@
--- Words about numbers and lists that every section uses. Assumes nothing.
+-- Words about numbers and lists that every section uses.
 use mathlib.Core.Path.{_≡_}
 use mathlib.Core.Logic.{_⊎_}
 use mathlib.Core.Bool.{Bool, true}

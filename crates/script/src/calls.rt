@@ -2,6 +2,7 @@
 ghost use Prim.Native.Nat.{_≤_};
 ghost use lib.ListN.{length};
 use answers::Answer;
+use rules::Asked;
 use rules::Node;
 use rules::Plan;
 use rules::Slot;
@@ -106,7 +107,13 @@ fn call_on(kind: Kind, values: [u16; 7], image: &[u8], out: &mut [u8]) -> Answer
     if let Kind::Open = kind {
         let from = node(values[1]);
         let to = node(values[2]);
-        return planner::open_stream(image, values[0], from, to, Tile(values[3]), out);
+        let asked = Asked {
+            id: values[0],
+            source: from,
+            destination: to,
+            period: Tile(values[3]),
+        };
+        return planner::open_stream(image, asked, out);
     }
     if let Kind::Close = kind {
         return planner::close_stream(image, values[0], out);

@@ -1,60 +1,73 @@
--- A table without streams has control slots and sleep. Assumes nothing.
-use mathlib.Core.Path.{_≡_, refl, sym, ap, _∙_, subst}
+-- A table without streams: sleep everywhere, and over it the control slots of each tile.
+use mathlib.Core.Path.{_≡_, refl, sym, ap, _∙_, subst, subst₂}
 use mathlib.Core.Logic.{_⊎_, inl, inr}
-use mathlib.Core.Bool.{Bool, cond}
 use mathlib.Core.List.{List}
-use Prim.Native.Nat.{ℕ, _+_, _*_, _/_, _%_, _-_, _<_}
+use Prim.Native.Nat.{ℕ, _+_, _*_, _/_, _%_, _-_, _<_, _≤_}
 use native.Mathlib.Decide.{decLt}
 use native.Mathlib.Omega.{arith}
-use borrow.Author.Tests.{lt-ltb, le-ltb}
+use native.Mathlib.Nat.{le-antisymm}
 use lib.Arith.{digits-mod, digits-div}
-use lib.Dec.{ltb}
-use Rattle.rules.specs.Tiles.{Plan, controlSlots}
-use Rattle.tables.specs.Entries.{Over, TileEntry, Idle, IdleBelow}
+use Rattle.rules.specs.Tiles.{Plan, cycleTiles, cycleSlots, controlSlots, Control}
+use Rattle.tables.specs.Entries.{Now, Over, Stretch, Idle, ControlBelow}
+use Rattle.tables.specs.Entries.Now.{given, kept}
 use Rattle.tables.specs.Entries.Idle.{sleeps, controls}
 use Rattle.tables.proofs.Writing.{Gives, over-none, over-then}
 
-pub blank-none : {plan : Plan} {n : ℕ} {out : List ℕ} → Over n (IdleBelow plan 0) out out
-blank-none = over-none (λ s o i h. omega (arith, h .below))
+pub control-none : {plan : Plan} {n : ℕ} {out : List ℕ} → Over n (ControlBelow plan 0) out out
+control-none = over-none (λ s o i h. omega (arith, h .below))
 
 -- a tile more
 module _ (plan : Plan) (tile start control : ℕ) (e : start ≡ tile * plan .slots) (f : control ≡ controlSlots plan tile) where
   module _ (place : ℕ) (l : place < plan .slots) where
-    in-tile : (start + place) / plan .slots ≡ tile
-    in-tile = ap (λ (x : ℕ). (x + place) / plan .slots) e ∙ digits-div tile l
-
     in-place : (start + place) % plan .slots ≡ place
     in-place = ap (λ (x : ℕ). (x + place) % plan .slots) e ∙ digits-mod tile l
 
     its-control : controlSlots plan ((start + place) / plan .slots) ≡ control
-    its-control = ap (controlSlots plan) in-tile ∙ sym f
+    its-control = ap (controlSlots plan) (ap (λ (x : ℕ). (x + place) / plan .slots) e ∙ digits-div tile l) ∙ sym f
 
-    idle-at : (operation : ℕ) → operation ≡ cond (ltb place control) 5 0 → Idle plan (start + place) operation 0
-    idle-at operation q = go (decLt place control)
-      where
-        go : Dec (place < control) → Idle plan (start + place) operation 0
-        go (yes h) = subst (λ (o : ℕ). Idle plan (start + place) o 0) (sym (q ∙ ap (λ (t : Bool). cond t 5 0) (lt-ltb place control h))) (controls (omega (arith, in-place, its-control)))
-        go (no h) = subst (λ (o : ℕ). Idle plan (start + place) o 0) (sym (q ∙ ap (λ (t : Bool). cond t 5 0) (le-ltb place control (omega arith)))) (sleeps (omega (arith, in-place, its-control)))
-
-  blank-more : {n : ℕ} {old mid new : List ℕ} → Over n (IdleBelow plan start) old mid → Over n (TileEntry start control (plan .slots)) mid new
-      → Over n (IdleBelow plan (start + plan .slots)) old new
-  blank-more a b = over-then a b (λ s o i h. record { below = omega (arith, h .below); idle = h .idle }) now back
+  control-tile : {n : ℕ} {old mid new : List ℕ} → control ≤ plan .slots → Over n (ControlBelow plan start) old mid → Over n (Stretch start 5 control) mid new
+      → Over n (ControlBelow plan (start + plan .slots)) old new
+  control-tile few a b =
+      over-then a b (λ s o i h. record { below = omega (arith, h .below); control = h .control; operation-is = h .operation-is; id-is = h .id-is }) now back
     where
-      now : (s o i : ℕ) → TileEntry start control (plan .slots) s o i → IdleBelow plan (start + plan .slots) s o i
-      now s o i h = record {
-        below = omega (arith, h .within, h .slot-is);
-        idle = subst (λ (x : ℕ). Idle plan x o i) (sym (h .slot-is)) (subst (λ (x : ℕ). Idle plan (start + h .turn) o x) (sym (h .id-is)) (idle-at (h .turn) (h .within) o (h .operation-is)));
-      }
+      now : (s o i : ℕ) → Stretch start 5 control s o i → ControlBelow plan (start + plan .slots) s o i
+      now s o i h =
+          let l : h .turn < plan .slots = omega (arith, h .within) in
+          record {
+            below = omega (arith, h .slot-is);
+            control = subst (Control plan) (sym (h .slot-is)) (omega (arith, in-place (h .turn) l, its-control (h .turn) l, h .within));
+            operation-is = h .operation-is;
+            id-is = h .id-is;
+          }
 
-      back : (s o i : ℕ) → IdleBelow plan (start + plan .slots) s o i → Gives (IdleBelow plan start) s ⊎ Gives (TileEntry start control (plan .slots)) s
+      back : (s o i : ℕ) → ControlBelow plan (start + plan .slots) s o i → Gives (ControlBelow plan start) s ⊎ Gives (Stretch start 5 control) s
       back s o i h = go (decLt s start)
         where
-          go : Dec (s < start) → Gives (IdleBelow plan start) s ⊎ Gives (TileEntry start control (plan .slots)) s
-          go (yes l) = inl (o, i, record { below = l; idle = h .idle })
+          go : Dec (s < start) → Gives (ControlBelow plan start) s ⊎ Gives (Stretch start 5 control) s
+          go (yes l) = inl (o, i, record { below = l; control = h .control; operation-is = h .operation-is; id-is = h .id-is })
           go (no l) =
-              inr (cond (ltb (s - start) control) 5 0, 0, record { turn = s - start; within = omega (arith, h .below); slot-is = omega arith; operation-is = refl; id-is = refl })
+              let q : s ≡ start + (s - start) = omega arith in
+              let m : s - start < plan .slots = omega (arith, h .below) in
+              let c = subst (Control plan) q (h .control) in
+              inr (5, 0, record { turn = s - start; within = omega (arith, c, in-place (s - start) m, its-control (s - start) m); slot-is = q; operation-is = refl; id-is = refl })
 
-  pub blank-step : {n slots : ℕ} {old mid new : List ℕ} → slots ≡ plan .slots → Over n (IdleBelow plan start) old mid → Over n (TileEntry start control slots) mid new
-      → Over n (IdleBelow plan (start + slots)) old new
-  blank-step {n} {old} {mid} {new} g a b =
-      subst (λ (x : ℕ). Over n (IdleBelow plan (start + x)) old new) (sym g) (blank-more a (subst (λ (x : ℕ). Over n (TileEntry start control x) mid new) g b))
+  pub control-more : {n slots : ℕ} {old mid new : List ℕ} → slots ≡ plan .slots → control ≤ plan .slots → Over n (ControlBelow plan start) old mid
+      → Over n (Stretch start 5 control) mid new → Over n (ControlBelow plan (start + slots)) old new
+  control-more {n} {old} {new} g few a b = subst (λ (x : ℕ). Over n (ControlBelow plan (start + x)) old new) (sym g) (control-tile few a b)
+
+-- all tiles over sleep
+blank-all : {plan : Plan} {n : ℕ} {old mid new : List ℕ} → Over n (Stretch 0 0 n) old mid → Over n (ControlBelow plan n) mid new → Over n (Idle plan) old new
+blank-all {plan} {n} {old} {mid} {new} a b = record { entries = λ slot l. both slot l (a .entries slot l) (b .entries slot l); beyond = b .beyond ∙ a .beyond }
+  where
+    both : (slot : ℕ) → slot < n → Now (Stretch 0 0 n) old mid slot → Now (ControlBelow plan n) mid new slot → Now (Idle plan) old new slot
+    both slot l x (given y q) = given (subst₂ (Idle plan slot) (sym (y .operation-is)) (sym (y .id-is)) (controls (y .control))) q
+    both slot l (given x p) (kept f q) =
+        let none : slot % plan .slots < controlSlots plan (slot / plan .slots) → ⊥ = λ c. f 5 0 record { below = l; control = c; operation-is = refl; id-is = refl } in
+        given (subst₂ (Idle plan slot) (sym (x .operation-is)) (sym (x .id-is)) (sleeps (omega arith))) (q ∙ p)
+    both slot l (kept g p) (kept f q) = absurd (g 0 0 record { turn = slot; within = l; slot-is = omega arith; operation-is = refl; id-is = refl })
+
+pub blank-done : {plan : Plan} {len tile start : ℕ} {old mid new : List ℕ} → len ≡ cycleSlots plan → tile ≤ cycleTiles → cycleTiles ≤ tile → start ≡ tile * plan .slots
+    → ((n : ℕ) → 0 + len ≤ n → Over n (Stretch 0 0 len) old mid) → Over (cycleSlots plan) (ControlBelow plan start) mid new → Over (cycleSlots plan) (Idle plan) old new
+blank-done {plan} {old} {mid} {new} e l m f a b =
+    blank-all (subst (λ (x : ℕ). Over (cycleSlots plan) (Stretch 0 0 x) old mid) e (a (cycleSlots plan) (omega (arith, e))))
+    (subst (λ (x : ℕ). Over (cycleSlots plan) (ControlBelow plan x) mid new) (f ∙ ap (λ (t : ℕ). t * plan .slots) (le-antisymm l m)) b)

@@ -1,11 +1,13 @@
--- Over the rows of an image: the entries written and those left are the whole. Assumes nothing.
+-- Over the rows of an image: the entries written and those left are the whole.
 use mathlib.Core.Path.{_≡_, sym, subst}
 use mathlib.Core.List.{List}
 use Prim.Native.Nat.{ℕ, _-_, _<_, _≤_}
 use Rattle.rules.specs.Tiles.{cycleSlots}
-use Rattle.rules.specs.Book.{Row, hops}
-use Rattle.rules.specs.Image.{planOf, nodesOf, streamsOf, rowsStart}
-use Rattle.model.specs.Reading.{rowsIn}
+use Rattle.rules.specs.Book.{Row}
+use Rattle.rules.specs.Image.{planOf, rowsStart}
+use Rattle.rules.proofs.Reading.{rowsIn}
+use Rattle.image.specs.declared.Book.{Book}
+use Rattle.image.specs.Header.{HeaderOf}
 use Rattle.image.specs.Places.{rowAt, nextAt, rowsFrom, Stands}
 use Rattle.image.proofs.Walks.{rows-split, first-rows, no-rows}
 use Rattle.tables.specs.Entries.{Over, RowEntry, RowsEntry}
@@ -20,11 +22,11 @@ pub record Follows (s : List ℕ) (node : ℕ) (old out : List ℕ) (at left : �
   pub rest : (new : List ℕ) → Rows s node (rowsFrom s left at) out new → Rows s node (rowsIn s) old new
 
 module _ {s : List ℕ} {node : ℕ} where
-  pub follows-first : {N at left : ℕ} {out : List ℕ} → N ≡ nodesOf s → at ≡ rowsStart N → left ≡ streamsOf s → Follows s node out out at left
-  follows-first {out} n e l = record { rest = λ new h. subst (λ (rows : List Row). Rows s node rows out new) (first-rows s n e l) h }
+  pub follows-first : {b : Book} {at left : ℕ} {out : List ℕ} → HeaderOf s b → at ≡ rowsStart (b .version) (b .nodes) → left ≡ b .streams → Follows s node out out at left
+  follows-first {out} h e l = record { rest = λ new f. subst (λ (rows : List Row). Rows s node rows out new) (first-rows s h e l) f }
 
   pub follows-on : {at at′ left : ℕ} {old out mid : List ℕ} → 0 < left → at′ ≡ nextAt s at → Stands s at left
-      → Over (cycleSlots (planOf s)) (RowEntry (planOf s .slots) node (rowAt s at) (hops (rowAt s at))) out mid → Follows s node old out at left
+      → Over (cycleSlots (planOf s)) (RowEntry (planOf s .slots) node (rowAt s at)) out mid → Follows s node old out at left
       → Follows s node old mid at′ (left - 1)
   follows-on {left} {out} {mid} l e w a f = record {
     rest = λ new h. f .rest new (subst (λ (rows : List Row). Rows s node rows out new) (sym (rows-split l w))

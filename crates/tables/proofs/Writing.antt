@@ -1,4 +1,4 @@
--- What one write after the other leaves in a table. Assumes nothing.
+-- What one write after the other leaves in a table.
 use mathlib.Core.Path.{_≡_, refl, sym, ap, _∙_, subst}
 use mathlib.Core.Logic.{_⊎_, inl, inr, ⊎-elim}
 use mathlib.Core.List.{List, [], _∷_}

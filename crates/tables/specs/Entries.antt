@@ -1,18 +1,16 @@
--- What is written of a table: the entries of some of its slots. Assumes nothing.
+-- What is written of a table: the entries of some of its slots.
 use mathlib.Core.Path.{_≡_}
-use mathlib.Core.Bool.{cond}
 use mathlib.Core.List.{List, _∷_, _++_}
-use Prim.Native.Nat.{ℕ, _+_, _*_, _<_}
-use lib.Dec.{ltb}
+use Prim.Native.Nat.{ℕ, suc, _+_, _*_, _<_}
 use lib.ListN.{length, take, drop}
 use Rattle.rules.specs.Words.{_∈_}
-use Rattle.rules.specs.Tiles.{Plan, Data, Control, Takes, repeats}
+use Rattle.rules.specs.Tiles.{Plan, cycleSlots, Data, Control, Takes, repeats}
 use Rattle.rules.specs.Book.{Row, hops, rowOffset}
 use Rattle.rules.specs.Image.{word, planOf}
 use Rattle.rules.specs.Table.{Does, TableOf}
-use Rattle.model.specs.Reading.{bookIn}
+use Rattle.rules.proofs.Reading.{bookIn}
 use Rattle.image.specs.Places.{rowAt}
-use Rattle.operations.specs.Operations.{whereWorking}
+use Rattle.operations.specs.Operations.{whereWorking, StopsAt}
 use Rattle.tables.specs.declared.Stream.{Stream}
 
 -- the three bytes of the slot's entry
@@ -55,37 +53,62 @@ pub record InTurn (at does name : ℕ → ℕ) (turns slot operation id : ℕ) :
 abbrev pub Repeated : ℕ → ℕ → ℕ → ℕ → ℕ → Entries
 Repeated offset step operation id turns = InTurn (λ (turn : ℕ). offset + turn * step) (λ (turn : ℕ). operation) (λ (turn : ℕ). id) turns
 
--- the first places of a tile that starts at a slot: control slots, then sleep
-abbrev pub TileEntry : ℕ → ℕ → ℕ → Entries
-TileEntry start control places = InTurn (λ (place : ℕ). start + place) (λ (place : ℕ). cond (ltb place control) 5 0) (λ (place : ℕ). 0) places
+-- this operation without a stream in the first slots from a start on
+abbrev pub Stretch : ℕ → ℕ → ℕ → Entries
+Stretch start operation slots = InTurn (λ (place : ℕ). start + place) (λ (place : ℕ). operation) (λ (place : ℕ). 0) slots
 
 -- a slot without streams is a sleep or a control slot
 pub data Idle (plan : Plan) (slot : ℕ) : ℕ → ℕ → Type 0 where
   sleeps : Data plan slot → Idle plan slot 0 0
   controls : Control plan slot → Idle plan slot 5 0
 
--- so are the first n slots
-pub record IdleBelow (plan : Plan) (n slot operation id : ℕ) : Type 0 where
+-- the control slots below n
+pub record ControlBelow (plan : Plan) (n slot operation id : ℕ) : Type 0 where
   pub below : slot < n
-  pub idle : Idle plan slot operation id
+  pub control : Control plan slot
+  pub operation-is : operation ≡ 5
+  pub id-is : id ≡ 0
 
 -- what the node does in the slots of hop i of the row
-pub record HopEntry (S node : ℕ) (r : Row) (i slot operation id : ℕ) : Type 0 where
+pub record HopEntry (i S node : ℕ) (r : Row) (slot operation id : ℕ) : Type 0 where
   pub takes : Takes S (r .period) (rowOffset r i) slot
   pub does : Does node r i operation
   pub id-is : id ≡ r .id
 
--- in the first n hops of the row
-pub record RowEntry (S node : ℕ) (r : Row) (n slot operation id : ℕ) : Type 0 where
+-- in the hop of the row to a place of its route
+pub record ToEntry (place S node : ℕ) (r : Row) (slot operation id : ℕ) : Type 0 where
   pub hop : ℕ
-  pub within : hop < n
-  pub entry : HopEntry S node r hop slot operation id
+  pub leads : suc hop ≡ place
+  pub entry : HopEntry hop S node r slot operation id
+
+-- in the hop from it
+pub record FromEntry (place S node : ℕ) (r : Row) (slot operation id : ℕ) : Type 0 where
+  pub within : place < hops r
+  pub entry : HopEntry place S node r slot operation id
+
+-- in the hops of the row
+pub record RowEntry (S node : ℕ) (r : Row) (slot operation id : ℕ) : Type 0 where
+  pub hop : ℕ
+  pub within : hop < hops r
+  pub entry : HopEntry hop S node r slot operation id
 
 -- in the hops of the rows
 pub record RowsEntry (S node : ℕ) (rows : List Row) (slot operation id : ℕ) : Type 0 where
   pub row : Row
   pub there : row ∈ rows
-  pub entry : RowEntry S node row (hops row) slot operation id
+  pub entry : RowEntry S node row slot operation id
+
+-- of the row at a place of an image, what the node does by E was written over the cycle
+abbrev pub InRow : List ℕ → ℕ → ℕ → (ℕ → ℕ → Row → Entries) → List ℕ → List ℕ → Type 0
+InRow s at node E = Over (cycleSlots (planOf s)) (E (planOf s .slots) node (rowAt s at))
+
+-- so for any node that does the operation in hop i
+abbrev pub InHop : List ℕ → ℕ → ℕ → ℕ → List ℕ → List ℕ → Type 0
+InHop s at i operation old new = (node : ℕ) → Does node (rowAt s at) i operation → InRow s at node (HopEntry i) old new
+
+-- and for any that stands at the place of the route
+abbrev pub AtStop : List ℕ → ℕ → ℕ → (ℕ → ℕ → Row → Entries) → List ℕ → List ℕ → Type 0
+AtStop s at place E old new = (node : ℕ) → StopsAt node (rowAt s at) place → InRow s at node E old new
 
 -- the id, the slots of the period, the repeats and the hops of the row at a place of an image
 pub record StreamOf (s : List ℕ) (at : ℕ) (stream : Stream) : Type 0 where

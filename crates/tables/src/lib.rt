@@ -1,24 +1,26 @@
 // A node's slot table for the whole cycle.
 ghost use mathlib.Core.Path.{_≡_};
-ghost use mathlib.Core.Bool.{cond};
 ghost use Prim.Native.Nat.{ℕ, _+_, _*_, _≤_, _<_};
-ghost use lib.Dec.{ltb};
 ghost use lib.ListN.{length};
 ghost use Rattle.rules.specs.Tiles.{PlanInRange, cycleSlots};
 ghost use Rattle.rules.specs.Periods.{thePlan};
 ghost use Rattle.rules.specs.Book.{hops};
-ghost use Rattle.rules.specs.Image.{planOf, Stored};
+ghost use Rattle.rules.specs.Image.{planOf};
 ghost use Rattle.rules.specs.Table.{tableLength};
-ghost use Rattle.model.specs.Reading.{bookIn};
+ghost use Rattle.rules.proofs.Reading.{LawfulImage};
 ghost use Rattle.image.specs.Places.{rowAt, RowHere};
 ghost use Rattle.image.specs.Header.{HeaderOf};
 ghost use Rattle.operations.specs.Operations.{whereWorking};
-ghost use Rattle.tables.specs.Entries.{Over, Put, Repeated, TileEntry, IdleBelow, HopEntry, RowEntry, StreamOf, Filled};
+ghost use Rattle.tables.specs.Entries.{Over, Put, Repeated, Stretch, Idle, ToEntry, FromEntry, RowEntry, InRow, InHop, AtStop, StreamOf, Filled};
 use image::Book;
+use operations::Stop;
 use rules::Node;
 use rules::Plan;
 use rules::Slot;
 use rules::Tile;
+
+// The bytes of an entry: an operation and an id.
+const ENTRY: usize = 3;
 
 // A count as a length.
 fn wide(x: u16) -> usize
@@ -33,7 +35,7 @@ fn put(out: &mut [u8], slot: usize, operation: u8, id: u16)
     ensures { λ r. ⌜ Put slot operation id (now (out .entry)) (now (out .exit)) ⌝ }
 {
     let stream = operations::where_working(operation, id);
-    let at = 3 * slot;
+    let at = ENTRY * slot;
     out[at] = operation;
     out[at + 1] = (stream / 256) as u8;
     out[at + 2] = (stream % 256) as u8;
@@ -53,36 +55,30 @@ fn repeat(out: &mut [u8], offset: usize, step: usize, turns: usize, operation: u
     }
 }
 
-// The operation at a place of a tile, before any stream: control slots first, then sleep.
-fn idle(place: usize, control: usize) -> u8
-    ensures { λ r. ⌜ r ≡ cond (ltb place control) 5 0 ⌝ }
-{
-    if place < control { 5 } else { 0 }
-}
-
-// Writes a tile without streams.
-fn blank_tile(out: &mut [u8], start: usize, slots: usize, control: usize)
+// Writes an operation without a stream in some slots, one after the other.
+fn stretch(out: &mut [u8], start: usize, slots: usize, operation: u8)
     requires { ⌜ 3 * (start + slots) ≤ length (now out) ⌝ }
-    ensures { λ r. ⌜ ((n : ℕ) → start + slots ≤ n → Over n (TileEntry start control slots) (now (out .entry)) (now (out .exit))) ⌝ }
+    ensures { λ r. ⌜ ((n : ℕ) → start + slots ≤ n → Over n (Stretch start operation slots) (now (out .entry)) (now (out .exit))) ⌝ }
 {
     let mut place = 0;
     while place < slots {
-        put(out, start + place, idle(place, control), 0);
+        put(out, start + place, operation, 0);
         place += 1;
     }
 }
 
-// Writes the table of a node without streams.
+// Writes the table of a node without streams: sleep everywhere, and then the control slots of each tile.
 fn blank(plan: Plan, out: &mut [u8])
     requires { ⌜ PlanInRange (thePlan plan) × (tableLength (thePlan plan) ≤ length (now out)) ⌝ }
-    ensures { λ r. ⌜ Over (cycleSlots (thePlan plan)) (IdleBelow (thePlan plan) (cycleSlots (thePlan plan))) (now (out .entry)) (now (out .exit)) ⌝ }
+    ensures { λ r. ⌜ Over (cycleSlots (thePlan plan)) (Idle (thePlan plan)) (now (out .entry)) (now (out .exit)) ⌝ }
 {
     let slots = wide(plan.slots.0);
+    stretch(out, 0, wide(rules::CYCLE) * slots, operations::SLEEP);
     let mut start: usize = 0;
     let mut tile: u16 = 0;
-    while tile < operations::CYCLE {
+    while tile < rules::CYCLE {
         let control = rules::control_slots(plan, Tile(tile));
-        blank_tile(out, start, slots, wide(control.0));
+        stretch(out, start, wide(control.0), operations::CONTROL);
         start += slots;
         tile += 1;
     }
@@ -110,39 +106,68 @@ fn stream_at(image: &[u8], at: usize, slots: Slot) -> Stream
     }
 }
 
-// Writes the node's entries in hop i of the row at a place.
-fn hop(image: &[u8], at: usize, stream: Stream, node: Node, i: usize, out: &mut [u8])
+// Writes an operation in the slots of hop i of the row at a place.
+fn hop(image: &[u8], at: usize, stream: Stream, i: usize, operation: u8, out: &mut [u8])
     requires { ⌜ RowHere (now image) at × StreamOf (now image) at stream × (i < stream .hops) ⌝ }
     requires { ⌜ tableLength (planOf (now image)) ≤ length (now out) ⌝ }
-    ensures { λ r. ⌜ Over (cycleSlots (planOf (now (image .entry)))) (HopEntry (planOf (now (image .entry)) .slots) (node .0) (rowAt (now (image .entry)) at) i) (now (out .entry)) (now (out .exit)) ⌝ }
+    ensures { λ r. ⌜ InHop (now (image .entry)) at i operation (now (out .entry)) (now (out .exit)) ⌝ }
 {
     let offset = image::offset_at(image, at, i);
-    let operation = operations::operation_at(image, at, node, i, stream.hops);
-    match operation {
-        1..=4 => repeat(
-            out,
-            wide(offset.0),
-            stream.step,
-            stream.turns,
-            operation,
-            stream.id,
-        ),
-        _ => {}
+    repeat(
+        out,
+        wide(offset.0),
+        stream.step,
+        stream.turns,
+        operation,
+        stream.id,
+    );
+}
+
+// Writes what the node at a place of the route does in the hop that leads there.
+fn arrive(image: &[u8], at: usize, stream: Stream, place: usize, out: &mut [u8])
+    requires { ⌜ RowHere (now image) at × StreamOf (now image) at stream × (place ≤ stream .hops) ⌝ }
+    requires { ⌜ tableLength (planOf (now image)) ≤ length (now out) ⌝ }
+    ensures { λ r. ⌜ AtStop (now (image .entry)) at place (ToEntry place) (now (out .entry)) (now (out .exit)) ⌝ }
+{
+    if 0 < place {
+        let operation = operations::arriving(place, stream.hops);
+        hop(image, at, stream, place - 1, operation, out);
     }
+}
+
+// Writes what it does in the hop that leads on.
+fn leave(image: &[u8], at: usize, stream: Stream, place: usize, out: &mut [u8])
+    requires { ⌜ RowHere (now image) at × StreamOf (now image) at stream ⌝ }
+    requires { ⌜ tableLength (planOf (now image)) ≤ length (now out) ⌝ }
+    ensures { λ r. ⌜ AtStop (now (image .entry)) at place (FromEntry place) (now (out .entry)) (now (out .exit)) ⌝ }
+{
+    if place < stream.hops {
+        let operation = operations::leaving(place);
+        hop(image, at, stream, place, operation, out);
+    }
+}
+
+// Writes the entries of a node that stands at a place of the route of the row.
+fn visit(image: &[u8], at: usize, slots: Slot, place: usize, out: &mut [u8])
+    requires { ⌜ RowHere (now image) at × (slots .0 ≡ planOf (now image) .slots) × (slots .0 ≤ 32) ⌝ }
+    requires { ⌜ (place ≤ hops (rowAt (now image) at)) × (tableLength (planOf (now image)) ≤ length (now out)) ⌝ }
+    ensures { λ r. ⌜ AtStop (now (image .entry)) at place RowEntry (now (out .entry)) (now (out .exit)) ⌝ }
+{
+    let stream = stream_at(image, at, slots);
+    arrive(image, at, stream, place, out);
+    leave(image, at, stream, place, out);
 }
 
 // Writes the node's entries in the row at a place.
 fn row(image: &[u8], at: usize, slots: Slot, node: Node, out: &mut [u8])
     requires { ⌜ RowHere (now image) at × (slots .0 ≡ planOf (now image) .slots) × (slots .0 ≤ 32) ⌝ }
     requires { ⌜ tableLength (planOf (now image)) ≤ length (now out) ⌝ }
-    ensures { λ r. ⌜ Over (cycleSlots (planOf (now (image .entry)))) (RowEntry (planOf (now (image .entry)) .slots) (node .0) (rowAt (now (image .entry)) at) (hops (rowAt (now (image .entry)) at))) (now (out .entry)) (now (out .exit)) ⌝ }
+    ensures { λ r. ⌜ InRow (now (image .entry)) at (node .0) RowEntry (now (out .entry)) (now (out .exit)) ⌝ }
 {
-    let stream = stream_at(image, at, slots);
-    let last = stream.hops;
-    let mut i = 0;
-    while i < last {
-        hop(image, at, stream, node, i, out);
-        i += 1;
+    let stop = operations::stop_of(image, at, node);
+    match stop {
+        Stop::At(place) => visit(image, at, slots, place, out),
+        Stop::Nowhere => {}
     }
 }
 
@@ -151,12 +176,12 @@ pub fn table_length(plan: Plan) -> usize
     requires { ⌜ PlanInRange (thePlan plan) ⌝ }
     ensures { λ r. ⌜ r ≡ tableLength (thePlan plan) ⌝ }
 {
-    3 * (wide(operations::CYCLE) * wide(plan.slots.0))
+    ENTRY * (wide(rules::CYCLE) * wide(plan.slots.0))
 }
 
-// Writes the node's table: 100 tiles, three bytes a slot.
+// Writes the node's table: its entry in every slot of the cycle.
 pub fn fill(image: &[u8], book: Book, node: Node, out: &mut [u8])
-    requires { ⌜ Stored (now image) (bookIn (now image)) × HeaderOf (now image) book ⌝ }
+    requires { ⌜ LawfulImage (now image) × HeaderOf (now image) book ⌝ }
     requires { ⌜ tableLength (planOf (now image)) ≤ length (now out) ⌝ }
     ensures { λ r. ⌜ Filled (now (image .entry)) (node .0) (now (out .entry)) (now (out .exit)) ⌝ }
 {

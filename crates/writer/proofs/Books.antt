@@ -1,4 +1,4 @@
--- The parts of an image with a row more, or a row less, are the image of that book. Assumes nothing.
+-- The parts of an image with a row more, or a row less, are the image of that book.
 use mathlib.Core.Path.{_≡_, refl, sym, _∙_, ap, ap₂}
 use mathlib.Core.List.{List, [], _∷_, _++_, append-assoc}
 use Prim.Native.Nat.{ℕ, zero, suc, _+_, _*_, _-_, _≤_, _<_}
@@ -8,8 +8,8 @@ use lib.Seq.{take-at, drop-at, drop-drop}
 use Rattle.rules.specs.Words.{total}
 use Rattle.rules.specs.Topology.{nodes}
 use Rattle.rules.specs.Book.{Row, Book, hops, hopsInAll}
-use Rattle.rules.specs.Image.{word, word64, inTurn, encodeHeader, encodeRow, encode}
-use Rattle.model.specs.Answer.{withRows}
+use Rattle.rules.specs.Image.{newest, headerLength, word, inTurn, encodeHeader, encodeTopology, encodeRow, encode}
+use Rattle.rules.proofs.Reading.{withRows}
 use Rattle.writer.specs.Over.{headed}
 
 pub in-turn-append : {A : Type 0} (f : A → List ℕ) (xs ys : List A) → inTurn f (xs ++ ys) ≡ inTurn f xs ++ inTurn f ys
@@ -22,60 +22,60 @@ total-append f (x ∷ xs) ys = let h = total-append f xs ys in omega arith
 
 module _ (b : Book) (xs ys : List Row) (split : b .rows ≡ xs ++ ys) where
   abbrev links : List ℕ
-  links = inTurn word64 (b .topology .links)
+  links = encodeTopology (b .site .links)
 
   abbrev front : List ℕ
-  front = links ++ inTurn encodeRow xs
+  front = links ++ inTurn (encodeRow newest) xs
 
-  body : links ++ inTurn encodeRow (b .rows) ≡ front ++ inTurn encodeRow ys
+  body : links ++ inTurn (encodeRow newest) (b .rows) ≡ front ++ inTurn (encodeRow newest) ys
   body =
-      ap (λ (rows : List Row). links ++ inTurn encodeRow rows) split
-      ∙ ap (λ (l : List ℕ). links ++ l) (in-turn-append encodeRow xs ys) ∙ sym (append-assoc links (inTurn encodeRow xs) (inTurn encodeRow ys))
+      ap (λ (rows : List Row). links ++ inTurn (encodeRow newest) rows) split
+      ∙ ap (λ (l : List ℕ). links ++ l) (in-turn-append (encodeRow newest) xs ys) ∙ sym (append-assoc links (inTurn (encodeRow newest) xs) (inTurn (encodeRow newest) ys))
 
-  pub length-body : length (encode b) ≡ 16 + (length front + length (inTurn encodeRow ys))
+  pub length-body : length (encode newest b) ≡ headerLength + (length front + length (inTurn (encodeRow newest) ys))
   length-body =
-      let e : length (encode b) ≡ 16 + length (links ++ inTurn encodeRow (b .rows)) = omega arith in
-      let f = ap length body ∙ length-append front (inTurn encodeRow ys) in
+      let e : length (encode newest b) ≡ 16 + length (links ++ inTurn (encodeRow newest) (b .rows)) = omega arith in
+      let f = ap length body ∙ length-append front (inTurn (encodeRow newest) ys) in
       omega arith
 
-  module _ (at : ℕ) (inside : at ≤ length (encode b)) (behind : drop at (encode b) ≡ inTurn encodeRow ys) where
-    place : at ≡ 16 + length front
-    place = omega (arith, length-body, ap length behind, length-drop at (encode b))
+  module _ (at : ℕ) (inside : at ≤ length (encode newest b)) (behind : drop at (encode newest b) ≡ inTurn (encodeRow newest) ys) where
+    place : at ≡ headerLength + length front
+    place = omega (arith, length-body, ap length behind, length-drop at (encode newest b))
 
     -- the front with other counts is that of another book
-    pub headed-encode : (n h : ℕ) → headed (encode b) at n h ≡ encodeHeader (b .plan) (nodes (b .topology)) n h ++ front
+    pub headed-encode : (n h : ℕ) → headed (encode newest b) at n h ≡ encodeHeader newest (b .site .plan) (nodes (b .site .links)) n h ++ front
     unfolding headed
     headed-encode n h =
         let f : at - 15 ≡ suc (length front) = omega (arith, place) in
-        let g : take (length front) (links ++ inTurn encodeRow (b .rows)) ≡ front = ap (take (length front)) body ∙ take-at front (inTurn encodeRow ys) (length front) refl in
-        let e : take (at - 15) (drop 15 (encode b)) ≡ 0 ∷ front = ap (λ (k : ℕ). take k (drop 15 (encode b))) f ∙ ap (λ (l : List ℕ). 0 ∷ l) g in
-        ap (λ (l : List ℕ). take 12 (encode b) ++ (n ∷ word h) ++ l) e
+        let g : take (length front) (links ++ inTurn (encodeRow newest) (b .rows)) ≡ front = ap (take (length front)) body ∙ take-at front (inTurn (encodeRow newest) ys) (length front) refl in
+        let e : take (at - 15) (drop 15 (encode newest b)) ≡ 0 ∷ front = ap (λ (k : ℕ). take k (drop 15 (encode newest b))) f ∙ ap (λ (l : List ℕ). 0 ∷ l) g in
+        ap (λ (l : List ℕ). take 12 (encode newest b) ++ (n ∷ word h) ++ l) e
 
     -- a row more, in front of the rows that stand from the place on
-    pub row-more : (r : Row) → headed (encode b) at (length (b .rows) + 1) (hopsInAll (b .rows) + hops r) ++ encodeRow r ++ drop at (encode b) ≡ encode (withRows b (xs ++ (r ∷ ys)))
+    pub row-more : (r : Row) → headed (encode newest b) at (length (b .rows) + 1) (hopsInAll (b .rows) + hops r) ++ encodeRow newest r ++ drop at (encode newest b) ≡ encode newest (withRows b (xs ++ (r ∷ ys)))
     row-more r =
         let n : length (b .rows) + 1 ≡ length (xs ++ (r ∷ ys)) = omega (arith, ap length split, length-append xs ys, length-append xs (r ∷ ys)) in
         let h : hopsInAll (b .rows) + hops r ≡ hopsInAll (xs ++ (r ∷ ys)) = omega (arith, ap hopsInAll split, total-append hops xs ys, total-append hops xs (r ∷ ys)) in
-        let t : front ++ encodeRow r ++ inTurn encodeRow ys ≡ links ++ inTurn encodeRow (xs ++ (r ∷ ys)) =
-        append-assoc front (encodeRow r) (inTurn encodeRow ys) ∙ append-assoc links (inTurn encodeRow xs) (encodeRow r ++ inTurn encodeRow ys)
-        ∙ ap (λ (l : List ℕ). links ++ l) (sym (in-turn-append encodeRow xs (r ∷ ys))) in
-        ap₂ (λ (a c : List ℕ). a ++ encodeRow r ++ c) (headed-encode (length (b .rows) + 1) (hopsInAll (b .rows) + hops r)) behind
-        ∙ ap₂ (λ (n h : ℕ). encodeHeader (b .plan) (nodes (b .topology)) n h ++ (front ++ encodeRow r ++ inTurn encodeRow ys)) n h
-        ∙ ap (λ (l : List ℕ). encodeHeader (b .plan) (nodes (b .topology)) (length (xs ++ (r ∷ ys))) (hopsInAll (xs ++ (r ∷ ys))) ++ l) t
+        let t : front ++ encodeRow newest r ++ inTurn (encodeRow newest) ys ≡ links ++ inTurn (encodeRow newest) (xs ++ (r ∷ ys)) =
+        append-assoc front (encodeRow newest r) (inTurn (encodeRow newest) ys) ∙ append-assoc links (inTurn (encodeRow newest) xs) (encodeRow newest r ++ inTurn (encodeRow newest) ys)
+        ∙ ap (λ (l : List ℕ). links ++ l) (sym (in-turn-append (encodeRow newest) xs (r ∷ ys))) in
+        ap₂ (λ (a c : List ℕ). a ++ encodeRow newest r ++ c) (headed-encode (length (b .rows) + 1) (hopsInAll (b .rows) + hops r)) behind
+        ∙ ap₂ (λ (n h : ℕ). encodeHeader newest (b .site .plan) (nodes (b .site .links)) n h ++ (front ++ encodeRow newest r ++ inTurn (encodeRow newest) ys)) n h
+        ∙ ap (λ (l : List ℕ). encodeHeader newest (b .site .plan) (nodes (b .site .links)) (length (xs ++ (r ∷ ys))) (hopsInAll (xs ++ (r ∷ ys))) ++ l) t
 
 -- a row less: the first of those that stand from the place on
-pub row-less : (b : Book) (xs ys : List Row) (r : Row) (split : b .rows ≡ xs ++ (r ∷ ys)) (at next n h : ℕ) → at ≤ length (encode b) → drop at (encode b) ≡ inTurn encodeRow (r ∷ ys)
-    → next ≡ at + length (encodeRow r) → n + 1 ≡ length (b .rows) → h + hops r ≡ hopsInAll (b .rows)
-    → headed (encode b) at n h ++ drop next (encode b) ≡ encode (withRows b (xs ++ ys))
+pub row-less : (b : Book) (xs ys : List Row) (r : Row) (split : b .rows ≡ xs ++ (r ∷ ys)) (at next n h : ℕ) → at ≤ length (encode newest b) → drop at (encode newest b) ≡ inTurn (encodeRow newest) (r ∷ ys)
+    → next ≡ at + length (encodeRow newest r) → n + 1 ≡ length (b .rows) → h + hops r ≡ hopsInAll (b .rows)
+    → headed (encode newest b) at n h ++ drop next (encode newest b) ≡ encode newest (withRows b (xs ++ ys))
 row-less b xs ys r split at next n h inside behind e f g =
-    let rest : drop next (encode b) ≡ inTurn encodeRow ys =
-    ap (λ (k : ℕ). drop k (encode b)) e ∙ sym (drop-drop (length (encodeRow r)) at (encode b)) ∙ ap (drop (length (encodeRow r))) behind
-    ∙ drop-at (encodeRow r) (inTurn encodeRow ys) (length (encodeRow r)) refl in
+    let rest : drop next (encode newest b) ≡ inTurn (encodeRow newest) ys =
+    ap (λ (k : ℕ). drop k (encode newest b)) e ∙ sym (drop-drop (length (encodeRow newest r)) at (encode newest b)) ∙ ap (drop (length (encodeRow newest r))) behind
+    ∙ drop-at (encodeRow newest r) (inTurn (encodeRow newest) ys) (length (encodeRow newest r)) refl in
     let n′ : n ≡ length (xs ++ ys) = omega (arith, ap length split, length-append xs ys, length-append xs (r ∷ ys)) in
     let h′ : h ≡ hopsInAll (xs ++ ys) = omega (arith, ap hopsInAll split, total-append hops xs ys, total-append hops xs (r ∷ ys)) in
-    let t : front b xs (r ∷ ys) split ++ inTurn encodeRow ys ≡ inTurn word64 (b .topology .links) ++ inTurn encodeRow (xs ++ ys) =
-    append-assoc (inTurn word64 (b .topology .links)) (inTurn encodeRow xs) (inTurn encodeRow ys)
-    ∙ ap (λ (l : List ℕ). inTurn word64 (b .topology .links) ++ l) (sym (in-turn-append encodeRow xs ys)) in
+    let t : front b xs (r ∷ ys) split ++ inTurn (encodeRow newest) ys ≡ encodeTopology (b .site .links) ++ inTurn (encodeRow newest) (xs ++ ys) =
+    append-assoc (encodeTopology (b .site .links)) (inTurn (encodeRow newest) xs) (inTurn (encodeRow newest) ys)
+    ∙ ap (λ (l : List ℕ). encodeTopology (b .site .links) ++ l) (sym (in-turn-append (encodeRow newest) xs ys)) in
     ap₂ _++_ (headed-encode b xs (r ∷ ys) split at inside behind n h) rest
-    ∙ ap₂ (λ (n h : ℕ). encodeHeader (b .plan) (nodes (b .topology)) n h ++ (front b xs (r ∷ ys) split ++ inTurn encodeRow ys)) n′ h′
-    ∙ ap (λ (l : List ℕ). encodeHeader (b .plan) (nodes (b .topology)) (length (xs ++ ys)) (hopsInAll (xs ++ ys)) ++ l) t
+    ∙ ap₂ (λ (n h : ℕ). encodeHeader newest (b .site .plan) (nodes (b .site .links)) n h ++ (front b xs (r ∷ ys) split ++ inTurn (encodeRow newest) ys)) n′ h′
+    ∙ ap (λ (l : List ℕ). encodeHeader newest (b .site .plan) (nodes (b .site .links)) (length (xs ++ ys)) (hopsInAll (xs ++ ys)) ++ l) t

@@ -1,4 +1,4 @@
--- Lists written over others, one behind the other. Assumes nothing.
+-- Lists written over others, one behind the other.
 use mathlib.Core.Path.{_≡_, refl, sym, _∙_, ap}
 use mathlib.Core.List.{List, [], _∷_, _++_, append-assoc}
 use Prim.Native.Nat.{ℕ, zero, suc, _+_, _*_, _-_, _≤_, _<_}
@@ -8,7 +8,7 @@ use native.Mathlib.Numerals.{add-one}
 use lib.ListN.{length, getD, set, take, drop, length-append, length-drop}
 use lib.Seq.{take-at, take-suc, drop-append-add, drop-drop, length-take-le, append-snoc, paste-zero, set-split}
 use Rattle.rules.specs.Tiles.{Plan}
-use Rattle.rules.specs.Image.{mark, word, inTurn, encodeHeader, encodeRow}
+use Rattle.rules.specs.Image.{newest, mark, word, inTurn, encodeHeader, encodeRow}
 use Rattle.rules.specs.Book.{Row}
 use Rattle.rules.proofs.Encoding.{length-words}
 use Rattle.writer.specs.Over.{over, headed}
@@ -60,7 +60,7 @@ words-turn d s o o′ at i h l e f =
 pub row-written : (d o₁ o₂ o₃ o₄ o₅ : List ℕ) (at id k : ℕ) (route offsets : List ℕ) → at ≤ length d → length route ≡ length offsets + 1
     → o₁ ≡ over d at (word id) → o₂ ≡ over o₁ (at + 2) (k ∷ []) → o₃ ≡ over o₂ (at + 3) (length offsets ∷ []) → o₄ ≡ over o₃ (at + 4) route
     → o₅ ≡ over o₄ (at + 4 + length route) (inTurn word offsets)
-    → o₅ ≡ over d at (encodeRow (record { id = id; period = k; route = route; offsets = offsets }))
+    → o₅ ≡ over d at (encodeRow newest (record { id = id; period = k; route = route; offsets = offsets }))
 row-written d o₁ o₂ o₃ o₄ o₅ at id k route offsets h n p₁ p₂ p₃ p₄ p₅ =
     let q₂ = then d o₁ o₂ (word id) (k ∷ []) at (at + 2) h p₁ refl p₂ in
     let q₃ = then d o₂ o₃ (word id ++ (k ∷ [])) (length offsets ∷ []) at (at + 3) h q₂ refl p₃ in
@@ -81,11 +81,11 @@ head-written d o₁ o₂ o₃ o₄ s to n h l p₁ p₂ p₃ p₄ =
     q₄ ∙ ap (λ (x : List ℕ). over d 0 (x ++ take (to - 15) (drop 15 s))) (append-assoc (take 12 s) (n ∷ []) (word h))
 
 -- the image of a book without streams, part by part
-pub new-written : (d o₁ o₂ o₃ rest topology : List ℕ) (plan : Plan) (N : ℕ) → o₁ ≡ over d 0 mark → rest ≡ drop 3 (encodeHeader plan N 0 0) → o₂ ≡ over o₁ 3 rest
-    → o₃ ≡ over o₂ 16 topology → o₃ ≡ over d 0 (encodeHeader plan N 0 0 ++ topology)
+pub new-written : (d o₁ o₂ o₃ rest topology : List ℕ) (plan : Plan) (N : ℕ) → o₁ ≡ over d 0 mark → rest ≡ drop 3 (encodeHeader newest plan N 0 0) → o₂ ≡ over o₁ 3 rest
+    → o₃ ≡ over o₂ 16 topology → o₃ ≡ over d 0 (encodeHeader newest plan N 0 0 ++ topology)
 new-written d o₁ o₂ o₃ rest topology plan N p₁ e p₂ p₃ =
-    let q₂ = then d o₁ o₂ mark (drop 3 (encodeHeader plan N 0 0)) 0 3 (omega arith) p₁ refl (p₂ ∙ ap (over o₁ 3) e) in
-    then d o₂ o₃ (encodeHeader plan N 0 0) topology 0 16 (omega arith) q₂ refl p₃
+    let q₂ = then d o₁ o₂ mark (drop 3 (encodeHeader newest plan N 0 0)) 0 3 (omega arith) p₁ refl (p₂ ∙ ap (over o₁ 3) e) in
+    then d o₂ o₃ (encodeHeader newest plan N 0 0) topology 0 16 (omega arith) q₂ refl p₃
 
 -- what is written from the front on, and what was behind it
 pub over-front : (d x : List ℕ) → over d 0 x ≡ x ++ drop (length x) d

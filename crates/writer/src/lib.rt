@@ -5,7 +5,7 @@ ghost use Prim.Native.Nat.{_+_, _*_, _<_, _≤_};
 ghost use lib.ListN.{length, drop};
 ghost use Rattle.rules.specs.Tiles.{PlanInRange};
 ghost use Rattle.rules.specs.Periods.{thePlan};
-ghost use Rattle.rules.specs.Image.{word, inTurn, encodeHeader, encodeRow};
+ghost use Rattle.rules.specs.Image.{newest, rowLength, headerLength, word, inTurn, encodeHeader, encodeRow};
 ghost use Rattle.writer.specs.Over.{over, headed};
 use rules::Plan;
 use rules::Tile;
@@ -54,8 +54,8 @@ pub fn put_words(numbers: &[u16], out: &mut [u8], at: usize)
 // A row: id, K, hops, the nodes of the route, the offsets.
 pub fn put_row(out: &mut [u8], at: usize, id: u16, period: Tile, route: &[u8], offsets: &[u16])
     requires { ⌜ (length (now route) ≡ length (now offsets) + 1) × (length (now offsets) ≤ 15) × (period .0 < 256) ⌝ }
-    requires { ⌜ at + (5 + 3 * length (now offsets)) ≤ length (now out) ⌝ }
-    ensures { λ _. ⌜ now (out .exit) ≡ over (now (out .entry)) at (encodeRow (record { id = id; period = period .0; route = now (route .entry); offsets = now (offsets .entry) })) ⌝ }
+    requires { ⌜ at + (rowLength newest + 3 * length (now offsets)) ≤ length (now out) ⌝ }
+    ensures { λ _. ⌜ now (out .exit) ≡ over (now (out .entry)) at (encodeRow newest (record { id = id; period = period .0; route = now (route .entry); offsets = now (offsets .entry) })) ⌝ }
 {
     put_word(out, at, id);
     put(out, at + 2, period.0 as u8);
@@ -66,7 +66,7 @@ pub fn put_row(out: &mut [u8], at: usize, id: u16, period: Tile, route: &[u8], o
 
 // The front of an image up to a place, with these counts of streams and hops.
 pub fn put_head(image: &[u8], out: &mut [u8], to: usize, streams: u8, hops: u16)
-    requires { ⌜ (16 ≤ to) × (to ≤ length (now image)) × (to ≤ length (now out)) ⌝ }
+    requires { ⌜ (headerLength ≤ to) × (to ≤ length (now image)) × (to ≤ length (now out)) ⌝ }
     ensures { λ _. ⌜ now (out .exit) ≡ over (now (out .entry)) 0 (headed (now (image .entry)) to streams hops) ⌝ }
 {
     put_part(&image[..12], out, 0);
@@ -78,12 +78,12 @@ pub fn put_head(image: &[u8], out: &mut [u8], to: usize, streams: u8, hops: u16)
 // Bytes 3 to 15 of a book without streams.
 fn fields(plan: Plan, nodes: u8) -> [u8; 13]
     requires { ⌜ PlanInRange (thePlan plan) ⌝ }
-    ensures { λ r. ⌜ r ≡ drop 3 (encodeHeader (thePlan plan) nodes 0 0) ⌝ }
+    ensures { λ r. ⌜ r ≡ drop 3 (encodeHeader newest (thePlan plan) nodes 0 0) ⌝ }
 {
     let kinds = plan.kinds;
     [
-        0,
-        1,
+        (image::NEWEST / 256) as u8,
+        (image::NEWEST % 256) as u8,
         plan.slots.0 as u8,
         plan.tiles.0 as u8,
         (kinds / 256) as u8,
@@ -100,11 +100,11 @@ fn fields(plan: Plan, nodes: u8) -> [u8; 13]
 
 // The image of a book without streams: the mark, the fields, and the topology as it is given.
 pub fn put_new(plan: Plan, nodes: u8, topology: &[u8], out: &mut [u8])
-    requires { ⌜ PlanInRange (thePlan plan) × (16 + length (now topology) ≤ length (now out)) ⌝ }
-    ensures { λ _. ⌜ now (out .exit) ≡ over (now (out .entry)) 0 (encodeHeader (thePlan plan) nodes 0 0 ++ now (topology .entry)) ⌝ }
+    requires { ⌜ PlanInRange (thePlan plan) × (headerLength + length (now topology) ≤ length (now out)) ⌝ }
+    ensures { λ _. ⌜ now (out .exit) ≡ over (now (out .entry)) 0 (encodeHeader newest (thePlan plan) nodes 0 0 ++ now (topology .entry)) ⌝ }
 {
     let rest = fields(plan, nodes);
     put_part(&image::MARK, out, 0);
     put_part(&rest, out, 3);
-    put_part(topology, out, 16);
+    put_part(topology, out, image::HEADER);
 }

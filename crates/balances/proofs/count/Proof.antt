@@ -1,14 +1,14 @@
--- Free is what the hops leave of the data slots. Assumes nothing.
+-- Free is what the hops leave of the data slots.
 use mathlib.Core.Path.{sym, subst}
 use borrow.Author.Needs.{needs}
 use Rattle.rules.specs.Tiles.{PlanInRange}
-use Rattle.model.specs.Reading.{bookIn}
+use Rattle.rules.proofs.Reading.{bookIn}
 use Rattle.balances.proofs.Balances.{used-fits, balance-of}
 use Rattle.balances.proofs.count.Statement.{statement}
 use Rattle.balances.proofs.count.Tie as tie
 
 data-slots-requires : tie.Need-data-slots-requires
-data-slots-requires c κs = subst PlanInRange (sym (c .before .pre .1 .plan)) (c .before .pre .0 .lawful .plan)
+data-slots-requires c κs = subst PlanInRange (sym (c .before .pre .1 .plan)) (c .before .pre .0 .lawful .site .plan)
 
 sub-t6 : tie.Need-sub-t6
 sub-t6 c =

@@ -1,4 +1,4 @@
--- The data slots of the plan's tiles come as often as the plan does. Assumes nothing.
+-- The data slots of the plan's tiles come as often as the plan does.
 use mathlib.Core.Path.{_≡_, refl, sym, ap, _∙_, subst}
 use Prim.Native.Nat.{ℕ, _*_, _-_, _≤_}
 use native.Mathlib.Omega.{arith}
@@ -29,7 +29,8 @@ loop-again : tie.Need-loop-again Inv-loop μ-loop
 loop-again c =
     let st = c .before .before .before .before .before in
     let l = c .before .before .before .before .loop in
-    (omega arith, omega (arith, st .pre .most), sum-more (dataIn (thePlan (st .args .plan))) (l .inv .2) (c .wide32 .ensures .0 ∙ ap (λ (x : ℕ). st .args .plan .slots .0 - x) (c .before .before .control-slots .ensures .0)))
+    let its = c .wide32 .ensures .0 ∙ ap (λ (x : ℕ). st .args .plan .slots .0 - x) (c .before .before .control-slots .ensures .0) in
+    (omega arith, omega (arith, st .pre .most), sum-more (dataIn (thePlan (st .args .plan))) (l .inv .2) its)
 
 mul-result : tie.Need-mul-result Inv-loop μ-loop
 mul-result c =

@@ -1,6 +1,7 @@
--- The repeats of all hops are summed row by row. Assumes nothing.
+-- The repeats of all hops are summed row by row.
+use mathlib.Core.Path.{refl}
 use native.Mathlib.Omega.{arith}
-use Rattle.model.specs.Reading.{bookIn}
+use Rattle.rules.proofs.Reading.{bookIn}
 use Rattle.image.specs.Places.{Stands}
 use Rattle.image.proofs.Stands.{stands-row}
 use Rattle.balances.proofs.Balances.{used-most}
@@ -20,8 +21,8 @@ rows-start-requires c κs = c .before .pre .1 .small-nodes
 
 loop-holds : tie.Need-loop-holds Inv-loop μ-loop
 loop-holds c =
-    let h = c .before .before .pre .1 in
-    (stands-first (c .before .before .pre .0) (h .nodes) (c .rows-start .ensures) (h .streams), sums-first (h .nodes) (c .rows-start .ensures) (h .streams))
+    let p = c .before .before .pre in
+    (stands-first (p .0) (p .1) (c .rows-start .ensures) refl, sums-first (p .1) (c .rows-start .ensures) refl)
 
 row-used-requires : tie.Need-row-used-requires Inv-loop μ-loop
 row-used-requires c κs = stands-row (c .loop-test .taken) (c .before .loop .inv .0)
@@ -30,7 +31,9 @@ add-sum : tie.Need-add-sum Inv-loop μ-loop
 add-sum c =
     let st = c .before .before .before .before .before in
     let b = st .pre .0 .lawful in
-    omega (arith, sums-most (c .before .loop-test .taken) (c .before .before .loop .inv .0) (c .before .before .loop .inv .1) (c .row-used .ensures), used-most (bookIn (st .args .image .now)) b (st .args .node .0), b .plan .most)
+    let l = c .before .before .loop in
+    let few = sums-most (c .before .loop-test .taken) (l .inv .0) (l .inv .1) (c .row-used .ensures) in
+    omega (arith, few, used-most (bookIn (st .args .image .now)) b (st .args .node .0), b .site .plan .most)
 
 next-requires : tie.Need-next-requires Inv-loop μ-loop
 next-requires c κs = stands-row (c .before .loop-test .taken) (c .before .before .loop .inv .0) .whole

@@ -1,4 +1,4 @@
--- `bitset::count` meets its contract. Assumes nothing.
+-- `bitset::count` meets its contract.
 use native.Mathlib.Omega.{arith}
 use Rattle.bitset.proofs.Bits.{count-law}
 use Rattle.bitset.proofs.count.Statement.{statement}

@@ -1,4 +1,4 @@
--- `bitset::difference` meets its contract. Assumes nothing.
+-- `bitset::difference` meets its contract.
 use native.Mathlib.Omega.{arith}
 use Rattle.bitset.proofs.Bits.{difference-law}
 use Rattle.bitset.proofs.difference.Statement.{statement}

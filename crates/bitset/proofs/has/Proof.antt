@@ -1,4 +1,4 @@
--- `bitset::has` meets its contract. Assumes nothing.
+-- `bitset::has` meets its contract.
 use mathlib.Core.Path.{sym, subst}
 use Prim.Native.Nat.{ℕ, _/_, _^_}
 use borrow.Author.Needs.{needs}

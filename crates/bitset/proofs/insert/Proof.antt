@@ -1,4 +1,4 @@
--- `bitset::insert` meets its contract. Assumes nothing.
+-- `bitset::insert` meets its contract.
 use mathlib.Core.Path.{_≡_, sym, subst, _∙_}
 use mathlib.Core.Logic.{_⊎_}
 use Prim.Native.Nat.{ℕ, _^_}

@@ -1,4 +1,4 @@
--- `bitset::intersection` meets its contract. Assumes nothing.
+-- `bitset::intersection` meets its contract.
 use native.Mathlib.Omega.{arith}
 use Rattle.bitset.proofs.Bits.{both-law}
 use Rattle.bitset.proofs.intersection.Statement.{statement}

@@ -1,4 +1,4 @@
--- `bitset::lowest` meets its contract. Assumes nothing.
+-- `bitset::lowest` meets its contract.
 use native.Mathlib.Omega.{arith}
 use lib.Count.{trailing-le}
 use Rattle.bitset.proofs.Bits.{lowest-law}

@@ -1,4 +1,4 @@
--- `bitset::remove_lowest` meets its contract. Assumes nothing.
+-- `bitset::remove_lowest` meets its contract.
 use native.Mathlib.Omega.{arith}
 use borrow.Author.Needs.{needs}
 use Rattle.bitset.proofs.Bits.{rest-law}

@@ -1,4 +1,4 @@
--- `bitset::union` meets its contract. Assumes nothing.
+-- `bitset::union` meets its contract.
 use native.Mathlib.Omega.{arith}
 use Rattle.bitset.proofs.Bits.{union-law}
 use Rattle.bitset.proofs.union.Statement.{statement}

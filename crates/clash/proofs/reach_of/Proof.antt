@@ -1,4 +1,4 @@
--- `clash::reach_of` meets its contract. Assumes nothing.
+-- `clash::reach_of` meets its contract.
 use borrow.Author.Needs.{needs}
 use Rattle.clash.proofs.Reaching.{reach-law}
 use Rattle.clash.proofs.reach_of.Statement.{statement}

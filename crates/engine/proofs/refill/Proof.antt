@@ -1,4 +1,4 @@
--- The bytes in hand are moved to the front, and what was read stands behind them. Assumes nothing.
+-- The bytes in hand are moved to the front, and what was read stands behind them.
 use native.Mathlib.Omega.{arith}
 use borrow.Author.Needs.{needs}
 use borrow.Author.Tests.{ltb-true}

@@ -1,4 +1,4 @@
--- Both streams stay within their buffers; the measure is the frames that are left. Assumes nothing.
+-- Both streams stay within their buffers; the measure is the frames that are left.
 use borrow.Author.Needs.{needs}
 use mathlib.Core.Path.{_≡_}
 use lib.ListN.{length}

@@ -1,4 +1,4 @@
--- Each turn that goes on brings at least one byte. Assumes nothing.
+-- Each turn that goes on brings at least one byte.
 use native.Mathlib.Omega.{arith}
 use borrow.Author.Needs.{needs}
 use borrow.Author.Tests.{not-false}

@@ -1,10 +1,10 @@
--- Each field is tested. Assumes nothing.
+-- Each field is tested.
 use native.Mathlib.Omega.{arith}
 use borrow.Author.Needs.{needs}
 use Rattle.rules.specs.Image.{FieldsInRange}
 use Rattle.rules.proofs.Tests.{said-no}
 use Rattle.fields.proofs.Ranges.{tests-fields-rest, fields-plan}
-use Rattle.fields.proofs.Parts.{part-failed}
+use Rattle.rules.proofs.Tests.{part-failed}
 use Rattle.fields.proofs.fields_in_range.Statement.{statement}
 use Rattle.fields.proofs.fields_in_range.Tie as tie
 
@@ -22,7 +22,8 @@ returns-3 c =
 returns-4 : tie.Need-returns-4
 returns-4 c =
     let start = c .before .before .before .before .before .before .before .before .before .before in
-    tests-fields-rest (start .pre .1) (omega arith) (omega arith) (c .before .before .before .if3 .left) (c .before .before .plan-in-range .ensures .yes (c .before .if4 .taken)) (c .nodes-in-range .ensures)
+    tests-fields-rest (start .pre .1) (omega arith) (omega arith) (c .before .before .before .if3 .left)
+    (c .before .before .plan-in-range .ensures .yes (c .before .if4 .taken)) (c .nodes-in-range .ensures)
 
 returns-5 : tie.Need-returns-5
 returns-5 c =

@@ -1,4 +1,4 @@
--- The five counts are told apart. Assumes nothing.
+-- The five counts are told apart.
 use mathlib.Core.Logic.{inl, inr}
 use native.Mathlib.Omega.{arith}
 use Rattle.rules.proofs.Tests.{said-yes, said-no}

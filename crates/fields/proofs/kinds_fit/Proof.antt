@@ -1,4 +1,4 @@
--- No bit is left above the tiles. Assumes nothing.
+-- No bit is left above the tiles.
 use native.Mathlib.Omega.{arith}
 use Rattle.rules.proofs.Bytes.{tiles-small}
 use Rattle.fields.proofs.Ranges.{tests-no-bit}

@@ -1,7 +1,7 @@
--- Both ends are tested. Assumes nothing.
+-- Both ends are tested.
 use borrow.Author.Tests.{lt-leb}
 use Rattle.rules.proofs.Tests.{alike, tests-le}
-use Rattle.fields.proofs.Parts.{part-failed}
+use Rattle.rules.proofs.Tests.{part-failed}
 use Rattle.fields.proofs.nodes_in_range.Statement.{statement}
 use Rattle.fields.proofs.nodes_in_range.Tie as tie
 

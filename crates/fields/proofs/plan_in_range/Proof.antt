@@ -1,10 +1,10 @@
--- Each field is tested. Assumes nothing.
+-- Each field is tested.
 use native.Mathlib.Omega.{arith}
 use borrow.Author.Needs.{needs}
 use Rattle.rules.specs.Periods.{thePlan}
 use Rattle.rules.specs.Tiles.{PlanInRange}
 use Rattle.rules.proofs.Tests.{said-no}
-use Rattle.fields.proofs.Parts.{part-failed}
+use Rattle.rules.proofs.Tests.{part-failed}
 use Rattle.fields.proofs.Ranges.{tests-plan-rest}
 use Rattle.fields.proofs.plan_in_range.Statement.{statement}
 use Rattle.fields.proofs.plan_in_range.Tie as tie
@@ -29,7 +29,8 @@ kinds-fit-requires c κs = c .before .is-tile-count .ensures .yes (c .if5 .taken
 returns-5 : tie.Need-returns-5
 returns-5 c =
     let start = c .before .before .before .before .before .before .before .before .before .before in
-    tests-plan-rest {plan = thePlan (start .args .plan)} (omega arith) (omega arith) (omega arith) (omega arith) (c .before .before .is-tile-count .ensures .yes (c .before .if5 .taken)) (c .kinds-fit .ensures)
+    tests-plan-rest {plan = thePlan (start .args .plan)} (omega arith) (omega arith) (omega arith) (omega arith)
+    (c .before .before .is-tile-count .ensures .yes (c .before .if5 .taken)) (c .kinds-fit .ensures)
 
 returns-6 : tie.Need-returns-6
 returns-6 c = part-failed (c .before .is-tile-count .ensures) (c .if5 .left) (λ p. p .tiles)

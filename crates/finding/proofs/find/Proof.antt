@@ -1,9 +1,8 @@
--- The rows are passed while their ids are lower. Assumes nothing.
+-- The rows are passed while their ids are lower.
 use native.Mathlib.Omega.{arith}
 use borrow.Author.Needs.{needs}
-use mathlib.Core.Path.{_≡_, sym, ap, _∙_, subst}
+use mathlib.Core.Path.{_≡_, refl, sym, _∙_, subst}
 use Prim.Native.Nat.{ℕ, _<_}
-use Rattle.rules.specs.Image.{rowsStart}
 use Rattle.image.proofs.Stands.{stands-row}
 use Rattle.reader.specs.Cuts.{CutAt}
 use Rattle.finding.proofs.Ids.{Passed, passed-start, passed-next, vacant-here, taken-here, vacant-end, stored-long}
@@ -32,7 +31,7 @@ rows-start-requires c κs = search needs
 -- src/lib.rt:22:5
 loop-holds : tie.Need-loop-holds Inv-loop μ-loop
 loop-holds c =
-    passed-start (c .before .before .before .pre) (c .rows-start .ensures ∙ ap rowsStart (c .before .read .ensures .nodes)) (c .before .read .ensures .streams)
+    passed-start (c .before .before .before .pre) (c .before .read .ensures) (c .rows-start .ensures) refl
 
 -- src/lib.rt:23:43
 row-here-requires : tie.Need-row-here-requires Inv-loop μ-loop
@@ -49,18 +48,24 @@ enum-told c = search needs
 -- src/lib.rt:24:13
 returns : tie.Need-returns Inv-loop μ-loop
 returns c =
-    absurd (subst (CutAt _ _) (c .enum-told .given .1) (c .before .before .row-here .ensures) (stands-row (c .before .before .before .loop-test .taken) (c .before .before .before .before .loop .inv .stands) .whole))
+    absurd (subst (CutAt _ _) (c .enum-told .given .1) (c .before .before .row-here .ensures)
+    (stands-row (c .before .before .before .loop-test .taken) (c .before .before .before .before .loop .inv .stands) .whole))
 
 -- src/lib.rt:27:13
 returns-2 : tie.Need-returns-2 Inv-loop μ-loop
 returns-2 c =
     vacant-here (c .before .before .before .before .before .loop-test .taken) (c .before .before .before .before .before .before .loop .inv)
-    (subst (λ (n : ℕ). c .before .before .before .before .before .before .before .before .before .before .args .id < n) (subst (CutAt (c .before .before .before .before .before .before .before .before .before .before .args .image .now) (c .before .before .before .before .before .before .loop .at)) (c .before .before .here .given .1) (c .before .before .before .before .row-here .ensures) .1) (c .if1 .taken))
+    (subst (λ (n : ℕ). c .before .before .before .before .before .before .before .before .before .before .args .id < n)
+    (subst (CutAt (c .before .before .before .before .before .before .before .before .before .before .args .image .now)
+    (c .before .before .before .before .before .before .loop .at)) (c .before .before .here .given .1) (c .before .before .before .before .row-here .ensures) .1) (c .if1 .taken))
 
 -- src/lib.rt:30:13
 returns-3 : tie.Need-returns-3 Inv-loop μ-loop
 returns-3 c =
-    taken-here (c .before .before .before .before .before .before .loop-test .taken) (c .before .before .before .before .before .before .before .loop .inv) (sym (subst (CutAt (c .before .before .before .before .before .before .before .before .before .before .before .args .image .now) (c .before .before .before .before .before .before .before .loop .at)) (c .before .before .before .here .given .1) (c .before .before .before .before .before .row-here .ensures) .1) ∙ c .if2 .taken)
+    taken-here (c .before .before .before .before .before .before .loop-test .taken) (c .before .before .before .before .before .before .before .loop .inv)
+    (sym (subst (CutAt (c .before .before .before .before .before .before .before .before .before .before .before .args .image .now)
+    (c .before .before .before .before .before .before .before .loop .at)) (c .before .before .before .here .given .1)
+    (c .before .before .before .before .before .row-here .ensures) .1) ∙ c .if2 .taken)
 
 -- src/lib.rt:33:9
 sub-left : tie.Need-sub-left Inv-loop μ-loop
@@ -73,9 +78,12 @@ loop-less c = omega arith
 -- src/lib.rt:22:5
 loop-again : tie.Need-loop-again Inv-loop μ-loop
 loop-again c =
-    let row = subst (CutAt (c .before .before .before .before .before .before .before .before .before .before .before .args .image .now) (c .before .before .before .before .before .before .before .loop .at)) (c .before .before .before .here .given .1) (c .before .before .before .before .before .row-here .ensures) in
-    let l : c .before .before .before .here .given .0 .0 < c .before .before .before .before .before .before .before .before .before .before .before .args .id = omega (arith, c .before .if1 .left, c .if2 .left) in
-    passed-next (c .before .before .before .before .before .before .loop-test .taken) (c .before .before .before .before .before .before .before .loop .inv) (row .2) (subst (λ (n : ℕ). n < c .before .before .before .before .before .before .before .before .before .before .before .args .id) (row .1) l)
+    let row = subst (CutAt (c .before .before .before .before .before .before .before .before .before .before .before .args .image .now)
+    (c .before .before .before .before .before .before .before .loop .at)) (c .before .before .before .here .given .1) (c .before .before .before .before .before .row-here .ensures) in
+    let l : c .before .before .before .here .given .0 .0 < c .before .before .before .before .before .before .before .before .before .before .before .args .id = omega
+    (arith, c .before .if1 .left, c .if2 .left) in
+    passed-next (c .before .before .before .before .before .before .loop-test .taken) (c .before .before .before .before .before .before .before .loop .inv) (row .2)
+    (subst (λ (n : ℕ). n < c .before .before .before .before .before .before .before .before .before .before .before .args .id) (row .1) l)
 
 -- src/lib.rt:15:1
 returns-4 : tie.Need-returns-4 Inv-loop μ-loop

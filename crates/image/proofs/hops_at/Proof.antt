@@ -1,4 +1,4 @@
--- The byte before the nodes is the count of hops. Assumes nothing.
+-- The byte before the nodes is the count of hops.
 use mathlib.Core.Path.{sym, _∙_}
 use borrow.Author.Needs.{needs}
 use Rattle.image.proofs.Places.{row-hops}

@@ -1,4 +1,4 @@
--- The id is the first number. Assumes nothing.
+-- The id is the first number.
 use mathlib.Core.Path.{sym, _∙_}
 use borrow.Author.Needs.{needs}
 use Rattle.image.proofs.Places.{row-id}

@@ -1,4 +1,4 @@
--- The first five bytes are compared one by one. Assumes nothing.
+-- The mark is compared byte by byte.
 use native.Mathlib.Omega.{arith}
 use borrow.Author.Needs.{needs}
 use Rattle.image.proofs.Marks.{not-marked, marked}
@@ -21,8 +21,9 @@ returns-3 c =
 
 returns-4 : tie.Need-returns-4
 returns-4 c =
-    let start = c .before .before .before .before .before .before .before .before in
-    marked (start .args .image .now) (start .pre) (c .before .before .before .before .before .if1 .left) (c .before .before .before .if2 .left) (c .before .if3 .left) _ (c .word-at .ensures .0)
+    let start = c .before .before .before .before .before .before .before .before .before in
+    marked (start .args .image .now) (start .pre) (c .before .before .before .before .before .before .if1 .left) (c .before .before .before .before .if2 .left)
+    (c .before .before .if3 .left) _ (c .before .word-at .ensures .0) (c .is-version .ensures)
 
 pub is-marked-spec : {M : Type 1} → statement M
 is-marked-spec =
@@ -37,5 +38,6 @@ is-marked-spec =
     (λ c. search needs)
     (λ c. search needs)
     returns-3
+    (λ c κs. search needs)
     (λ c κs. search needs)
     returns-4)

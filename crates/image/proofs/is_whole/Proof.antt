@@ -1,4 +1,4 @@
--- A row has 5 bytes and 3 for each hop. Assumes nothing.
+-- A row has 5 bytes and 3 for each hop.
 use borrow.Author.Needs.{needs}
 use Rattle.image.proofs.Places.{no-front, tests-whole}
 use Rattle.image.proofs.is_whole.Statement.{statement}

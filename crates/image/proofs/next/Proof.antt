@@ -1,4 +1,4 @@
--- A row is 5 bytes and 3 for each hop. Assumes nothing.
+-- A row is 5 bytes and 3 for each hop.
 use native.Mathlib.Omega.{arith}
 use borrow.Author.Needs.{needs}
 use Rattle.image.specs.Places.{nextAt}

@@ -1,4 +1,4 @@
--- The nodes stand behind the count of hops. Assumes nothing.
+-- The nodes stand behind the count of hops.
 use mathlib.Core.Path.{sym}
 use Prim.Native.Nat.{_+_}
 use native.Mathlib.Omega.{arith}

@@ -1,4 +1,4 @@
--- The offsets stand behind the nodes. Assumes nothing.
+-- The offsets stand behind the nodes.
 use mathlib.Core.Path.{sym, _∙_}
 use native.Mathlib.Omega.{arith}
 use borrow.Author.Needs.{needs}

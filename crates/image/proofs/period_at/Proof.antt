@@ -1,4 +1,4 @@
--- The period is the third byte. Assumes nothing.
+-- The period is the third byte.
 use mathlib.Core.Path.{sym, _∙_}
 use borrow.Author.Needs.{needs}
 use Rattle.image.proofs.Places.{row-period}

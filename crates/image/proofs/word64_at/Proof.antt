@@ -1,4 +1,4 @@
--- Eight bytes are four words. Assumes nothing.
+-- Eight bytes are four words.
 use mathlib.Core.Path.{ap₂, _∙_}
 use Prim.Native.Nat.{ℕ, _+_, _*_}
 use borrow.Author.Needs.{needs}

@@ -1,4 +1,4 @@
--- The tests are made in the order of the refusals. Assumes nothing.
+-- The tests are made in the order of the refusals.
 use native.Mathlib.Omega.{arith}
 use borrow.Author.Needs.{needs}
 use borrow.Author.Tests.{not-true, not-false}
@@ -15,15 +15,22 @@ returns-2 c = unmarked _ (c .before .before .if1 .left) (fails (c .before .is-ma
 
 returns-3 : tie.Need-returns-3
 returns-3 c =
-    out-of-range _ (c .before .before .before .before .before .if1 .left) (c .before .before .before .before .is-marked .ensures .yes (not-false _ (c .before .before .before .if2 .left))) (fails (c .before .fields-in-range .ensures) (not-true _ (c .if3 .taken)))
+    out-of-range _ (c .before .before .before .before .before .if1 .left)
+    (c .before .before .before .before .is-marked .ensures .yes (not-false _ (c .before .before .before .if2 .left))) (fails (c .before .fields-in-range .ensures) (not-true _ (c .if3 .taken)))
 
 returns-4 : tie.Need-returns-4
 returns-4 c =
-    wrong-length _ (c .before .before .before .before .before .before .before .if1 .left) (c .before .before .before .before .before .before .is-marked .ensures .yes (not-false _ (c .before .before .before .before .before .if2 .left))) (c .before .before .before .fields-in-range .ensures .yes (not-false _ (c .before .before .if3 .left))) (λ e. omega arith)
+    wrong-length _ (c .before .before .before .before .before .before .before .if1 .left)
+    (c .before .before .before .before .before .before .is-marked .ensures .yes (not-false _ (c .before .before .before .before .before .if2 .left)))
+    (c .before .before .before .fields-in-range .ensures .yes (not-false _ (c .before .before .if3 .left))) (λ e. omega arith)
 
 body-verdict-requires : tie.Need-body-verdict-requires
 body-verdict-requires c κs =
-    ((c .before .before .before .before .before .before .is-marked .ensures .yes (not-false _ (c .before .before .before .before .before .if2 .left))), record { fields = (c .before .before .before .fields-in-range .ensures .yes (not-false _ (c .before .before .if3 .left))); size = omega arith }, c .before .before .before .before .read .ensures)
+    let fields = c .before .before .before .before .fields-in-range .ensures .yes (not-false _ (c .before .before .before .if3 .left)) in (
+      c .before .before .before .before .before .before .before .is-marked .ensures .yes (not-false _ (c .before .before .before .before .before .before .if2 .left)),
+      record { fields = fields; size = omega arith },
+      c .before .before .before .before .before .read .ensures,
+    )
 
 pub verdict-spec : {M : Type 1} → statement M
 verdict-spec =

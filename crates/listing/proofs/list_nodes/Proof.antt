@@ -1,4 +1,4 @@
--- The loop over the nodes ends: their numbers rise to 64. Assumes nothing.
+-- The loop over the nodes ends: their numbers rise to 64.
 use Prim.Native.Nat.{_-_, _≤_}
 use native.Mathlib.Omega.{arith}
 use borrow.Author.Needs.{needs}

@@ -1,4 +1,4 @@
--- A book is full by its streams or by its hops. Assumes nothing.
+-- A book is full by its streams or by its hops.
 use mathlib.Core.Logic.{inl, inr, ⊎-elim}
 use native.Mathlib.Omega.{arith}
 use borrow.Author.Needs.{needs}

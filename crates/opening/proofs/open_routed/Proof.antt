@@ -1,65 +1,80 @@
--- Places the stream on its route: refused by 8, 9 or 12, or the image with its row. Assumes nothing.
+-- Places the stream on its route: refused by 8, 9 or 12, or the image with its row.
 use native.Mathlib.Omega.{arith}
-use mathlib.Core.Path.{_≡_, refl, sym, subst}
-use mathlib.Core.List.{List}
+use mathlib.Core.Path.{_≡_, refl, sym}
+use mathlib.Core.List.{List, [], _∷_}
 use Prim.Native.Nat.{ℕ, _-_}
 use lib.ListN.{length, take}
 use lib.Seq.{length-take-le}
-use Rattle.rules.specs.Tiles.{periodAt}
+use Rattle.rules.specs.Words.{Tests}
+use Rattle.rules.specs.Periods.{theAsked}
+use Rattle.rules.specs.Placing.{Full}
+use Rattle.rules.proofs.Periods.{period-most}
 use Rattle.rules.proofs.Tests.{fails}
-use Rattle.model.specs.Reading.{bookIn}
-use Rattle.placing.specs.Answers.{Answers}
-use Rattle.placing.specs.declared.Found.{Found}
+use Rattle.rules.proofs.Reading.{bookIn}
 use Rattle.answers.proofs.Replies.{reply-refused, reply-next}
-use Rattle.opening.proofs.Routed.{routed-in, tests-full, room-left}
+use Rattle.opening.proofs.Placed.{placing-asked, placed-first, placed-none}
+use Rattle.opening.proofs.Routed.{routed-in, none-placed, one-placed, new-row, some-placed, tests-full, room-left}
 use borrow.Author.Needs.{needs}
 use Rattle.opening.proofs.open_routed.Statement.{statement}
 use Rattle.opening.proofs.open_routed.Tie as tie
 
+-- whether the book is full
+full : (c : tie.After-is-full) → let a = c .before .before .before .before .before .args in Tests (c .is-full .result) (Full (bookIn (a .image .now)) (a .route .now ∷ []))
+full c =
+    let a = c .before .before .before .before .before in
+    tests-full (a .args .image .now) (a .args .book) (a .args .route .now) _ (a .pre .new .asked .image .newest .lawful) (a .pre .new .asked .header) refl (c .is-full .ensures)
+
+-- it is not
+room : (c : tie.Else1) → let a = c .before .before .before .before .before .before .args in Full (bookIn (a .image .now)) (a .route .now ∷ []) → ⊥
+room c = fails (full (c .before)) (c .if1 .left)
+
 returns : tie.Need-returns
-returns c =
-    let a = c .before .before .before .before .before .before .before in
-    reply-refused ((tests-full (a .args .image .now) (a .args .book) (a .args .route .now) _ (a .pre .0 .beside .stored) (a .pre .0 .beside .header) refl (c .before .before .is-full .ensures)) .yes (c .before .if1 .taken)) (λ z. omega arith) (c .refused .ensures .0) (c .refused .ensures .1)
+returns c = reply-refused (full (c .before .before) .yes (c .before .if1 .taken)) (λ z. omega arith) (c .refused .ensures .0) (c .refused .ensures .1)
+
+first-placing-requires : tie.Need-first-placing-requires
+first-placing-requires c κs = placing-asked (c .before .before .before .before .before .before .before .pre)
 
 array-share-prefix-offsets : tie.Need-array-share-prefix-offsets
 array-share-prefix-offsets c =
-    let n : length (c .before .before .before .before .first-placing .result .offsets) ≡ 15 = search needs in
-    omega (arith, c .before .before .before .before .before .before .before .before .before .before .before .pre .0 .path .most)
+    let n : length (c .before .before .before .first-placing .result .offsets) ≡ 15 = search needs in
+    omega (arith, c .before .before .before .before .before .before .before .before .before .before .before .pre .few)
 
 slice-aggregate-put-in : tie.Need-slice-aggregate-put-in
 slice-aggregate-put-in c =
     let a = c .before .before .before .before .before .before .before .before .before .before .before .before in
-    let offsets : List ℕ = c .before .before .before .before .before .first-placing .result .offsets in
-    let ok = c .before .before .before .before .before .first-placing .ok in
+    let offsets : List ℕ = c .before .before .before .before .first-placing .result .offsets in
+    let ok = c .before .before .before .before .first-placing .ok in
     let n : length offsets ≡ 15 = search needs in
-    sym (length-take-le (length (a .args .route .now) - 1) offsets (omega (arith, a .pre .0 .path .most)))
+    sym (length-take-le (length (a .args .route .now) - 1) offsets (omega (arith, a .pre .few)))
 
 put-in-requires : tie.Need-put-in-requires
 put-in-requires c κs =
     let a = c .before .before .before .before .before .before .before .before .before .before .before .before .before in
-    let offsets : List ℕ = c .before .before .before .before .before .before .first-placing .result .offsets in
-    let ok = c .before .before .before .before .before .before .first-placing .ok in
+    let offsets : List ℕ = c .before .before .before .before .before .first-placing .result .offsets in
+    let ok = c .before .before .before .before .before .first-placing .ok in
     let n : length offsets ≡ 15 = search needs in
-    let k : length (take (length (a .args .route .now) - 1) offsets) ≡ length (a .args .route .now) - 1 = length-take-le (length (a .args .route .now) - 1) offsets (omega (arith, a .pre .0 .path .most)) in
-    let left = room-left (a .args .image .now) (a .args .route .now) (a .pre .0 .beside .stored) (fails (tests-full (a .args .image .now) (a .args .book) (a .args .route .now) _ (a .pre .0 .beside .stored) (a .pre .0 .beside .header) refl (c .before .before .before .before .before .before .before .before .is-full .ensures)) (c .before .before .before .before .before .before .before .if1 .left)) in (
-      (a .pre .0 .beside .stored, a .pre .1),
-      ((omega (arith, a .pre .0 .path .some), omega (arith, a .pre .0 .path .most), omega (arith, c .before .before .period-at .ensures .1)), (left .0, omega (arith, left .1))),
+    let k : length (take (length (a .args .route .now) - 1) offsets) ≡ length (a .args .route .now) - 1 = length-take-le (length (a .args .route .now) - 1) offsets (omega (arith, a .pre .few)) in
+    let left = room-left (a .args .image .now) (a .args .route .now) (a .pre .new .asked .image .newest .lawful) (room (c .before .before .before .before .before .before .before)) in (
+      (a .pre .new .asked .image .newest, a .pre .new .vacant),
+      ((omega (arith, a .pre .path .some), omega (arith, a .pre .few), omega (arith, a .pre .new .asked .period-is, period-most _ (a .pre .new .asked .period))), (left .0, omega (arith, left .1))),
     )
 
 returns-2 : tie.Need-returns-2
 returns-2 c =
-    let a = c .before .before .before .before .before .before .before .before .before .before .before in
-    reply-next (fails (tests-full (a .args .image .now) (a .args .book) (a .args .route .now) _ (a .pre .0 .beside .stored) (a .pre .0 .beside .header) refl (c .before .before .before .before .before .before .is-full .ensures)) (c .before .before .before .before .before .if1 .left))
-    (reply-refused (subst (λ (f : Found). Answers (bookIn (a .args .image .now)) (periodAt (a .args .place)) (a .args .route .now) f (c .before .before .before .before .first-placing .result .offsets)) (c .before .enum-told .given .1) (c .before .before .before .before .first-placing .ensures) .0)
+    let a = c .before .before .before .before .before .before .before .before .before .before .before .before in
+    let found = c .before .before .before .before .first-placing in
+    reply-next (room (c .before .before .before .before .before .before))
+    (reply-refused (none-placed (placed-none (a .pre) (found .result .found) (found .result .offsets) (found .ensures) (c .before .enum-told .given .1)))
     (λ z. omega arith) (c .refused2 .ensures .0) (c .refused2 .ensures .1))
 
 returns-3 : tie.Need-returns-3
 returns-3 c =
-    let a = c .before .before .before .before .before .before .before .before .before .before .before .before .before .before .before .before in
-    let s : List ℕ = a .args .image .now in
-    let first = subst (λ (f : Found). Answers (bookIn s) (periodAt (a .args .place)) (a .args .route .now) f (c .before .before .before .before .before .before .before .before .before .first-placing .result .offsets)) (c .before .before .before .before .before .before .enum-told2 .given .1) (c .before .before .before .before .before .before .before .before .before .first-placing .ensures) .0 in
-    routed-in s (a .args .id) (periodAt (a .args .place)) (a .args .route .now) _ (record { named = refl; every = c .before .before .before .before .before .period-at .ensures .0; along = refl; placed = first })
-    (fails (tests-full (a .args .image .now) (a .args .book) (a .args .route .now) _ (a .pre .0 .beside .stored) (a .pre .0 .beside .header) refl (c .before .before .before .before .before .before .before .before .before .before .before .is-full .ensures)) (c .before .before .before .before .before .before .before .before .before .before .if1 .left)) (λ f. f _ (first .placing)) (c .before .before .put-in .ensures)
+    let else = c .before .before .before .before .before .before .before .before .before .before in
+    let a = else .before .before .before .before .before .before in
+    let found = c .before .before .before .before .before .before .before .before .first-placing in
+    let first = placed-first (a .pre) (found .result .found) (found .result .offsets) (found .ensures) (c .before .before .before .before .before .enum-told2 .given .1) in
+    let row = new-row (theAsked (a .args .q)) _ _ first in
+    routed-in (a .args .image .now) _ _ _ (one-placed row) (room else) (some-placed row) (c .before .before .put-in .ensures)
 
 pub open-routed-spec : {M : Type 1} → statement M
 open-routed-spec =
@@ -69,11 +84,10 @@ open-routed-spec =
     (λ c κs. search needs)
     (λ c κs. search needs)
     returns
-    (λ c κs. search needs)
+    first-placing-requires
     (λ c. search needs)
     (λ c κs. search needs)
     (λ c. search needs)
-    (λ c κs. search needs)
     array-share-prefix-offsets
     slice-aggregate-put-in
     put-in-requires

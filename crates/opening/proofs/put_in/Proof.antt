@@ -1,4 +1,4 @@
--- The image with a row more is its front with other counts, the row, and what stands behind it. Assumes nothing.
+-- The image with a row more is its front with other counts, the row, and what stands behind it.
 use native.Mathlib.Omega.{arith}
 use mathlib.Core.Path.{_≡_, refl}
 use mathlib.Core.List.{List}
@@ -7,7 +7,7 @@ use lib.ListN.{length, drop, length-drop}
 use lib.Seq.{take-all}
 use Rattle.rules.specs.Topology.{hopCount}
 use Rattle.rules.specs.Book.{Row}
-use Rattle.rules.specs.Image.{streamsOf, hopsOf}
+use Rattle.rules.specs.Image.{newest, streamsOf, hopsOf}
 use Rattle.rules.proofs.Encoding.{Sized}
 use Rattle.finding.proofs.Ids.{stored-long}
 use Rattle.opening.proofs.More.{place-low, in-refused, in-done}
@@ -15,26 +15,38 @@ use borrow.Author.Needs.{needs}
 use Rattle.opening.proofs.put_in.Statement.{statement}
 use Rattle.opening.proofs.put_in.Tie as tie
 
-sized : (r : Row) → length (r .route) ≡ length (r .offsets) + 1 → 1 ≤ length (r .route) → Sized r
+sized : (r : Row) → length (r .route) ≡ length (r .offsets) + 1 → 1 ≤ length (r .route) → Sized newest r
 sized r e l = record { nodes = omega arith; offsets = omega arith }
 
 read-requires : tie.Need-read-requires
-read-requires c κs = stored-long (c .before .before .before .before .pre .0 .0)
+read-requires c κs = stored-long (c .before .before .before .before .pre .0 .0 .lawful)
 
 returns : tie.Need-returns
 returns c =
     let a = c .before .before .before .before .before .before .before in
     let r : Row = (record { id = a .args .id; period = a .args .period .0; route = a .args .route .now; offsets = a .args .offsets .now }) in
     let h : hopCount (r .route) ≡ length (r .offsets) = omega (arith, a .pre .1 .0 .0) in
-    in-refused (a .args .image .now) (a .args .at) r (a .pre .0 .0) (a .pre .0 .1) (sized r (a .pre .1 .0 .0) (omega (arith, a .pre .1 .0 .0))) _ _ refl refl (a .args .out .now) (omega (arith, c .before .if1 .taken)) (c .refused .ensures .0)
+    in-refused (a .args .image .now) (a .args .at) r (a .pre .0 .0) (a .pre .0 .1) (sized r (a .pre .1 .0 .0) (omega (arith, a .pre .1 .0 .0))) _ _ refl refl
+    (a .args .out .now) (omega (arith, c .before .if1 .taken)) (c .refused .ensures .0)
     (c .refused .ensures .1)
 
 put-head-requires : tie.Need-put-head-requires
 put-head-requires c κs =
-    let a = c .before .before .before .before .before .before .before .before .before in (place-low (a .args .image .now) (a .args .at) (record { id = a .args .id; period = a .args .period .0; route = a .args .route .now; offsets = a .args .offsets .now }) (a .pre .0 .0) (a .pre .0 .1), a .pre .0 .1 .inside, omega (arith, a .pre .0 .1 .inside, c .before .before .before .if1 .left))
+    let a = c .before .before .before .before .before .before .before .before .before in (
+      place-low (a .args .image .now) (a .args .at)
+          (record { id = a .args .id; period = a .args .period .0; route = a .args .route .now; offsets = a .args .offsets .now }) (a .pre .0 .0)
+          (a .pre .0 .1),
+      a .pre .0 .1 .inside,
+      omega (arith, a .pre .0 .1 .inside, c .before .before .before .if1 .left),
+    )
 
 put-row-requires : tie.Need-put-row-requires
-put-row-requires c κs = let a = c .before .before .before .before .before .before .before .before .before .before .before .before .before in (a .pre .1 .0, omega (arith, a .pre .0 .1 .inside, a .pre .1 .0 .0, c .before .before .before .before .before .before .before .if1 .left, c .before .before .before .put-head .kept))
+put-row-requires c κs =
+    let a = c .before .before .before .before .before .before .before .before .before .before .before .before .before in (
+      a .pre .1 .0,
+      omega
+          (arith, a .pre .0 .1 .inside, a .pre .1 .0 .0, c .before .before .before .before .before .before .before .if1 .left, c .before .before .before .put-head .kept),
+    )
 
 sub-put-part : tie.Need-sub-put-part
 sub-put-part c = c .before .before .before .before .before .before .before .before .before .before .before .before .before .before .before .before .pre .0 .1 .inside
@@ -43,7 +55,9 @@ part-put-part-start : tie.Need-part-put-part-start
 part-put-part-start c = c .before .before .before .before .before .before .before .before .before .before .before .before .before .before .before .before .pre .0 .1 .inside
 
 add-put-part : tie.Need-add-put-part
-add-put-part c = let a = c .before .before .before .before .before .before .before .before .before .before .before .before .before .before .before .before .before .before in omega (arith, a .pre .0 .1 .inside, a .pre .1 .0 .1, c .before .before .before .before .before .before .before .before .before .before .before .before .if1 .left)
+add-put-part c =
+    let a = c .before .before .before .before .before .before .before .before .before .before .before .before .before .before .before .before .before .before in omega
+    (arith, a .pre .0 .1 .inside, a .pre .1 .0 .1, c .before .before .before .before .before .before .before .before .before .before .before .before .if1 .left)
 
 put-part-requires : tie.Need-put-part-requires
 put-part-requires c κs =
@@ -58,8 +72,10 @@ returns-2 c =
     let s : List ℕ = a .args .image .now in
     let k : read .read .result .hops + length (a .args .offsets .now) ≡ hopsOf s + hopCount (r .route) = omega (arith, read .read .ensures .hops) in
     let n : read .read .result .streams + 1 ≡ streamsOf s + 1 = omega (arith, read .read .ensures .streams) in
-    in-done s (a .args .at) r (a .pre .0 .0) (a .pre .0 .1) (sized r (a .pre .1 .0 .0) (omega (arith, a .pre .1 .0 .0))) _ _ n k (a .args .out .now) _ _ _ _ _ (omega (arith, c .before .before .before .before .before .before .before .before .before .before .before .before .before .before .before .before .if1 .left)) (c .done .ensures .0)
-    (omega (arith, c .done .ensures .1)) (c .before .before .before .before .before .before .before .before .before .before .before .before .put-head .ensures) (c .before .before .before .before .before .before .before .before .put-row .ensures) (omega arith)
+    in-done s (a .args .at) r (a .pre .0 .0) (a .pre .0 .1) (sized r (a .pre .1 .0 .0) (omega (arith, a .pre .1 .0 .0))) _ _ n k (a .args .out .now) _ _ _ _ _
+    (omega (arith, c .before .before .before .before .before .before .before .before .before .before .before .before .before .before .before .before .if1 .left)) (c .done .ensures .0)
+    (omega (arith, c .done .ensures .1)) (c .before .before .before .before .before .before .before .before .before .before .before .before .put-head .ensures)
+    (c .before .before .before .before .before .before .before .before .put-row .ensures) (omega arith)
     (take-all (length s - a .args .at) (drop (a .args .at) s) (omega (arith, length-drop (a .args .at) s))) (c .before .before .before .put-part .ensures)
 
 pub put-in-spec : {M : Type 1} → statement M

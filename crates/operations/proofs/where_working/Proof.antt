@@ -1,4 +1,4 @@
--- The operations 1 to 4 have the number, and the others none. Assumes nothing.
+-- The operations 1 to 4 have the number, and the others none.
 use native.Mathlib.Omega.{arith}
 use Rattle.operations.proofs.Working.{working, sleeping, controlling}
 use Rattle.operations.proofs.where_working.Statement.{statement}

@@ -1,51 +1,63 @@
--- `placing::first_placing` meets its contract. Assumes nothing.
-use Prim.Native.Nat.{_-_}
+-- Each hop gets the least offset that is free for it, after the one before.
+use Prim.Native.Nat.{_*_, _-_}
 use native.Mathlib.Omega.{arith}
 use borrow.Author.Needs.{needs}
 use Rattle.rules.specs.Tiles.{periodAt}
-use Rattle.model.specs.Reading.{bookIn}
-use Rattle.placing.proofs.Searching.{asked-hop, asked-span}
-use Rattle.placing.proofs.Choosing.{ChosenTo, chosen-none, chosen-more, chosen-all, chosen-failed, search-found, search-failed}
+use Rattle.rules.specs.Topology.{hopCount}
+use Rattle.rules.specs.Periods.{thePlan}
+use Rattle.rules.proofs.Greedy.{Least}
+use Rattle.bitset.specs.Rows.{topology}
+use Rattle.placing.specs.Answers.{FreeAt}
+use Rattle.placing.proofs.Searching.{span-most, asked-hop, search-found, search-failed}
+use Rattle.placing.proofs.Choosing.{Chosen, chosen-none, chosen-more, chosen-all, chosen-failed}
 use Rattle.placing.proofs.first_placing.Statement.{statement}
 use Rattle.placing.proofs.first_placing.Tie as tie
 
 abbrev Inv-loop : tie.InvT-loop
-Inv-loop image book links route place hops offsets₀ lo₀ h₀ offsets lo h = ChosenTo (bookIn image) (periodAt place) route h lo offsets
+Inv-loop plan hearing route place index hops offsets₀ lo₀ h₀ offsets lo h =
+    Chosen (FreeAt (thePlan plan) (topology hearing) index (periodAt place) route) (periodAt place * plan .slots .0) (hopCount route) h lo offsets
 
 abbrev μ-loop : tie.MeasureT-loop
-μ-loop image book links route place hops offsets₀ lo₀ h₀ offsets lo h = hops - h
+μ-loop plan hearing route place index hops offsets₀ lo₀ h₀ offsets lo h = hops - h
 
 loop-holds : tie.Need-loop-holds Inv-loop μ-loop
-loop-holds c =
-    let b = c .before .before .before in
-    chosen-none _ _ (b .args .route .now) (b .pre .path .most)
+loop-holds c = chosen-none _ _ _ (c .before .before .pre .few)
 
 next-offset-requires : tie.Need-next-offset-requires Inv-loop μ-loop
 next-offset-requires c κs =
-    let w = c .before .before .before .before .before .before .before .pre in
-    (w .beside, w .linked, asked-hop w (c .before .before .before .loop .h) (c .before .before .loop-test .taken))
+    let w = c .before .before .before .before .before .before .pre in
+    (w .in-range, w .period, asked-hop w (c .before .before .before .loop .h) (c .before .before .loop-test .taken))
+
+-- the offset that was found
+found : (c : tie.After-known-told Inv-loop μ-loop) →
+    let a = c .before .before .before .before .before .before .before .before .before .before .args in
+    let l = c .before .before .before .before .before .before .before .loop in
+    Least (FreeAt (thePlan (a .plan)) (topology (a .hearing .now)) (a .index .now) (periodAt (a .place)) (a .route .now) (l .h)) (l .lo)
+    (periodAt (a .place) * a .plan .slots .0) (c .before .o .given .0 .0)
+found c =
+    let l = c .before .before .before .before .before .before .before .loop in
+    search-found _ _ _ _ (c .before .before .before .before .before .before .before .before .before .before .args .route .now) (l .h) _ _ _ (c .before .o .given .1)
+    (c .before .before .before .next-offset .ensures)
 
 add-lo : tie.Need-add-lo Inv-loop μ-loop
 add-lo c =
-    let b = c .before .before .before .before .before .before .before .before .before .before .before in
-    let l = c .before .before .before .before .before .before .before .loop in
-    let s = search-found (bookIn (b .args .image .now)) (periodAt (b .args .place)) (b .args .route .now) (l .h) (l .lo) (c .before .o .given .0 .0) (c .before .o .given .1) (c .before .before .before .next-offset .ensures) in
-    omega (arith, s .below, asked-span (b .pre))
+    let w = c .before .before .before .before .before .before .before .before .before .before .pre in
+    omega (arith, found c .below, span-most (w .in-range) (w .period))
 
 returns : tie.Need-returns Inv-loop μ-loop
 returns c =
-    let r = c .before .before .before .before .before .before .before .before .before .before .args .route .now in
+    let r = c .before .before .before .before .before .before .before .before .before .args .route .now in
     let l = c .before .before .before .before .before .before .loop in
-    chosen-failed _ _ r (l .h) _ _ (c .before .before .before .before .before .loop-test .taken) (l .inv) (search-failed _ _ r (l .h) _ (c .enum-told .given .1) (c .before .before .next-offset .ensures))
+    chosen-failed _ _ _ (l .h) _ _ (c .before .before .before .before .before .loop-test .taken) (l .inv)
+    (search-failed _ _ _ _ r (l .h) _ _ (c .enum-told .given .1) (c .before .before .next-offset .ensures))
 
 loop-again : tie.Need-loop-again Inv-loop μ-loop
 loop-again c =
-    let r = c .before .before .before .before .before .before .before .before .before .before .before .args .route .now in
     let l = c .before .before .before .before .before .before .before .loop in
-    chosen-more _ _ r (l .h) _ _ _ (c .before .before .before .before .before .before .loop-test .taken) (l .inv) (search-found _ _ r (l .h) _ _ (c .before .o .given .1) (c .before .before .before .next-offset .ensures))
+    chosen-more _ _ _ (l .h) _ _ _ (c .before .before .before .before .before .before .loop-test .taken) (l .inv) (found c)
 
 returns-2 : tie.Need-returns-2 Inv-loop μ-loop
-returns-2 c = chosen-all _ _ (c .before .before .before .before .before .args .route .now) _ _ _ (c .loop-test .left) (c .before .loop .inv)
+returns-2 c = chosen-all _ _ _ _ _ _ (c .loop-test .left) (c .before .loop .inv)
 
 pub first-placing-spec : {M : Type 1} → statement M
 first-placing-spec =

@@ -1,4 +1,4 @@
--- `placing::next_free` meets its contract. Assumes nothing.
+-- One offset after the other is tried.
 use Prim.Native.Nat.{ℕ, _-_, _<_, _≤_}
 use native.Mathlib.Nat.{le-refl}
 use native.Mathlib.Omega.{arith}
@@ -7,31 +7,33 @@ use borrow.Author.Needs.{needs}
 use Rattle.rules.specs.Tiles.{periodAt}
 use Rattle.rules.specs.Periods.{thePlan}
 use Rattle.rules.proofs.Tests.{fails}
-use Rattle.placing.specs.Answers.{FreeIn}
+use Rattle.index.specs.Marks.{InReach}
+use Rattle.placing.specs.Answers.{FreeBy}
 use Rattle.placing.proofs.next_free.Statement.{statement}
 use Rattle.placing.proofs.next_free.Tie as tie
 
 abbrev Inv-loop : tie.InvT-loop
-Inv-loop plan place table lo end o₀ o = (lo ≤ o) × ((k : ℕ) → k < o → lo ≤ k → FreeIn (thePlan plan) (periodAt place) table k → ⊥)
+Inv-loop plan place index reach lo repeats o₀ o =
+    (lo ≤ o) × ((k : ℕ) → k < o → lo ≤ k → FreeBy (InReach reach) (thePlan plan) index (periodAt place) k → ⊥)
 
 abbrev μ-loop : tie.MeasureT-loop
-μ-loop plan place table lo end o₀ o = end .0 - o
-
-span-requires : tie.Need-span-requires Inv-loop μ-loop
-span-requires c κs = (c .pre .0 .most, c .pre .1)
+μ-loop plan place index reach lo repeats o₀ o = repeats .span .0 - o
 
 loop-holds : tie.Need-loop-holds Inv-loop μ-loop
 loop-holds c = (le-refl _, λ k h l. absurd (omega arith))
 
 is-free-requires : tie.Need-is-free-requires Inv-loop μ-loop
-is-free-requires c κs = (c .before .before .before .before .pre .0, c .before .before .before .before .pre .1, omega (arith, c .if1 .taken, c .before .before .before .span .ensures .0))
+is-free-requires c κs =
+    let p = c .before .before .before .before .pre in
+    let repeats = c .before .before .before .repeats-of .ensures in
+    (p .0, p .1, repeats, omega (arith, c .if1 .taken, repeats .span-is))
 
 returns : tie.Need-returns Inv-loop μ-loop
 returns c =
     let l = c .before .before .before .before .loop in
     record {
       above = l .inv .0;
-      below = omega (arith, c .before .before .if1 .taken, c .before .before .before .before .before .span .ensures .0);
+      below = omega (arith, c .before .before .if1 .taken, c .before .before .before .before .before .repeats-of .ensures .span-is);
       holds = c .before .is-free .ensures .yes (c .if2 .taken);
       none-before = λ k h m. l .inv .1 k m h;
     }
@@ -42,7 +44,7 @@ loop-again c =
     (search needs, below-more _ _ (l .inv .1) (λ h f. fails (c .before .is-free .ensures) (c .if2 .left) f))
 
 returns-2 : tie.Need-returns-2 Inv-loop μ-loop
-returns-2 c = λ k h m. c .before .before .loop .inv .1 k (omega (arith, c .if1 .left, c .before .before .before .span .ensures .0)) h
+returns-2 c = λ k h m. c .before .before .loop .inv .1 k (omega (arith, c .if1 .left, c .before .before .before .repeats-of .ensures .span-is)) h
 
 pub next-free-spec : {M : Type 1} → statement M
 next-free-spec =
@@ -50,7 +52,7 @@ next-free-spec =
     (tie.spec
     Inv-loop
     μ-loop
-    span-requires
+    (λ c κs. (c .pre .0 .most, c .pre .1))
     loop-holds
     is-free-requires
     returns

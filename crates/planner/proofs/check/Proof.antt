@@ -1,4 +1,4 @@
--- A check says the image's number. Assumes nothing.
+-- A check says the image's number.
 use Rattle.planner.proofs.Lifts.{checked}
 use borrow.Author.Needs.{needs}
 use Rattle.planner.proofs.check.Statement.{statement}

@@ -1,4 +1,4 @@
--- An expand says the image's refusal, 4 or 12, or writes the node's table. Assumes nothing.
+-- An expand says the image's refusal, 4 or 12, or writes the node's table.
 use mathlib.Core.Path.{ap}
 use native.Mathlib.Omega.{arith}
 use Rattle.rules.specs.Table.{tableLength}
@@ -9,30 +9,43 @@ use Rattle.planner.proofs.expand.Statement.{statement}
 use Rattle.planner.proofs.expand.Tie as tie
 
 returns : tie.Need-returns
-returns c = expand-refused _ (c .before .before .verdict .ensures) (c .before .if1 .taken) _ (c .refused .ensures .0) (c .refused .ensures .1) _
+returns c = expand-refused (c .before .before .verdict .ensures) (c .before .if1 .taken) (c .refused .ensures .0) _ (c .refused .ensures .1) _
 
 read-requires : tie.Need-read-requires
 read-requires c κs = stored-long (c .before .verdict .ensures .stored (c .if1 .left))
 
 returns-2 : tie.Need-returns-2
 returns-2 c =
-    expand-unknown _ (c .before .before .before .before .before .before .verdict .ensures .stored (c .before .before .before .before .before .if1 .left)) _ (c .before .before .before .before .read .ensures) _ _ (c .before .if2 .taken) (c .refused2 .ensures .0) (c .refused2 .ensures .1)
+    expand-unknown (c .before .before .before .before .before .before .verdict .ensures .stored (c .before .before .before .before .before .if1 .left))
+    (c .before .before .before .before .read .ensures) _ _ (c .before .if2 .taken) (c .refused2 .ensures .0) (c .refused2 .ensures .1)
 
 table-length-requires : tie.Need-table-length-requires
-table-length-requires c κs = plan-held _ (c .before .before .before .before .before .verdict .ensures .stored (c .before .before .before .before .if1 .left)) _ (c .before .before .before .read .ensures)
+table-length-requires c κs = plan-held (c .before .before .before .before .before .verdict .ensures .stored (c .before .before .before .before .if1 .left)) (c .before .before .before .read .ensures)
 
 returns-3 : tie.Need-returns-3
 returns-3 c =
-    expand-short _ (c .before .before .before .before .before .before .before .before .verdict .ensures .stored (c .before .before .before .before .before .before .before .if1 .left)) _ (c .before .before .before .before .before .before .read .ensures) _ (c .before .before .before .if2 .left) _ (c .before .before .table-length .ensures) _ (c .before .if3 .taken) (c .refused3 .ensures .0) (c .refused3 .ensures .1)
+    expand-short (c .before .before .before .before .before .before .before .before .verdict .ensures .stored
+    (c .before .before .before .before .before .before .before .if1 .left)) (c .before .before .before .before .before .before .read .ensures) _ _
+    (c .before .before .before .if2 .left) (c .before .before .table-length .ensures) (c .before .if3 .taken) (c .refused3 .ensures .0) (c .refused3 .ensures .1)
 
 fill-requires : tie.Need-fill-requires
 fill-requires c κs =
-    let w = c .before .before .before .before .before .before .read .ensures in
-    ((c .before .before .before .before .before .before .before .before .verdict .ensures .stored (c .before .before .before .before .before .before .before .if1 .left), w), omega (arith, c .before .if3 .left, c .before .before .table-length .ensures, ap tableLength (w .plan)))
+    let w = c .before .before .before .before .before .before .read .ensures in (
+      (
+        c .before .before .before .before .before .before .before .before .verdict .ensures .stored
+            (c .before .before .before .before .before .before .before .if1 .left),
+        w,
+      ),
+      omega (arith, c .before .if3 .left, c .before .before .table-length .ensures, ap tableLength (w .plan)),
+    )
 
 returns-4 : tie.Need-returns-4
 returns-4 c =
-    expand-done _ (c .before .before .before .before .before .before .before .before .before .before .before .before .verdict .ensures .stored (c .before .before .before .before .before .before .before .before .before .before .before .if1 .left)) _ (c .before .before .before .before .before .before .before .before .before .before .read .ensures) _ (c .before .before .before .before .before .before .before .if2 .left) _ (c .before .before .before .before .before .before .table-length .ensures) _ (c .before .before .before .before .before .if3 .left) (c .done .ensures .0) (c .done .ensures .1) (c .before .before .before .fill .ensures)
+    expand-done (c .before .before .before .before .before .before .before .before .before .before .before .before .verdict .ensures .stored
+    (c .before .before .before .before .before .before .before .before .before .before .before .if1 .left))
+    (c .before .before .before .before .before .before .before .before .before .before .read .ensures) _ _
+    (c .before .before .before .before .before .before .before .if2 .left) (c .before .before .before .before .before .before .table-length .ensures)
+    (c .before .before .before .before .before .if3 .left) (c .done .ensures .0) (c .done .ensures .1) (c .before .before .before .fill .ensures)
 
 pub expand-spec : {M : Type 1} → statement M
 expand-spec =

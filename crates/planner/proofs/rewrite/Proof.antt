@@ -1,18 +1,19 @@
--- A rewrite says the image's refusal or 12, or writes the same bytes. Assumes nothing.
+-- A rewrite says the image's refusal or 12, or writes the same bytes.
 use Rattle.planner.proofs.Lifts.{rewrite-refused, rewrite-short, rewrite-done}
 use borrow.Author.Needs.{needs}
 use Rattle.planner.proofs.rewrite.Statement.{statement}
 use Rattle.planner.proofs.rewrite.Tie as tie
 
 returns : tie.Need-returns
-returns c = rewrite-refused _ (c .before .before .verdict .ensures) (c .before .if1 .taken) _ (c .refused .ensures .0) (c .refused .ensures .1)
+returns c = rewrite-refused (c .before .before .verdict .ensures) (c .before .if1 .taken) (c .refused .ensures .0) _ (c .refused .ensures .1)
 
 returns-2 : tie.Need-returns-2
-returns-2 c = rewrite-short _ (c .before .before .before .verdict .ensures .stored (c .before .before .if1 .left)) _ (c .before .if2 .taken) (c .refused2 .ensures .0) (c .refused2 .ensures .1)
+returns-2 c = rewrite-short (c .before .before .before .verdict .ensures .stored (c .before .before .if1 .left)) _ (c .before .if2 .taken) (c .refused2 .ensures .0) (c .refused2 .ensures .1)
 
 returns-3 : tie.Need-returns-3
 returns-3 c =
-    rewrite-done _ (c .before .before .before .before .before .before .before .verdict .ensures .stored (c .before .before .before .before .before .before .if1 .left)) _ (c .before .before .before .before .before .if2 .left) (c .done .ensures .0) (c .done .ensures .1) (c .before .before .before .put-part .ensures)
+    rewrite-done (c .before .before .before .before .before .before .before .verdict .ensures .stored (c .before .before .before .before .before .before .if1 .left)) _
+    (c .before .before .before .before .before .if2 .left) (c .done .ensures .0) (c .done .ensures .1) (c .before .before .before .put-part .ensures)
 
 pub rewrite-spec : {M : Type 1} → statement M
 rewrite-spec =

@@ -1,4 +1,4 @@
--- The entries are printed in turn, three bytes each. Assumes nothing.
+-- The entries are printed in turn, three bytes each.
 use Prim.Native.Nat.{_-_, _/_}
 use lib.ListN.{length}
 use borrow.Author.Needs.{needs}

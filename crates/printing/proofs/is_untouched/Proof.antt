@@ -1,4 +1,4 @@
--- The bytes from the place on are looked at in turn. Assumes nothing.
+-- The bytes from the place on are looked at in turn.
 use mathlib.Core.Path.{_≡_}
 use Prim.Native.Nat.{ℕ, _<_, _≤_, _-_}
 use native.Mathlib.Omega.{arith}

@@ -1,4 +1,4 @@
--- The bytes are printed in turn. Assumes nothing.
+-- The bytes are printed in turn.
 use Prim.Native.Nat.{_-_}
 use lib.ListN.{length}
 use borrow.Author.Needs.{needs}

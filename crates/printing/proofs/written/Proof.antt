@@ -1,4 +1,4 @@
--- What was written is a part of the buffer. Assumes nothing.
+-- What was written is a part of the buffer.
 use mathlib.Core.Path.{sym}
 use native.Mathlib.Omega.{arith}
 use lib.Seq.{length-take-le}

@@ -1,4 +1,4 @@
--- A whole row is tested for, then read. Assumes nothing.
+-- A whole row is tested for, then read.
 use borrow.Author.Needs.{needs}
 use borrow.Author.Tests.{not-true, not-false}
 use Rattle.rules.proofs.Tests.{fails}

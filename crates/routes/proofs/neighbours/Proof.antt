@@ -1,9 +1,9 @@
--- `routes::neighbours` meets its contract. Assumes nothing.
+-- `routes::neighbours` meets its contract.
 use mathlib.Core.Path.{_≡_}
 use native.Mathlib.Omega.{arith}
 use borrow.Author.Needs.{needs}
 use Rattle.bitset.proofs.Members.{rest-less}
-use Rattle.routes.specs.Rows.{topology}
+use Rattle.bitset.specs.Rows.{topology}
 use Rattle.routes.proofs.Gathering.{Gathering, gather-none, gather-more, gather-done}
 use Rattle.routes.proofs.neighbours.Statement.{statement}
 use Rattle.routes.proofs.neighbours.Tie as tie

@@ -1,4 +1,4 @@
--- `routes::plan` meets its contract. Assumes nothing.
+-- `routes::plan` meets its contract.
 use native.Mathlib.Omega.{arith}
 use borrow.Author.Needs.{needs}
 use Rattle.routes.proofs.Answers.{says-route, says-none}
@@ -11,12 +11,13 @@ returns c = says-none (c .before .search .ensures .no (c .if1 .taken))
 descend-requires : tie.Need-descend-requires
 descend-requires c κs =
     let d = c .before in
-    (d .before .before .before .before .before .before .pre, d .before .search .ensures .yes (omega arith))
+    (d .before .before .before .before .before .before .pre, (_, d .before .search .ensures .yes (omega arith)))
 
 returns-2 : tie.Need-returns-2
 returns-2 c =
     let d = c .before .before in
-    says-route (d .before .before .before .before .before .before .pre) (d .before .search .ensures .yes (omega arith)) (c .descend .ensures)
+    let r = d .before .search .ensures .yes (omega arith) in
+    says-route (d .before .before .before .before .before .before .pre) r (c .descend .ensures _ r)
 
 pub plan-spec : {M : Type 1} → statement M
 plan-spec =

@@ -1,4 +1,4 @@
--- Each offset is above the one before it. Assumes nothing.
+-- Each offset is above the one before it.
 use mathlib.Core.Path.{subst, sym}
 use Prim.Native.Nat.{_≤_, _-_}
 use native.Mathlib.Omega.{arith}
@@ -30,13 +30,20 @@ returns : tie.Need-returns Inv-loop μ-loop
 returns c =
     let start = c .before .before .before .before .before .before .before .before in
     let here = c .before .before .before .before in
-    said-no (λ h. offset-early _ _ _ (here .loop .inv .1) (c .before .before .offset-at .ensures .0) (c .if1 .taken) (offsets-fit _ _ _ (whole-sized _ _ (start .pre .0) .offsets) h (here .loop .i) (omega arith)))
+    said-no (λ h. offset-early _ _ _ (here .loop .inv .1) (c .before .before .offset-at .ensures .0) (c .if1 .taken)
+    (offsets-fit _ _ _ (whole-sized _ _ (start .pre .0) .offsets) h (here .loop .i) (omega arith)))
 
 returns-2 : tie.Need-returns-2 Inv-loop μ-loop
 returns-2 c =
     let start = c .before .before .before .before .before .before .before .before .before .before .before in
     let here = c .before .before .before .before .before .before .before in
-    said-no (λ h. omega (arith, offsets-fit _ _ _ (whole-sized _ _ (start .pre .0) .offsets) h (here .loop .i) (omega arith) .within, c .before .before .before .before .before .offset-at .ensures, c .before .before .before .before .before .before .before .before .span .ensures))
+    said-no (λ h. omega (
+      arith,
+      offsets-fit _ _ _ (whole-sized _ _ (start .pre .0) .offsets) h (here .loop .i)
+          (omega arith) .within,
+      c .before .before .before .before .before .offset-at .ensures,
+      c .before .before .before .before .before .before .before .before .span .ensures,
+    ))
 
 on-data-requires : tie.Need-on-data-requires Inv-loop μ-loop
 on-data-requires c κs =
@@ -48,14 +55,18 @@ returns-3 c =
     let start = c .before .before .before .before .before .before .before .before .before .before .before .before .before in
     let here = c .before .before .before .before .before .before .before .before .before in
     said-no (λ h. fails (c .before .on-data .ensures) (not-true _ (c .if3 .taken))
-    (subst (OnData (thePlan (start .args .plan)) (periodAt (start .args .period))) (sym (c .before .before .before .before .before .before .before .offset-at .ensures .0)) (offsets-fit _ _ _ (whole-sized _ _ (start .pre .0) .offsets) h (here .loop .i) (omega arith) .on-data)))
+    (subst (OnData (thePlan (start .args .plan)) (periodAt (start .args .period))) (sym (c .before .before .before .before .before .before .before .offset-at .ensures .0))
+    (offsets-fit _ _ _ (whole-sized _ _ (start .pre .0) .offsets) h (here .loop .i) (omega arith) .on-data)))
 
 loop-again : tie.Need-loop-again Inv-loop μ-loop
 loop-again c =
     let start = c .before .before .before .before .before .before .before .before .before .before .before .before .before .before in
     let here = c .before .before .before .before .before .before .before .before .before .before in (
       omega (arith, here .loop, c .before .before .before .before .before .before .before .before .before .loop-test),
-      offset-more _ _ _ (here .loop .inv .1) (c .before .before .before .before .before .before .before .before .offset-at .ensures .0) (c .before .before .before .before .before .before .if1 .left) (omega (arith, c .before .before .before .before .before .before .before .before .before .before .before .span .ensures)) (c .before .before .on-data .ensures .yes (not-false _ (c .before .if3 .left))),
+      offset-more _ _ _ (here .loop .inv .1) (c .before .before .before .before .before .before .before .before .offset-at .ensures .0)
+          (c .before .before .before .before .before .before .if1 .left)
+          (omega (arith, c .before .before .before .before .before .before .before .before .before .before .before .span .ensures))
+          (c .before .before .on-data .ensures .yes (not-false _ (c .before .if3 .left))),
     )
 
 returns-4 : tie.Need-returns-4 Inv-loop μ-loop

@@ -1,4 +1,4 @@
--- The rows fill the image exactly if those that are left do. Assumes nothing.
+-- The rows fill the image exactly if those that are left do.
 use native.Mathlib.Omega.{arith}
 use borrow.Author.Tests.{not-true, not-false}
 use Rattle.rules.proofs.Tests.{fails, said-no}
@@ -19,7 +19,8 @@ loop-holds c = still-start _ _ (c .before .before .before .before .pre .framed) 
 returns : tie.Need-returns Inv-loop μ-loop
 returns c =
     let start = c .before .before .before .before .before .before .before .before in
-    said-no (λ h. still-no (c .before .before .before .loop .inv) (omega arith) (λ g. fails (c .before .is-whole .ensures) (not-true _ (c .if1 .taken)) (g .row .whole)) (all-fill _ (start .pre .framed) h))
+    said-no (λ h. still-no (c .before .before .before .loop .inv) (omega arith) (λ g. fails (c .before .is-whole .ensures) (not-true _ (c .if1 .taken)) (g .row .whole))
+    (all-fill _ (start .pre .framed) h))
 
 id-at-requires : tie.Need-id-at-requires Inv-loop μ-loop
 id-at-requires c κs = c .before .is-whole .ensures .yes (not-false _ (c .if1 .left))
@@ -38,7 +39,8 @@ returns-3 : tie.Need-returns-3 Inv-loop μ-loop
 returns-3 c =
     let start = c .before .before .before .before .before .before .before .before .before .before .before .before in
     let here = c .before .before .before .before .before .before .before in
-    said-no (λ h. still-no (here .loop .inv) (omega arith) (λ g. fails (c .before .row-holds .ensures) (not-true _ (c .if3 .taken)) (row-by-read (start .pre) (g .row .lawful))) (all-fill _ (start .pre .framed) h))
+    said-no (λ h. still-no (here .loop .inv) (omega arith) (λ g. fails (c .before .row-holds .ensures) (not-true _ (c .if3 .taken))
+    (row-by-read (start .pre) (g .row .lawful))) (all-fill _ (start .pre .framed) h))
 
 next-requires : tie.Need-next-requires Inv-loop μ-loop
 next-requires c κs =

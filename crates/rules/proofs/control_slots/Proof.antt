@@ -1,4 +1,4 @@
--- A tile's control slots are those of its kind. Assumes nothing.
+-- A tile's control slots are those of its kind.
 use native.Mathlib.Omega.{arith}
 use borrow.Author.Needs.{needs}
 use Rattle.rules.specs.Periods.{thePlan}

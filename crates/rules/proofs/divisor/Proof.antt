@@ -1,4 +1,4 @@
--- The divisor at two places is the table's rule, proved once over the whole table. Assumes nothing.
+-- The divisor at two places is the table's rule, proved once over the whole table.
 use mathlib.Core.List.{List, [], _∷_}
 use Prim.Native.Nat.{ℕ}
 use borrow.Author.Needs.{needs}

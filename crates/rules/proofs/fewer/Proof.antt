@@ -1,4 +1,4 @@
--- The smaller of two counts is one of them. Assumes nothing.
+-- The smaller of two counts is one of them.
 use mathlib.Core.Path.{refl}
 use mathlib.Core.Logic.{inl, inr}
 use borrow.Author.Needs.{needs}

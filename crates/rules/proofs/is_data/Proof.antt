@@ -1,4 +1,4 @@
--- A data slot is none of its tile's control slots. Assumes nothing.
+-- A data slot is none of its tile's control slots.
 use borrow.Author.Needs.{needs}
 use Rattle.rules.specs.Periods.{thePlan}
 use Rattle.rules.proofs.Plans.{tests-data-slot}

@@ -1,4 +1,4 @@
--- Offsets that agree by the modulus are those of hops that meet. Assumes nothing.
+-- Offsets that agree by the modulus are those of hops that meet.
 use borrow.Author.Needs.{needs}
 use Rattle.rules.proofs.Periods.{meet-tests}
 use Rattle.rules.proofs.meets.Statement.{statement}

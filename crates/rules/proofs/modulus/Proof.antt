@@ -1,4 +1,4 @@
--- The modulus is the divisor's tiles in slots. Assumes nothing.
+-- The modulus is the divisor's tiles in slots.
 use native.Mathlib.Omega.{arith}
 use borrow.Author.Needs.{needs}
 use Rattle.rules.proofs.Periods.{modulus-fits, modulus-of}

@@ -1,4 +1,4 @@
--- Offsets behind the control slots of both kinds of tile are on data slots; the others are tested turn by turn. Assumes nothing.
+-- Offsets behind the control slots of both kinds of tile are on data slots; the others are tested turn by turn.
 use borrow.Author.Needs.{needs}
 use Rattle.rules.specs.Tiles.{periodAt}
 use Rattle.rules.specs.Periods.{thePlan}

@@ -1,4 +1,4 @@
--- The period at a place is the list's. Assumes nothing.
+-- The period at a place is the list's.
 use mathlib.Core.Path.{refl}
 use borrow.Author.Needs.{needs}
 use Rattle.rules.proofs.Periods.{period-most}

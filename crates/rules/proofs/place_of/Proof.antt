@@ -1,4 +1,4 @@
--- A period is sought from the first place on. Assumes nothing.
+-- A period is sought from the first place on.
 use mathlib.Core.Path.{_≡_}
 use Prim.Native.Nat.{ℕ, _≤_, _<_, _-_}
 use native.Mathlib.Omega.{arith}

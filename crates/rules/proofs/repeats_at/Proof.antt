@@ -1,4 +1,4 @@
--- The repeats at a place are the table's rule, proved once over the whole table. Assumes nothing.
+-- The repeats at a place are the table's rule, proved once over the whole table.
 use mathlib.Core.List.{List, [], _∷_}
 use Prim.Native.Nat.{ℕ}
 use borrow.Author.Needs.{needs}

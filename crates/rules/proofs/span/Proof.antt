@@ -1,4 +1,4 @@
--- The slots of a period are its tiles' slots. Assumes nothing.
+-- The slots of a period are its tiles' slots.
 use mathlib.Core.Path.{refl, ap}
 use Prim.Native.Nat.{ℕ, _*_}
 use native.Mathlib.Omega.{arith}

@@ -1,4 +1,4 @@
--- Offsets on data slots are tested until the kinds of the tiles come again. Assumes nothing.
+-- Offsets on data slots are tested until the kinds of the tiles come again.
 use mathlib.Core.Path.{sym, subst, _∙_}
 use mathlib.Core.Logic.{inl, inr, ⊎-elim}
 use Prim.Native.Nat.{ℕ, _+_, _*_, _-_, _<_, _≤_}

@@ -1,4 +1,4 @@
--- A line is taken apart into a word, numbers and a text. Assumes nothing.
+-- A line is taken apart into a word, numbers and a text.
 use mathlib.Core.Path.{sym}
 use native.Mathlib.Omega.{arith}
 use lib.Seq.{length-take-le}

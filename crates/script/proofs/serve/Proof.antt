@@ -1,4 +1,4 @@
--- Each line starts behind the end of the one before. Assumes nothing.
+-- Each line starts behind the end of the one before.
 use Prim.Native.Nat.{_≤_, _-_}
 use mathlib.Core.Path.{_≡_}
 use lib.ListN.{length}

@@ -1,4 +1,4 @@
--- As many bytes are copied as the image has. Assumes nothing.
+-- As many bytes are copied as the image has.
 use native.Mathlib.Omega.{arith}
 use Rattle.io.proofs.Counting.{counts}
 use borrow.Author.Needs.{needs}

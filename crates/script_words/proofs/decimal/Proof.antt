@@ -1,4 +1,4 @@
--- The value stays within the limit. Assumes nothing.
+-- The value stays within the limit.
 use Prim.Native.Nat.{_≤_, _-_}
 use lib.ListN.{length}
 use borrow.Author.Needs.{needs}

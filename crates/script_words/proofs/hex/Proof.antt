@@ -1,4 +1,4 @@
--- As many bytes are written as were spelt, and no more than there is room for. Assumes nothing.
+-- As many bytes are written as were spelt, and no more than there is room for.
 use Prim.Native.Nat.{_≤_, _-_}
 use mathlib.Core.Path.{_≡_}
 use lib.ListN.{length, length-set}

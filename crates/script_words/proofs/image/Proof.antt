@@ -1,4 +1,4 @@
--- The last image is a part of its buffer. Assumes nothing.
+-- The last image is a part of its buffer.
 use mathlib.Core.Path.{sym}
 use native.Mathlib.Omega.{arith}
 use lib.Seq.{length-take-le}

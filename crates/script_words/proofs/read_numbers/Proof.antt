@@ -1,4 +1,4 @@
--- Each number is read from the place behind the one before. Assumes nothing.
+-- Each number is read from the place behind the one before.
 use Prim.Native.Nat.{_≤_, _-_}
 use lib.ListN.{length}
 use borrow.Author.Needs.{needs}

@@ -1,4 +1,4 @@
--- A table is control slots and sleep, and then the rows over them. Assumes nothing.
+-- A table is control slots and sleep, and then the rows over them.
 use mathlib.Core.Path.{_≡_, refl, sym, ap, _∙_, subst}
 use Prim.Native.Nat.{_≤_}
 use native.Mathlib.Omega.{arith}
@@ -24,22 +24,23 @@ blank-requires : tie.Need-blank-requires Inv-loop μ-loop
 blank-requires c κs =
     let st = c .before .before .before in
     let e = st .pre .0 .1 .plan in
-    (subst PlanInRange (sym e) (st .pre .0 .0 .lawful .plan), subst (λ (p : Plan). tableLength p ≤ length (st .args .out .now)) (sym e) (st .pre .1))
+    (subst PlanInRange (sym e) (st .pre .0 .0 .lawful .site .plan), subst (λ (p : Plan). tableLength p ≤ length (st .args .out .now)) (sym e) (st .pre .1))
 
 rows-start-requires : tie.Need-rows-start-requires Inv-loop μ-loop
 rows-start-requires c κs = c .before .before .before .before .before .before .before .pre .0 .1 .small-nodes
 
 loop-holds : tie.Need-loop-holds Inv-loop μ-loop
 loop-holds c =
-    let h = c .before .before .before .before .before .before .before .before .pre .0 .1 in
-    (refl, stands-first (c .before .before .before .before .before .before .before .before .pre .0 .0) (h .nodes) (c .rows-start .ensures) (h .streams), follows-first (h .nodes) (c .rows-start .ensures) (h .streams))
+    let p = c .before .before .before .before .before .before .before .before .pre .0 in
+    (refl, stands-first (p .0) (p .1) (c .rows-start .ensures) refl, follows-first (p .1) (c .rows-start .ensures) refl)
 
 row-requires : tie.Need-row-requires Inv-loop μ-loop
 row-requires c κs =
     let st = c .before .before .before .before .before .before .before .before .before .before .before in
     let l = c .before .before .loop in
     let e = ap (λ (p : Plan). p .slots) (st .pre .0 .1 .plan) in
-    ((stands-row (c .before .loop-test .taken) (l .inv .1), e, omega (arith, e, st .pre .0 .0 .lawful .plan .most)), omega (arith, st .pre .1, l .inv .0, c .before .before .before .before .before .before .before .blank .kept .1 .0))
+    let same = c .before .before .before .before .before .before .before .blank .kept .1 .0 in
+    ((stands-row (c .before .loop-test .taken) (l .inv .1), e, omega (arith, e, st .pre .0 .0 .lawful .site .plan .most)), omega (arith, st .pre .1, l .inv .0, same))
 
 next-requires : tie.Need-next-requires Inv-loop μ-loop
 next-requires c κs = stands-row (c .before .before .before .before .loop-test .taken) (c .before .before .before .before .before .loop .inv .1) .whole
@@ -48,7 +49,9 @@ loop-again : tie.Need-loop-again Inv-loop μ-loop
 loop-again c =
     let l = c .before .before .before .before .before .before .loop in
     let m = c .before .before .before .before .before .loop-test .taken in
-    (omega (arith, c .before .before .before .row .kept .1 .1 .1 .1 .0, l .inv .0), stands-on m (c .next .ensures .0) (l .inv .1), follows-on m (c .next .ensures .0) (l .inv .1) (c .before .before .before .row .ensures) (l .inv .2))
+    let w = c .before .before .before .row in
+    let e = c .next .ensures .0 in
+    (omega (arith, w .kept .1 .1 .1 .1 .0, l .inv .0), stands-on m e (l .inv .1), follows-on m e (l .inv .1) (w .ensures) (l .inv .2))
 
 same-length : tie.Need-same-length Inv-loop μ-loop
 same-length c = c .before .loop .inv .0 ∙ c .before .before .before .before .before .before .blank .kept .1 .0
@@ -57,8 +60,9 @@ returns : tie.Need-returns Inv-loop μ-loop
 returns c =
     let st = c .before .before .before .before .before .before .before .before .before .before in
     let l = c .before .loop in
-    filled (st .args .image .now) (st .args .node .0) (st .pre .0 .1 .plan) (c .before .before .before .before .before .before .blank .ensures) (follows-end (c .loop-test .left) (l .inv .2))
-    (omega (arith, st .pre .1, l .inv .0, c .before .before .before .before .before .before .blank .kept .1 .0))
+    let b = c .before .before .before .before .before .before .blank in
+    filled (st .args .image .now) (st .args .node .0) (st .pre .0 .1 .plan) (b .ensures) (follows-end (c .loop-test .left) (l .inv .2))
+    (omega (arith, st .pre .1, l .inv .0, b .kept .1 .0))
 
 pub fill-spec : {M : Type 1} → statement M
 fill-spec =

@@ -1,4 +1,4 @@
--- The three bytes of one entry are written. Assumes nothing.
+-- The three bytes of one entry are written.
 use borrow.Author.Needs.{needs}
 use native.Mathlib.Omega.{arith}
 use lib.ListN.{length-set}

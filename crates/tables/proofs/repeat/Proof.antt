@@ -1,4 +1,4 @@
--- A hop's entries are written one turn after the other. Assumes nothing.
+-- A hop's entries are written one turn after the other.
 use mathlib.Core.Path.{_≡_, refl}
 use Prim.Native.Nat.{_+_, _*_, _-_, _≤_}
 use native.Mathlib.Omega.{arith}

@@ -1,4 +1,4 @@
--- A stream is read from its row. Assumes nothing.
+-- A stream is read from its row.
 use mathlib.Core.Path.{sym, ap, ap₂, _∙_, subst}
 use Prim.Native.Nat.{_≤_, _*_}
 use native.Mathlib.Omega.{arith}

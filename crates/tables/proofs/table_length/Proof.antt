@@ -1,4 +1,4 @@
--- A table has three bytes for each slot of the cycle. Assumes nothing.
+-- A table has three bytes for each slot of the cycle.
 use mathlib.Core.Path.{ap, ap₂}
 use Prim.Native.Nat.{ℕ, _*_}
 use native.Mathlib.Omega.{arith}

@@ -1,4 +1,4 @@
--- One byte stored is one byte written over. Assumes nothing.
+-- One byte stored is one byte written over.
 use native.Mathlib.Omega.{arith}
 use borrow.Author.Needs.{needs}
 use Rattle.writer.proofs.Laws.{over-one}

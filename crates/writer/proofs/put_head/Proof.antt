@@ -1,4 +1,4 @@
--- The front of an image is written part by part. Assumes nothing.
+-- The front of an image is written part by part.
 use borrow.Author.Needs.{needs}
 use native.Mathlib.Omega.{arith}
 use mathlib.Core.Path.{sym}

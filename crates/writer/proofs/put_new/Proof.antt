@@ -1,4 +1,4 @@
--- The image of a book without streams is written part by part. Assumes nothing.
+-- The image of a book without streams is written part by part.
 use Rattle.rules.specs.Periods.{thePlan}
 use Rattle.writer.proofs.Laws.{new-written}
 use borrow.Author.Needs.{needs}

@@ -1,4 +1,4 @@
--- A row is written part by part. Assumes nothing.
+-- A row is written part by part.
 use borrow.Author.Needs.{needs}
 use native.Mathlib.Omega.{arith}
 use Rattle.writer.proofs.Laws.{row-written}

@@ -1,4 +1,4 @@
--- A word is its two bytes. Assumes nothing.
+-- A word is its two bytes.
 use native.Mathlib.Omega.{arith}
 use mathlib.Core.Path.{refl}
 use Rattle.writer.proofs.Laws.{then}

@@ -1,4 +1,4 @@
--- Each field is read at its place. Assumes nothing.
+-- Each field is read at its place.
 use mathlib.Core.Path.{_∙_}
 use borrow.Author.Needs.{needs}
 use Rattle.image.proofs.Book.read.Statement.{statement}
@@ -7,10 +7,11 @@ use Rattle.image.proofs.Book.read.Tie as tie
 returns : tie.Need-returns
 returns c =
     record {
+      version = search needs;
       plan = cc;
       nodes = search needs;
       streams = search needs;
-      hops = c .long .ensures .0 ∙ c .before .word-at2 .ensures .0;
+      hops = c .long .ensures .0 ∙ c .before .word-at3 .ensures .0;
       small-nodes = search needs;
       small-streams = search needs;
       small-hops = search needs;
@@ -20,6 +21,7 @@ pub read-spec : {M : Type 1} → statement M
 read-spec =
     tie.close
     (tie.spec
+    (λ c κs. search needs)
     (λ c. search needs)
     (λ c κs. search needs)
     (λ c. search needs)

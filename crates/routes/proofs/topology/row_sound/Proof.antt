@@ -1,19 +1,19 @@
--- `routes::topology::row_sound` meets its contract. Assumes nothing.
+-- `routes::topology::row_sound` meets its contract.
 use mathlib.Core.Path.{_≡_}
 use native.Mathlib.Omega.{arith}
 use borrow.Author.Tests.{not-true, not-false}
 use Rattle.rules.proofs.Tests.{fails, said-yes, said-no}
 use Rattle.bitset.proofs.Members.{rest-less}
-use Rattle.routes.specs.Rows.{topology}
+use Rattle.bitset.specs.Rows.{topology}
 use Rattle.routes.proofs.Soundness.{Testing, test-none, test-more, test-done, too-high, one-way}
 use Rattle.routes.proofs.topology.row_sound.Statement.{statement}
 use Rattle.routes.proofs.topology.row_sound.Tie as tie
 
 abbrev Inv-loop : tie.InvT-loop
-Inv-loop links node row left₀ left = Testing (topology links) node left
+Inv-loop rows node row left₀ left = Testing (topology rows) node left
 
 abbrev μ-loop : tie.MeasureT-loop
-μ-loop links node row left₀ left = left
+μ-loop rows node row left₀ left = left
 
 loop-holds : tie.Need-loop-holds Inv-loop μ-loop
 loop-holds c =

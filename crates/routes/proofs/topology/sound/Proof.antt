@@ -1,4 +1,4 @@
--- `routes::topology::sound` meets its contract. Assumes nothing.
+-- `routes::topology::sound` meets its contract.
 use Prim.Native.Nat.{ℕ, _-_, _<_, _≤_}
 use native.Mathlib.Omega.{arith}
 use borrow.Author.Count.{below-none, below-more}
@@ -6,16 +6,17 @@ use borrow.Author.Needs.{needs}
 use borrow.Author.Tests.{not-true, not-false}
 use lib.ListN.{length}
 use Rattle.rules.proofs.Tests.{fails, said-yes, said-no}
-use Rattle.routes.specs.Rows.{topology, SoundRow}
+use Rattle.bitset.specs.Rows.{topology}
+use Rattle.routes.specs.Rows.{SoundRow}
 use Rattle.routes.proofs.Soundness.{rows-sound, sound-row}
 use Rattle.routes.proofs.topology.sound.Statement.{statement}
 use Rattle.routes.proofs.topology.sound.Tie as tie
 
 abbrev Inv-loop : tie.InvT-loop
-Inv-loop links node₀ node = (node ≤ length links) × ((a : ℕ) → a < node → SoundRow (topology links) a)
+Inv-loop rows node₀ node = (node ≤ length rows) × ((a : ℕ) → a < node → SoundRow (topology rows) a)
 
 abbrev μ-loop : tie.MeasureT-loop
-μ-loop links node₀ node = length links - node
+μ-loop rows node₀ node = length rows - node
 
 loop-holds : tie.Need-loop-holds Inv-loop μ-loop
 loop-holds c = (omega arith, below-none _)

@@ -1,4 +1,4 @@
--- Any room that a line asks for is there. Assumes nothing.
+-- Any room that a line asks for is there.
 use mathlib.Core.Path.{sym}
 use native.Mathlib.Omega.{arith}
 use lib.Seq.{length-take-le}

@@ -1,0 +1,125 @@
+//! The parts of the tiles: the ground of each kind of tile, and the hops of each stream.
+
+use super::sketch::{part_name, Sketch, HEAD, ROW};
+use crate::book::Stream;
+use crate::page::identity::{colour, name, title};
+use crate::page::markup::{joined, length};
+use crate::page::slots::{control_slots, hops, is_downlink, kind, slot_of, tile_of, Hop};
+use std::collections::BTreeSet;
+
+/// The base line of a text within its row, and of the numbers above the rows.
+const BASE: usize = 13;
+const NUMBERS: usize = HEAD - 5;
+/// The room between a node's number and its row.
+const BESIDE_ROW: usize = 5;
+/// The room between a cell and the lines around it.
+const INSET: usize = 1;
+
+/// The strokes of control slots.
+const HATCH: &str = "<pattern id=\"hatch\" width=\"5\" height=\"5\" \
+    patternUnits=\"userSpaceOnUse\" patternTransform=\"rotate(45)\">\
+    <rect class=\"hatch-ground\" width=\"5\" height=\"5\"/>\
+    <path class=\"hatch\" d=\"M0 0V5\"/></pattern>\n";
+
+impl Sketch<'_> {
+    /// Everything that the tiles use, drawn once.
+    pub fn parts(&self) -> String {
+        let number = |node: usize| {
+            let base = HEAD + node * ROW + BASE;
+            format!("<text x=\"-{BESIDE_ROW}\" y=\"{base}\">{node}</text>")
+        };
+        let nodes = (0..self.book.links.len()).map(number).collect::<String>();
+        let grounds = [true, false].map(|downlink| self.ground(downlink)).concat();
+        let streams = (0..self.book.streams.len()).map(|row| self.stream(row)).collect::<String>();
+        format!(
+            "<svg class=\"defs\" width=\"0\" height=\"0\" aria-hidden=\"true\"><defs>\n{HATCH}\
+             <g id=\"nodes\" class=\"node-names\">\
+             <text x=\"-{BESIDE_ROW}\" y=\"{NUMBERS}\">node</text>{nodes}</g>\n\
+             {grounds}{streams}</defs></svg>\n"
+        )
+    }
+
+    /// The ground of a tile of one kind, if the plan has it: control first, then sleep.
+    fn ground(&self, downlink: bool) -> String {
+        let mut plan = 0..u16::from(self.book.tiles);
+        let Some(tile) = plan.find(|&tile| is_downlink(self.book, tile) == downlink) else {
+            return String::new();
+        };
+        let rows = self.height - HEAD;
+        let control = usize::from(control_slots(self.book, tile)) * self.column;
+        format!(
+            "<g id=\"{}\"><g class=\"sleep\">\
+             <rect y=\"{HEAD}\" width=\"{}\" height=\"{rows}\"/></g>\
+             <g class=\"control\"><rect y=\"{HEAD}\" width=\"{control}\" height=\"{rows}\"/></g>\
+             <path class=\"rules\" d=\"{}\"/><g class=\"slot-numbers\">{}</g></g>\n",
+            kind(self.book, tile),
+            self.width,
+            self.rules(),
+            self.slot_numbers(),
+        )
+    }
+
+    /// The lines between columns and between rows.
+    fn rules(&self) -> String {
+        let (width, bottom) = (self.width, self.height);
+        let slots = 0..=usize::from(self.book.slots);
+        let upright = slots.map(|slot| format!("M{} {HEAD}V{bottom}", slot * self.column));
+        let nodes = 0..=self.book.links.len();
+        let level = nodes.map(|node| format!("M0 {}H{width}", HEAD + node * ROW));
+        joined(upright.chain(level), "")
+    }
+
+    /// The numbers of a tile's slots above their columns.
+    fn slot_numbers(&self) -> String {
+        let number = |slot: usize| {
+            let middle = length((slot as f64 + 0.5) * self.column as f64);
+            format!("<text x=\"{middle}\" y=\"{NUMBERS}\">{slot}</text>")
+        };
+        (0..usize::from(self.book.slots)).map(number).collect()
+    }
+
+    /// The hops of a stream, in one group for each tile of its period that has any.
+    fn stream(&self, row: usize) -> String {
+        let stream = &self.book.streams[row];
+        let tile_of = |offset: u16| tile_of(self.book, offset);
+        let tiles = stream.offsets.iter().map(|&offset| tile_of(offset)).collect::<BTreeSet<_>>();
+        let colour = colour(self.book, row);
+        let part = |&tile: &u16| {
+            let within = hops(stream).filter(|hop| tile_of(hop.offset) == tile);
+            let cells = within.map(|hop| self.hop(stream, &hop)).collect::<String>();
+            format!("<g id=\"{}\" class=\"{colour}\">{cells}</g>\n", part_name(row, tile))
+        };
+        tiles.iter().map(part).collect()
+    }
+
+    /// The two cells of a hop: one node sends, the other receives.
+    fn hop(&self, stream: &Stream, hop: &Hop) -> String {
+        let is_last = hop.place + 1 == stream.offsets.len();
+        let sends = if hop.place == 0 { "sends from above" } else { "forwards from buffer" };
+        let receives = if is_last { "receives for above" } else { "receives to buffer" };
+        let Hop { from, to, offset, .. } = *hop;
+        let slot = slot_of(self.book, offset);
+        format!(
+            "<g><title>{}, offset {offset}: node {from} {sends}, node {to} {receives}</title>\
+             {}{}</g>",
+            title(stream),
+            self.cell("sends", slot, from, stream),
+            self.cell("receives", slot, to, stream)
+        )
+    }
+
+    fn cell(&self, class: &str, slot: u16, node: u8, stream: &Stream) -> String {
+        let (left, top) = (usize::from(slot) * self.column, HEAD + usize::from(node) * ROW);
+        format!(
+            "<g class=\"{class}\"><rect x=\"{}\" y=\"{}\" width=\"{}\" height=\"{}\"/>\
+             <text x=\"{}\" y=\"{}\">{}</text></g>",
+            left + INSET,
+            top + INSET,
+            self.column - 2 * INSET,
+            ROW - 2 * INSET,
+            length(left as f64 + self.column as f64 / 2.0),
+            top + BASE,
+            name(stream)
+        )
+    }
+}

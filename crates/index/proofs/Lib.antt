@@ -1,0 +1,5 @@
+pub mod Adding
+pub mod Turns
+pub mod Seeing
+pub mod Rows
+pub mod Meets

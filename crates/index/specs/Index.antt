@@ -1,0 +1,46 @@
+-- The index of slots: for each slot of the first 100 tiles the set of nodes that send there, and of those that receive.
+use mathlib.Core.Path.{_≡_}
+use mathlib.Core.List.{List}
+use Prim.Native.Nat.{ℕ, _+_, _*_, _<_}
+use lib.ListN.{length, getD}
+use Rattle.rules.specs.Words.{Has, _∈_}
+use Rattle.rules.specs.Tiles.{Takes}
+use Rattle.rules.specs.Book.{Row, hops, rowHop, rowOffset}
+use Rattle.bitset.specs.Sets.{SetOf}
+use Rattle.clash.specs.Reach.{End, nodeAt}
+use Rattle.clash.specs.Reach.End.{sender, receiver}
+
+-- it is that of the first 100 tiles
+abbrev pub indexTiles : ℕ
+indexTiles = 100
+
+-- of at most 32 slots
+abbrev pub indexSlots : ℕ
+indexSlots = indexTiles * 32
+
+-- two words for each slot
+abbrev pub indexLength : ℕ
+indexLength = 2 * indexSlots
+
+-- where they stand: the nodes that send, then the nodes that receive
+abbrev pub wordAt : End → ℕ → ℕ
+wordAt sender slot = 2 * slot
+wordAt receiver slot = 2 * slot + 1
+
+-- by the words the node is at work in the slot, at this end of a hop
+abbrev pub AtWork : List ℕ → End → ℕ → ℕ → Type 0
+AtWork words end slot node = Has (getD words (wordAt end slot) 0) node
+
+-- a hop of the rows takes the slot, with the node at this end
+pub record Ends (S : ℕ) (rows : List Row) (end : End) (slot node : ℕ) : Type 0 where
+  pub row : Row
+  pub row-there : row ∈ rows
+  pub hop : ℕ
+  pub hop-there : hop < hops row
+  pub takes : Takes S (row .period) (rowOffset row hop) slot
+  pub is-end : node ≡ nodeAt end (rowHop row hop)
+
+-- the words are the index of the rows: each set has exactly the ends of the hops that take the slot
+pub record IndexOf (S : ℕ) (rows : List Row) (words : List ℕ) : Type 0 where
+  pub size : length words ≡ indexLength
+  pub sets : (end : End) (slot : ℕ) → slot < indexSlots → SetOf (Ends S rows end slot) (getD words (wordAt end slot) 0)

@@ -1,0 +1,3 @@
+pub mod Index
+pub mod Turns
+pub mod Marks

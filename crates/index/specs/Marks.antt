@@ -1,0 +1,68 @@
+-- What is marked in an index, and what is found there.
+use mathlib.Core.Path.{_≡_}
+use mathlib.Core.Logic.{_⊎_}
+use mathlib.Core.Bool.{Bool}
+use mathlib.Core.List.{List}
+use Prim.Native.Nat.{ℕ, _<_}
+use lib.ListN.{length, getD}
+use Rattle.rules.specs.Words.{Has, NoBitFrom, Tests}
+use Rattle.rules.specs.Tiles.{Takes}
+use Rattle.rules.specs.Topology.{Hop}
+use Rattle.rules.specs.Book.{Row, rowHop, rowOffset}
+use Rattle.clash.specs.Reach.{End, nodeAt, setAt}
+use Rattle.clash.specs.declared.Reach.{Reach}
+use Rattle.index.specs.Index.{wordAt, AtWork}
+use Rattle.index.specs.Turns.{TakesFirst, TakesIn}
+use Rattle.index.specs.declared.Repeats.{Repeats}
+
+-- the sets have the nodes that they had before, and those with P
+pub record Adds (P : End → ℕ → ℕ → Type 0) (before after : List ℕ) : Type 0 where
+  pub size : length after ≡ length before
+  pub fits : (end : End) (slot : ℕ) → NoBitFrom 64 (getD before (wordAt end slot) 0) → NoBitFrom 64 (getD after (wordAt end slot) 0)
+  pub only : (end : End) (slot node : ℕ) → AtWork after end slot node → AtWork before end slot node ⊎ P end slot node
+  pub kept : (end : End) (slot node : ℕ) → AtWork before end slot node → AtWork after end slot node
+  pub all : (end : End) (slot node : ℕ) → P end slot node → AtWork after end slot node
+
+-- one of the row's first n hops takes the slot, with the node at this end
+pub record HopsTake (S : ℕ) (r : Row) (n : ℕ) (end : End) (slot node : ℕ) : Type 0 where
+  pub hop : ℕ
+  pub there : hop < n
+  pub takes : Takes S (r .period) (rowOffset r hop) slot
+  pub is-end : node ≡ nodeAt end (rowHop r hop)
+
+-- a node with C is at work in the slot
+pub record Busy (C : End → ℕ → Type 0) (words : List ℕ) (slot : ℕ) : Type 0 where
+  pub end : End
+  pub node : ℕ
+  pub sought : C end node
+  pub there : AtWork words end slot node
+
+-- in one of the slots of its first n turns a hop finds such a node
+pub record FindsFirst (C : End → ℕ → Type 0) (words : List ℕ) (span o n : ℕ) : Type 0 where
+  pub slot : ℕ
+  pub takes : TakesFirst span o n slot
+  pub busy : Busy C words slot
+
+-- it does in one of the slots that it takes
+abbrev pub Finds : (End → ℕ → Type 0) → List ℕ → Repeats → ℕ → Type 0
+Finds C words r o = FindsFirst C words (r .span .0) o (r .turns)
+
+-- the node is in reach, as one of those that send or of those that receive
+pub data Common (senders receivers : ℕ) (reach : Reach) (node : ℕ) : Type 0 where
+  sends : Has senders node → Has (reach .senders) node → Common senders receivers reach node
+  receives : Has receivers node → Has (reach .receivers) node → Common senders receivers reach node
+
+-- the reach has the node at this end
+abbrev pub InReach : Reach → End → ℕ → Type 0
+InReach reach end node = Has (setAt end reach) node
+
+-- the hop was marked in the slots that it takes, and the test says whether a node in reach was at work in one of them before
+pub record Marks (r : Repeats) (o : ℕ) (h : Hop) (reach : Reach) (before after : List ℕ) (t : Bool) : Type 0 where
+  pub adds : Adds (λ (end : End) (slot node : ℕ). TakesIn r o slot × (node ≡ nodeAt end h)) before after
+  pub met : Tests t (Finds (InReach reach) before r o)
+
+-- by the words a hop of period K and offset o takes a slot where a node with C is at work
+pub record MeetsIn (C : End → ℕ → Type 0) (S : ℕ) (words : List ℕ) (K o : ℕ) : Type 0 where
+  pub slot : ℕ
+  pub takes : Takes S K o slot
+  pub busy : Busy C words slot

@@ -1,0 +1,97 @@
+// The index of slots: for each slot of the first 100 tiles the set of nodes that send there, and of those that receive.
+ghost use mathlib.Core.Path.{_≡_};
+ghost use Prim.Native.Nat.{_<_, _≤_};
+ghost use lib.ListN.{length};
+ghost use Rattle.rules.specs.Words.{Tests};
+ghost use Rattle.rules.specs.Tiles.{periodAt};
+ghost use Rattle.rules.specs.Periods.{InList};
+ghost use Rattle.bitset.specs.Sets.{SetOf};
+ghost use Rattle.clash.specs.Reach.{hop};
+ghost use Rattle.index.specs.Index.{indexLength};
+ghost use Rattle.index.specs.Turns.{RepeatsOf, InIndex};
+ghost use Rattle.index.specs.Marks.{Common, Marks, InReach, Finds};
+use clash::Reach;
+use rules::Node;
+use rules::Slot;
+
+// Two words for each slot of 100 tiles of 32 slots.
+pub const WORDS: usize = 6400;
+
+// How a period repeats: the slots from a turn to the next, and how many turns a cycle has.
+pub struct Repeats {
+    pub span: Slot,
+    pub turns: u16,
+}
+
+// How the period at a place repeats.
+pub fn repeats_of(slots: Slot, period: usize) -> Repeats
+    requires { ⌜ (slots .0 ≤ 32) × InList period ⌝ }
+    ensures { λ r. ⌜ RepeatsOf (slots .0) (periodAt period) r ⌝ }
+{
+    Repeats {
+        span: rules::span(slots, period),
+        turns: rules::repeats_at(period),
+    }
+}
+
+// Which of the nodes that send and of those that receive are in reach.
+fn in_reach(senders: u64, receivers: u64, reach: Reach) -> u64
+    ensures { λ r. ⌜ SetOf (Common senders receivers reach) r ⌝ }
+{
+    bitset::union(
+        bitset::intersection(senders, reach.senders),
+        bitset::intersection(receivers, reach.receivers),
+    )
+}
+
+// Marks a hop with these repeats and this offset in every slot that it takes; whether a node in reach was at work in one of them.
+pub fn mark(
+    index: &mut [u64; WORDS],
+    repeats: Repeats,
+    offset: Slot,
+    from: Node,
+    to: Node,
+    reach: Reach,
+) -> bool
+    requires { ⌜ (length (now index) ≡ indexLength) × InIndex repeats (offset .0) × (from .0 < 64) × (to .0 < 64) ⌝ }
+    ensures { λ r. ⌜ Marks repeats (offset .0) (hop from to) reach (now (index .entry)) (now (index .exit)) r ⌝ }
+{
+    let span = repeats.span.0 as usize;
+    let turns = repeats.turns;
+    let i = from.0 as usize;
+    let j = to.0 as usize;
+    let mut met: u64 = 0;
+    let mut slot = offset.0 as usize;
+    let mut turn = 0;
+    while turn < turns {
+        let at = 2 * slot;
+        let senders = index[at];
+        let receivers = index[at + 1];
+        met = bitset::union(met, in_reach(senders, receivers, reach));
+        index[at] = bitset::insert(senders, i);
+        index[at + 1] = bitset::insert(receivers, j);
+        slot += span;
+        turn += 1;
+    }
+    met != 0
+}
+
+// Whether a node in reach is at work in a slot that such a hop takes.
+pub fn finds(index: &[u64; WORDS], repeats: Repeats, offset: Slot, reach: Reach) -> bool
+    requires { ⌜ InIndex repeats (offset .0) ⌝ }
+    ensures { λ r. ⌜ Tests r (Finds (InReach reach) (now (index .entry)) repeats (offset .0)) ⌝ }
+{
+    let span = repeats.span.0 as usize;
+    let turns = repeats.turns;
+    let mut slot = offset.0 as usize;
+    let mut turn = 0;
+    while turn < turns {
+        let at = 2 * slot;
+        if in_reach(index[at], index[at + 1], reach) != 0 {
+            return true;
+        }
+        slot += span;
+        turn += 1;
+    }
+    false
+}

@@ -1,0 +1,78 @@
+-- A request judged by itself, refusal by refusal.
+use mathlib.Core.Path.{_≡_, refl, sym, _∙_, subst}
+use mathlib.Core.Logic.{_⊎_, inl, inr, ⊎-elim}
+use mathlib.Core.List.{List}
+use Prim.Native.Nat.{ℕ, _<_, _≤_}
+use native.Mathlib.Omega.{arith}
+use native.Mathlib.Decide.{decLt}
+use Rattle.rules.specs.Tiles.{Period, periodAt}
+use Rattle.rules.specs.Periods.{InList}
+use Rattle.rules.specs.Topology.{nodes}
+use Rattle.rules.specs.Placing.{Asked}
+use Rattle.rules.specs.Image.{linksStart, versionOf, nodesOf, linksOf}
+use Rattle.rules.specs.Calls.{askedRefusals}
+use Rattle.rules.proofs.Says.{None}
+use Rattle.rules.proofs.Written.{length-sets-at}
+use Rattle.image.specs.Header.{HeaderOf}
+use Rattle.image.specs.declared.Book as head
+use Rattle.answers.proofs.Replies.{reply-first, reply-then}
+use Rattle.opening.specs.Open.{JudgedBy, OpensAsked, Opens}
+use Rattle.opening.specs.Beside.{ImageBeside, AskedBeside}
+use Rattle.opening.specs.declared.Judged.the-variants.{Refused, InOrder}
+
+module _ (q : Asked) (N : ℕ) where
+  pub no-id : q .id ≡ 0 → JudgedBy q N (Refused 1)
+  no-id e = (inl (e, refl), λ z. omega arith)
+
+  module _ (id : q .id ≡ 0 → ⊥) where
+    pub no-source : N ≤ q .source → JudgedBy q N (Refused 4)
+    no-source l = (inr (id, inl (inl l, refl)), λ z. omega arith)
+
+    pub no-destination : N ≤ q .destination → JudgedBy q N (Refused 4)
+    no-destination l = (inr (id, inl (inr l, refl)), λ z. omega arith)
+
+    module _ (source : q .source < N) (destination : q .destination < N) where
+      known : (N ≤ q .source) ⊎ (N ≤ q .destination) → ⊥
+      known h = ⊎-elim (λ (l : N ≤ q .source). omega arith) (λ (l : N ≤ q .destination). omega arith) h
+
+      pub one-node : q .source ≡ q .destination → JudgedBy q N (Refused 5)
+      one-node e = (inr (id, inr (known, inl (e, refl))), λ z. omega arith)
+
+      module _ (apart : q .source ≡ q .destination → ⊥) where
+        pub no-period : (Period (q .period) → ⊥) → JudgedBy q N (Refused 6)
+        no-period f = (inr (id, inr (known, inr (apart, inl (f, refl)))), λ z. omega arith)
+
+        pub in-order : {place : ℕ} → Period (q .period) → InList place → periodAt place ≡ q .period → JudgedBy q N (InOrder place)
+        in-order p i e = ((id, (known, (apart, ((λ f. f p), tt)))), i, e)
+
+-- ON A BOOK: what was judged by the nodes that the header gives
+known-nodes : {s : List ℕ} {book : head.Book} → HeaderOf s book → book .nodes ≡ nodes (linksOf s)
+known-nodes {s} h = h .nodes ∙ sym (length-sets-at s (linksStart (versionOf s)) (nodesOf s))
+
+module _ {s : List ℕ} {book : head.Book} {q : Asked} (h : HeaderOf s book) where
+  pub judged-refused : {n number len : ℕ} {out : List ℕ} → JudgedBy q (book .nodes) (Refused n) → number ≡ n → len ≡ 0 → Opens s q out number len out
+  judged-refused {number = number} j e l =
+      let k = subst (λ (N : ℕ). JudgedBy q N (Refused number)) (known-nodes h) (subst (λ (m : ℕ). JudgedBy q (book .nodes) (Refused m)) (sym e) j) in
+      reply-first (askedRefusals q (nodes (linksOf s))) _ (k .0) (k .1) l
+
+  module _ {place : ℕ} (j : JudgedBy q (book .nodes) (InOrder place)) where
+    pub judged-opens : {number len : ℕ} {out out′ : List ℕ} → OpensAsked s q out number len out′ → Opens s q out number len out′
+    judged-opens r = reply-then (askedRefusals q (nodes (linksOf s))) _ (subst (λ (N : ℕ). None (askedRefusals q N)) (known-nodes h) (j .0)) r
+
+    below : (a : ℕ) → (book .nodes ≤ a → ⊥) → a < nodesOf s
+    below a f = go (decLt a (nodesOf s))
+      where
+        go : Dec (a < nodesOf s) → a < nodesOf s
+        go (yes l) = l
+        go (no l) = absurd (f (omega (arith, h .nodes)))
+
+    pub judged-beside : {words : List ℕ} → ImageBeside s words → AskedBeside s words book q place
+    judged-beside i = record {
+      image = i;
+      header = h;
+      source = below (q .source) (λ l. j .0 .1 .0 (inl l));
+      destination = below (q .destination) (λ l. j .0 .1 .0 (inr l));
+      apart = j .0 .1 .1 .0;
+      period = j .1;
+      period-is = j .2;
+    }

@@ -1,0 +1,41 @@
+-- What a stream is opened beside: a lawful image in the newest version, and the index of its rows.
+use mathlib.Core.Path.{_≡_}
+use mathlib.Core.List.{List}
+use Prim.Native.Nat.{ℕ, _<_, _≤_}
+use Rattle.rules.specs.Tiles.{periodAt}
+use Rattle.rules.specs.Topology.{Path, hopCount, mostRouteHops}
+use Rattle.rules.specs.Periods.{InList}
+use Rattle.rules.specs.Placing.{Asked}
+use Rattle.rules.specs.Image.{planOf, nodesOf, linksOf, hearingOf}
+use Rattle.rules.proofs.Reading.{rowsIn, NewestImage}
+use Rattle.image.specs.Header.{HeaderOf}
+use Rattle.image.specs.declared.Book.{Book}
+use Rattle.index.specs.Index.{IndexOf}
+use Rattle.finding.specs.Spot.{Vacant}
+
+-- the image is that of a lawful book in the newest version, and the words are the index of its rows
+pub record ImageBeside (s words : List ℕ) : Type 0 where
+  pub newest : NewestImage s
+  pub index : IndexOf (planOf s .slots) (rowsIn s) words
+
+-- with what the header says; the request is in order, its period at the place
+pub record AskedBeside (s words : List ℕ) (book : Book) (q : Asked) (place : ℕ) : Type 0 where
+  pub image : ImageBeside s words
+  pub header : HeaderOf s book
+  pub source : q .source < nodesOf s
+  pub destination : q .destination < nodesOf s
+  pub apart : q .source ≡ q .destination → ⊥
+  pub period : InList place
+  pub period-is : periodAt place ≡ q .period
+
+-- and its id is new: its row would stand at the place
+pub record NewBeside (s words : List ℕ) (book : Book) (q : Asked) (place at : ℕ) : Type 0 where
+  pub asked : AskedBeside s words book q place
+  pub vacant : Vacant s (q .id) at
+
+-- and with the hearing, and a route
+pub record RouteBeside (s words : List ℕ) (book : Book) (q : Asked) (place at : ℕ) (hearing route : List ℕ) : Type 0 where
+  pub new : NewBeside s words book q place at
+  pub heard : hearing ≡ hearingOf s .rows
+  pub path : Path (linksOf s) route
+  pub few : hopCount route ≤ mostRouteHops

@@ -1,0 +1,47 @@
+-- With all N nodes in the set every path keeps to it.
+use mathlib.Core.Logic.{inl, inr}
+use mathlib.Core.List.{List, [], _∷_}
+use Prim.Native.Nat.{ℕ, zero, suc, _-_, _≤_}
+use native.Mathlib.Omega.{arith}
+use lib.ListN.{take, drop}
+use Rattle.rules.specs.Words.{_∈_}
+use Rattle.rules.specs.Topology.{Topology, nodes, hopCount, middles, Path, KeepsTo, allNodes, PathWithin, Route, NoRoute}
+use Rattle.rules.proofs.Sets.{all-has}
+
+in-take : {A : Type 0} (n : ℕ) (xs : List A) (x : A) → x ∈ take n xs → x ∈ xs
+in-take zero xs x h = absurd h
+in-take (suc n) [] x h = h
+in-take (suc n) (y ∷ xs) x (inl e) = inl e
+in-take (suc n) (y ∷ xs) x (inr h) = inr (in-take n xs x h)
+
+in-drop : {A : Type 0} (n : ℕ) (xs : List A) (x : A) → x ∈ drop n xs → x ∈ xs
+in-drop zero xs x h = h
+in-drop (suc n) [] x h = h
+in-drop (suc n) (y ∷ xs) x h = inr (in-drop n xs x h)
+
+-- a node in the middle is one of the path's
+pub middle-in : (p : List ℕ) (a : ℕ) → a ∈ middles p → a ∈ p
+middle-in p a h = in-drop 1 p a (in-take (hopCount p - 1) (drop 1 p) a h)
+
+-- so every path over at most N nodes keeps to the set of them
+pub all-keep : (N : ℕ) (T : Topology) (p : List ℕ) → nodes T ≤ N → Path T p → KeepsTo (allNodes N) p
+all-keep N T p few w a h = all-has N a (omega (arith, w .known a (middle-in p a h)))
+
+-- whichever set has all nodes, the planner's route is the same
+pub within-any : {n middle source destination : ℕ} (N : ℕ) (T : Topology) → nodes T ≤ N → (p : List ℕ)
+    → PathWithin n T middle source destination p → PathWithin n T (allNodes N) source destination p
+within-any N T few p w = record {
+  between = record { path = w .between .path; starts = w .between .starts; ends = w .between .ends; keeps = all-keep N T p few (w .between .path) };
+  most = w .most;
+}
+
+module _ (N M : ℕ) (T : Topology) (few : nodes T ≤ N) (few′ : nodes T ≤ M) {source destination : ℕ} where
+  pub route-any : (p : List ℕ) → Route T (allNodes N) source destination p → Route T (allNodes M) source destination p
+  route-any p r = record {
+    is = within-any M T few′ p (r .is);
+    shortest = λ q w. r .shortest q (within-any N T few q w);
+    first = λ q w. r .first q (within-any N T few q w);
+  }
+
+  pub no-route-any : NoRoute T (allNodes N) source destination → NoRoute T (allNodes M) source destination
+  no-route-any f p w = f p (within-any N T few p w)
