@@ -21,7 +21,7 @@
  *    4  a node number is N or more
  *    5  source is destination
  *    6  period is none of 1, 2, 5, 10, 20, 50, 100
- *    7  no route of at most 15 hops
+ *    7  no route exists between the nodes, of any number of hops
  *    8  64 streams already, or hops would pass 512
  *    9  no placing exists: no free slots for the stream on its route
  *   10  a field of bytes 5 to 15 of the image, or an argument of a new book, out of its range
@@ -31,6 +31,7 @@
  *   14  image: under 16 bytes, or not the length that its header gives
  *   15  image: rows are not lawful, not rising by id, or do not fill it
  *   16  image: two clashing hops of different streams meet
+ *   17  routes between the nodes exist, but every one has over 15 hops
  *
  * An image is tested in the order 14 (under 16 bytes), 13, 10, 14, 11, 15, 16; then a call has
  * its own refusals, in the order given with it below.
@@ -97,7 +98,7 @@ uint8_t lindurask_rewrite(const uint8_t *book, size_t book_len, uint8_t *out, si
  * Opens a stream of this id (1 to 65535) from the source to the destination, every `period` tiles, and
  * writes the image of the book with it. The route is the shortest, the lowest node list among equals;
  * the slots are the lexicographically first that are free. Refusals: those of an image, then 1, 4, 5,
- * 6, 2, 7, 8, 9, 12.
+ * 6, 2, 7, 17, 8, 9, 12.
  */
 uint8_t lindurask_open(const uint8_t *book, size_t book_len, uint16_t id, uint8_t source, uint8_t destination,
                        uint16_t period, uint8_t *out, size_t out_len, size_t *length);

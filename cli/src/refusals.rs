@@ -9,7 +9,7 @@ const WORDS: [&str; 18] = [
     "the site has no node of this number",
     "source and destination are the same node",
     "a period is 1, 2, 5, 10, 20, 50 or 100 tiles",
-    "no route of at most 15 hops between these nodes",
+    "no route exists between these nodes",
     "the book is full: 64 streams or 512 hops",
     "no free slots for this stream",
     "a number of the plan or of the book's head is out of its range",

@@ -103,7 +103,7 @@ fn opened_image(
     refuse_if(source == destination, Refusal::SourceIsDestination)?;
     let period = period_of(period).ok_or(Refusal::NoSuchPeriod)?;
     refuse_if(book.holds(id), Refusal::IdInBook)?;
-    let route = planners_route(&book.topology, source, destination).ok_or(Refusal::NoRoute)?;
+    let route = planners_route(&book.topology, source, destination)?;
     refuse_if(is_full_for(&book, &route), Refusal::BookIsFull)?;
     let offsets = first_placing(&book, &route, period).ok_or(Refusal::NoPlacing)?;
     book.add(Stream { id, period, route, offsets });

@@ -1,4 +1,4 @@
-//! The reference planner: document 01 written out by definition.
+//! The reference planner: documents 01 and 02 written out by definition.
 //!
 //! It shares no code, table or test vector with the proved planner, and it is
 //! slow and plain where the proved planner is quick: a hop takes a *set* of

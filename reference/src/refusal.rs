@@ -1,4 +1,4 @@
-//! The numbers of document 01's list of answers.
+//! The numbers of document 01's list of answers, and of document 02's requests.
 
 /// The number of a call that was done.
 pub const DONE: u8 = 0;
@@ -19,7 +19,7 @@ pub enum Refusal {
     SourceIsDestination = 5,
     /// The period is none of the seven.
     NoSuchPeriod = 6,
-    /// No route of at most 15 hops.
+    /// No route exists.
     NoRoute = 7,
     /// 64 streams already, or the hops would pass 512.
     BookIsFull = 8,
@@ -40,6 +40,8 @@ pub enum Refusal {
     UnlawfulRows = 15,
     /// Two clashing hops of different rows meet.
     ClashingHopsMeet = 16,
+    /// Routes exist, and every one has over 15 hops.
+    TooFar = 17,
 }
 
 /// Refuses if the condition applies.

@@ -2,16 +2,19 @@
 //! comes first lexicographically.
 
 use crate::book::MAX_ROUTE_HOPS;
+use crate::refusal::{Refusal, refuse_if};
 use crate::topology::Topology;
 
 /// The planner's route from `source` to `destination`, two different nodes;
-/// none if there is no route of at most 15 hops.
-pub fn planners_route(topology: &Topology, source: u8, destination: u8) -> Option<Vec<u8>> {
+/// refused if no route exists, or if all that exist have over 15 hops.
+pub fn planners_route(
+    topology: &Topology,
+    source: u8,
+    destination: u8,
+) -> Result<Vec<u8>, Refusal> {
     let hops_left = distances(topology, destination);
-    let hops = hops_left[usize::from(source)]?;
-    if hops > MAX_ROUTE_HOPS {
-        return None;
-    }
+    let hops = hops_left[usize::from(source)].ok_or(Refusal::NoRoute)?;
+    refuse_if(hops > MAX_ROUTE_HOPS, Refusal::TooFar)?;
     // A shortest route is exactly one that comes one hop nearer at each step.
     // The first node list takes the lowest such neighbour each time.
     let mut route = vec![source];
@@ -23,7 +26,7 @@ pub fn planners_route(topology: &Topology, source: u8, destination: u8) -> Optio
             .expect("a node at distance d has a neighbour at distance d - 1");
         route.push(node);
     }
-    Some(route)
+    Ok(route)
 }
 
 /// For each node the fewest hops to `destination`, none where there is no way.

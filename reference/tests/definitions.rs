@@ -4,11 +4,12 @@
 mod common;
 
 use common::*;
-use reference::book::Book;
+use reference::book::{Book, MAX_ROUTE_HOPS};
 use reference::hop::{Hop, clash, hops_of};
 use reference::image;
 use reference::placing::{first_placing, serving_offsets};
 use reference::plan::{PERIODS, PLAN_TILES, Plan};
+use reference::refusal::Refusal;
 use reference::route::planners_route;
 use reference::table::{Operation, balance, table};
 use reference::topology::Topology;
@@ -86,8 +87,32 @@ fn the_route_is_the_first_of_the_shortest() {
         let mut found = Vec::new();
         all_routes(&book.topology, &mut vec![0], 5, &mut found);
         let first = found.into_iter().min_by_key(|route| (route.len(), route.clone()));
-        assert_eq!(planners_route(&book.topology, 0, 5), first);
+        assert_eq!(planners_route(&book.topology, 0, 5), first.ok_or(Refusal::NoRoute));
     }
+}
+
+#[test]
+fn a_route_is_too_far_exactly_if_all_have_over_15_hops() {
+    let mut dice = Dice(6);
+    let mut too_far = 0;
+    for _ in 0..60 {
+        // A line of 19 nodes with a link across it; sometimes it is cut.
+        let mut links: Vec<(usize, usize)> = (1..19).map(|node| (node - 1, node)).collect();
+        if dice.below(3) == 0 {
+            links.remove(dice.below(18) as usize);
+        }
+        let start = dice.below(13) as usize;
+        links.push((start, start + 2 + dice.below(4) as usize));
+        let topology = Topology::read(19, &topology(19, &links)).unwrap();
+        let mut found = Vec::new();
+        all_routes(&topology, &mut vec![0], 18, &mut found);
+        let short = found.iter().any(|route| route.len() - 1 <= MAX_ROUTE_HOPS);
+        let answer = planners_route(&topology, 0, 18);
+        assert_eq!(answer == Err(Refusal::NoRoute), found.is_empty());
+        assert_eq!(answer == Err(Refusal::TooFar), !found.is_empty() && !short);
+        too_far += usize::from(answer == Err(Refusal::TooFar));
+    }
+    assert!((10..50).contains(&too_far));
 }
 
 /// The first rising list with one number from each set, by trying all in
@@ -112,7 +137,7 @@ fn the_placing_is_the_first_of_all() {
     let (mut placed, mut unplaced) = (0, 0);
     while placed < 150 || unplaced < 30 {
         let book = small_book(&mut dice);
-        let Some(route) = planners_route(&book.topology, 0, 5) else { continue };
+        let Ok(route) = planners_route(&book.topology, 0, 5) else { continue };
         let period = PERIODS[dice.below(4) as usize];
         let serving =
             hops_of(&route).map(|hop| serving_offsets(&book, hop, period).collect()).collect();

@@ -52,7 +52,7 @@ fn p6_meet_first_in_slot_27() {
 fn p7_lowest_node_list() {
     let links = topology(4, &[(0, 1), (0, 2), (1, 3), (2, 3)]);
     let topology = Topology::read(4, &links).unwrap();
-    assert_eq!(planners_route(&topology, 0, 3), Some(vec![0, 1, 3]));
+    assert_eq!(planners_route(&topology, 0, 3), Ok(vec![0, 1, 3]));
 }
 
 #[test]
@@ -105,11 +105,11 @@ fn run_no_input() {
 const OPEN_PLAN: (u8, u8, u16, u8, u8) = (4, 1, 0, 0, 0);
 
 #[test]
-fn run_15_hops_are_accepted_and_16_are_not() {
+fn run_15_hops_are_accepted_and_16_are_too_far() {
     let book = opened(&new_book(OPEN_PLAN, &line(16)), 1, 0, 15, 100);
     assert_eq!(stream(&book, 1).route, (0..=15).collect::<Vec<u8>>());
     assert_eq!(stream(&book, 1).offsets, (0..15).collect::<Vec<u16>>());
-    assert_eq!(open_refused(&new_book(OPEN_PLAN, &line(17)), 1, 0, 16, 100), 7);
+    assert_eq!(open_refused(&new_book(OPEN_PLAN, &line(17)), 1, 0, 16, 100), 17);
 }
 
 #[test]

@@ -167,10 +167,28 @@ fn open_gives_1_2_4_5_6() {
 }
 
 #[test]
-fn open_gives_7() {
-    let apart = new_book(PLAN_A, &topology(4, &[(0, 1), (2, 3)]));
-    assert_eq!(open_refused(&apart, 1, 0, 3, 2), 7);
-    assert_eq!(open_refused(&new_book(WIDE_PLAN, &line(64)), 1, 63, 47, 100), 7);
+fn open_gives_7_where_no_route_exists() {
+    let islands = new_book(PLAN_A, &topology(4, &[(0, 1), (2, 3)]));
+    assert_eq!(open_refused(&islands, 1, 0, 3, 2), 7);
+    // Two islands, each with nodes over 15 hops away.
+    let links: Vec<_> = (1..64).filter(|&node| node != 32).map(|node| (node - 1, node)).collect();
+    let islands = new_book(WIDE_PLAN, &topology(64, &links));
+    assert_eq!(open_refused(&islands, 1, 31, 32, 100), 7);
+    assert_eq!(open_refused(&islands, 1, 0, 63, 100), 7);
+    assert_eq!(open_refused(&islands, 1, 0, 31, 100), 17);
+}
+
+#[test]
+fn open_gives_17_where_every_route_is_over_15_hops() {
+    assert_eq!(open_refused(&new_book(WIDE_PLAN, &line(17)), 1, 0, 16, 100), 17);
+    let far = new_book(WIDE_PLAN, &line(64));
+    assert_eq!(open_refused(&far, 1, 0, 63, 100), 17);
+    assert_eq!(open_refused(&far, 1, 63, 47, 100), 17);
+    assert_eq!(stream(&opened(&far, 1, 63, 48, 100), 1).route, (48..=63).rev().collect::<Vec<_>>());
+    // In a ring of 31 the way round to node 16 has 16 hops one way, 15 the other.
+    let links: Vec<_> = (0..31).map(|node| (node, (node + 1) % 31)).collect();
+    let ring = new_book(WIDE_PLAN, &topology(31, &links));
+    assert_eq!(stream(&opened(&ring, 1, 0, 16, 100), 1).route[1], 30);
 }
 
 /// `streams` streams of `hops` hops each, on a line of 64.
@@ -185,7 +203,9 @@ fn open_gives_8() {
     let book = loaded(64, 1);
     assert_eq!(open_refused(&book, 65, 0, 1, 100), 8);
     assert_eq!(open_refused(&book, 64, 0, 1, 100), 2);
-    assert_eq!(open_refused(&book, 65, 0, 63, 100), 7);
+    // 17 before 8, and 2 before 17.
+    assert_eq!(open_refused(&book, 65, 0, 63, 100), 17);
+    assert_eq!(open_refused(&book, 64, 0, 63, 100), 2);
     // 510 hops, few streams: two more fit, three do not.
     let book = loaded(34, 15);
     assert_eq!(open_refused(&book, 65, 0, 3, 1), 8);

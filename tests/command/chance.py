@@ -64,7 +64,7 @@ def read(room, name, book, dice):
         check(words[-1] == "--json" or max(map(len, said.out.split("\n"))) <= 80, "%s is wider than 80 columns" % words)
     said = room.run("quote", name, str(source), str(destination))
     offers = [got for _, got in work_out.offers(book, source, destination)]
-    if offers[0] in (7, 8):
+    if offers[0] in (7, 8, 17):
         check(said.status == 1 and said.all.startswith("refused %d: " % offers[0]), said.all)
     else:
         none = all(isinstance(got, int) for got in offers)

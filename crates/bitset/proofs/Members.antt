@@ -1,17 +1,17 @@
 -- A set is known by its members, and a walk over them from the lowest on meets each.
 use mathlib.Core.Path.{_≡_, refl, sym, _∙_, subst}
 use mathlib.Core.Logic.{_⊎_, inl, inr}
-use Prim.Native.Nat.{ℕ, zero, suc, _/_, _-_, _%_, _<_}
+use Prim.Native.Nat.{ℕ, zero, suc, _/_, _-_, _%_, _^_, _<_}
 use native.Mathlib.Nat.{pow-suc}
 use native.Mathlib.Decide.{ℕ-discrete, decLt}
 use native.Mathlib.Omega.{arith}
 use lib.Arith.{lt-one}
-use lib.Bits.{and-le-r}
+use lib.Bits.{and-le-l, and-le-r}
 use lib.Pow.{pow-pos}
 use Rattle.rules.specs.Words.{bit, Has, NoBitFrom}
 use Rattle.rules.proofs.Sets.{bit-zero, bit-suc, zero-none}
 use Rattle.bitset.specs.Sets.{SetOf, Lowest}
-use Rattle.bitset.proofs.Bits.{bit-lt, within, lowest-law, rest-law}
+use Rattle.bitset.proofs.Bits.{bit-lt, within, lowest-law, rest-law, difference-law}
 
 alike : (x y : ℕ) → x < 2 → y < 2 → (x ≡ 1 → y ≡ 1) → (y ≡ 1 → x ≡ 1) → x ≡ y
 alike zero zero h l f g = refl
@@ -79,3 +79,11 @@ lowest-or-rest {m = m} {r} k l s h = go (ℕ-discrete k m)
 -- and without it the set is a lower number
 pub rest-less : {n r : ℕ} → zero < n → NoBitFrom 64 n → SetOf (λ (k : ℕ). Has n k × (Lowest n k → ⊥)) r → r < n
 rest-less {n} {r} p h s = omega (arith, set-unique (λ k i. i) (λ k i. i) s (rest-law n p h), and-le-r n (n - 1))
+
+-- without what it has in common with another it is a lower number
+pub without-less : {n m r : ℕ} → NoBitFrom 64 n → NoBitFrom 64 m → SetOf (λ (k : ℕ). Has n k × (Has m k → ⊥)) r → (k : ℕ) → Has n k → Has m k → r < n
+without-less {n} {m} {r} h l s k i j = go (ℕ-discrete r n)
+  where
+    go : Dec (r ≡ n) → r < n
+    go (yes e) = absurd (s .only k (subst (λ (x : ℕ). Has x k) (sym e) i) .1 j)
+    go (no e) = omega (arith, set-unique (λ k i. i) (λ k i. i) s (difference-law n m h l), and-le-l n ((2 ^ 64 - 1) - m))

@@ -1,6 +1,6 @@
 -- What a request answers on a book, and makes of it, is what the rules say.
 use mathlib.Core.Path.{_≡_, refl, _∙_, subst}
-use mathlib.Core.Logic.{inl, inr}
+use mathlib.Core.Logic.{_⊎_, inl, inr, ⊎-elim}
 use mathlib.Core.Bool.{Bool}
 use mathlib.Core.List.{List, [], _∷_}
 use mathlib.Core.Option.{Option, some, none}
@@ -11,39 +11,52 @@ use lib.ListN.{length}
 use Rattle.rules.specs.Words.{Pairwise, total, Tests}
 use Rattle.rules.specs.Says.{Says}
 use Rattle.rules.specs.Tiles.{periods}
-use Rattle.rules.specs.Topology.{Topology, nodes, Route, NoRoute, hopCount}
+use Rattle.rules.specs.Topology.{Topology, nodes, Route, NoRoute, TooFar, hopCount}
 use Rattle.rules.specs.Book.{Row, Book, key, RisingByKey, Known, hopsInAll, mostStreams, mostHops}
 use Rattle.rules.specs.Placing.{FirstPlacing, NoPlacing, Asked, Planned, Full, beside, NewRows, NoPlacings}
 use Rattle.rules.specs.Placing.Planned.{one}
 use Rattle.rules.specs.Image.{newest, encode}
 use Rattle.rules.specs.Calls.{OfRoutes, Opened, Closed, Request, Made, NoRoom, openRefusals, requestRefusals}
 use Rattle.rules.specs.Calls.Request.{Open, Close}
-use Rattle.rules.proofs.Tests.{tests-or, tests-not, tests-eq, tests-le, tests-lt}
+use Rattle.rules.proofs.Tests.{alike, tests-or, tests-not, tests-eq, tests-le, tests-lt}
 use Rattle.rules.proofs.Says.{None, says-none}
 use Rattle.rules.proofs.Choice.{planned-unique, new-unique, made-unique}
 use Rattle.rules.proofs.Added.{new-route}
 use Rattle.rules.proofs.Reading.{withRows}
-use Rattle.model.specs.Search.{routeOf, placingOf, andThen}
+use Rattle.model.specs.Search.{linksOf, routeOf, placingOf, andThen}
 use Rattle.model.specs.Answer.{passes, isNone, insertAll, remove, routesOf, rowOn, newRows, rowsAdded, isFull, made, noRoom, requestTests, requestNumber}
 use Rattle.model.proofs.Tests.{tests-in, tests-known}
 use Rattle.model.proofs.Searches.{Found}
 use Rattle.model.proofs.Placings.{placing-found}
-use Rattle.model.proofs.Routes.{route-found}
+use Rattle.model.proofs.Routes.{links-found, links-some, route-found, route-only}
 use Rattle.model.proofs.Firsts.{Agree, first-says, tests-none, tests-passes}
 use Rattle.model.proofs.Rows.{insert-all, all-rising, taken, taken-id, remove-in, remove-rising, remove-all}
 
 -- ROUTES
 module _ (T : Topology) (middle : ℕ) (q : Asked) where
-  pub planned-route : {ps : List (List ℕ)} → Planned T middle q ps → NoRoute T middle (q .source) (q .destination) → ⊥
-  planned-route (one g) n = n _ (g .is)
+  -- all routes are too far, or there is none
+  abbrev pub NotPlanned : Type 0
+  NotPlanned = TooFar T middle (q .source) (q .destination) ⊎ NoRoute T middle (q .source) (q .destination)
 
-  pub routes-found : Found (Planned T middle q) (NoRoute T middle (q .source) (q .destination)) (routesOf T middle q)
+  pub planned-route : {ps : List (List ℕ)} → Planned T middle q ps → NotPlanned → ⊥
+  planned-route (one g) n = route-only T middle (q .source) (q .destination) g n
+
+  pub routes-found : Found (Planned T middle q) NotPlanned (routesOf T middle q)
   routes-found = go (routeOf T middle (q .source) (q .destination)) (route-found T middle (q .source) (q .destination))
     where
-      go : (o : Option (List ℕ)) → Found (Route T middle (q .source) (q .destination)) (NoRoute T middle (q .source) (q .destination)) o
-          → Found (Planned T middle q) (NoRoute T middle (q .source) (q .destination)) (andThen o (λ (p : List ℕ). some (p ∷ [])))
+      go : (o : Option (List ℕ)) → Found (Route T middle (q .source) (q .destination)) NotPlanned o
+          → Found (Planned T middle q) NotPlanned (andThen o (λ (p : List ℕ). some (p ∷ [])))
       go none g = g
       go (some p) g = one g
+
+-- the tests of 7, and of 17 where 7 does not apply
+tests-no-route : (T : Topology) (middle a z : ℕ) → Tests (isNone (linksOf T middle a z)) (NoRoute T middle a z)
+tests-no-route T middle a z = tests-none (links-some T middle a z) (linksOf T middle a z) (links-found T middle a z)
+
+tests-too-far : (T : Topology) (middle a z : ℕ) → (NoRoute T middle a z → ⊥) → Tests (isNone (routeOf T middle a z)) (TooFar T middle a z)
+tests-too-far T middle a z f =
+    alike (tests-none (λ p r. route-only T middle a z r) (routeOf T middle a z) (route-found T middle a z))
+    (λ n. ⊎-elim (λ (g : TooFar T middle a z). g) (λ (g : NoRoute T middle a z). absurd (f g)) n) (λ g. inl g)
 
 -- NEW ROWS
 module _ (q : Asked) where
@@ -119,7 +132,7 @@ module _ (middle : ℕ) (b : Book) (up : RisingByKey (b .rows)) where
       on ps g none f = λ new h. rows-or-none q b ps new (subst (λ (x : List (List ℕ)). NewRows b q x new) (planned-unique (h .1) g) (h .2)) f
       on ps g (some new) f = (ps, g, f)
 
-      go : (o : Option (List (List ℕ))) → Found (Planned (b .site .links) middle q) (NoRoute (b .site .links) middle (q .source) (q .destination)) o
+      go : (o : Option (List (List ℕ))) → Found (Planned (b .site .links) middle q) (NotPlanned (b .site .links) middle q) o
           → Found (Added q) ((new : List Row) → Added q new → ⊥) (andThen o (newRows b q))
       go none n = λ new h. planned-route (b .site .links) middle q (h .1) n
       go (some ps) g = on ps g (newRows b q ps) (rows-found q b ps)
@@ -167,17 +180,20 @@ module _ (middle : ℕ) (b : Book) (up : RisingByKey (b .rows)) where
             tests-known b (q .id),
             λ n2. (
               refl,
-              tests-none (λ p g n. n p (g .is)) (routeOf (b .site .links) middle (q .source) (q .destination))
-                  (route-found (b .site .links) middle (q .source) (q .destination)),
+              tests-no-route (b .site .links) middle (q .source) (q .destination),
               λ n7. (
                 refl,
-                routes-tests q (Full b) (isFull b) full-tests,
-                λ n8. (
+                tests-too-far (b .site .links) middle (q .source) (q .destination) n7,
+                λ n17. (
                   refl,
-                  routes-tests q (NoPlacings b q) (λ ps. isNone (newRows b q ps))
-                      (λ ps. tests-none (λ rs g n. rows-or-none q b ps rs g n) (newRows b q ps) (rows-found q b ps)),
-                  λ n9.
-                      (refl, room-tests room (Open q) n2, λ n12. tt),
+                  routes-tests q (Full b) (isFull b) full-tests,
+                  λ n8. (
+                    refl,
+                    routes-tests q (NoPlacings b q) (λ ps. isNone (newRows b q ps))
+                        (λ ps. tests-none (λ rs g n. rows-or-none q b ps rs g n) (newRows b q ps) (rows-found q b ps)),
+                    λ n9.
+                        (refl, room-tests room (Open q) n2, λ n12. tt),
+                  ),
                 ),
               ),
             ),
@@ -203,10 +219,11 @@ module _ (middle : ℕ) (b : Book) (up : RisingByKey (b .rows)) where
       n = says-none (openRefusals middle q room b) (omega arith) (subst (Says (openRefusals middle q room b)) e (request-says room (Open q)))
 
       on : (ps : List (List ℕ)) → Planned (b .site .links) middle q ps → (o : Option (List Row)) → Found (NewRows b q ps) (NoPlacings b q ps) o → Done q o
-      on ps g none f = absurd (n .1 .1 .1 .1 .1 .1 .1 .0 (ps, g, f))
+      on ps g none f = absurd (n .1 .1 .1 .1 .1 .1 .1 .1 .0 (ps, g, f))
       on ps g (some new) f = (_, refl, opened q new (n .1 .1 .1 .1 .0) (ps, g, f))
 
-      go : (o : Option (List (List ℕ))) → Found (Planned (b .site .links) middle q) (NoRoute (b .site .links) middle (q .source) (q .destination)) o
+      go : (o : Option (List (List ℕ))) → Found (Planned (b .site .links) middle q) (NotPlanned (b .site .links) middle q) o
           → Done q (andThen o (newRows b q))
-      go none g = absurd (n .1 .1 .1 .1 .1 .0 g)
+      go none (inl g) = absurd (n .1 .1 .1 .1 .1 .1 .0 g)
+      go none (inr g) = absurd (n .1 .1 .1 .1 .1 .0 g)
       go (some ps) g = on ps g (newRows b q ps) (rows-found q b ps)

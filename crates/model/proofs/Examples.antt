@@ -7,7 +7,7 @@ use mathlib.Core.Option.{Option, some, none}
 use Prim.Native.Nat.{ℕ, zero, suc}
 use lib.Dec.{T, eqb}
 use lib.ListN.{getD}
-use Rattle.rules.specs.Topology.{allNodes, Route, NoRoute}
+use Rattle.rules.specs.Topology.{allNodes, Route}
 use Rattle.rules.specs.Book.{Row, Book, RisingByKey}
 use Rattle.rules.specs.Placing.{Asked, NewRows}
 use Rattle.rules.specs.Image.{newest, longestImage, encode}
@@ -26,7 +26,7 @@ use Rattle.model.specs.Examples.{planA, lineA, square, pair, empty, aske
 use Rattle.model.specs.Examples.{operationsP9, imageP10, imageP11, examples, Leaves, OpensWith, ExamplesHold}
 use Rattle.model.proofs.Tests.{tests-same, tests-on-data, tests-meets, tests-clashes}
 use Rattle.model.proofs.Searches.{Found}
-use Rattle.model.proofs.Routes.{route-found}
+use Rattle.model.proofs.Routes.{route-found, route-only}
 use Rattle.model.proofs.Firsts.{tests-passes}
 use Rattle.model.proofs.Answers.{added-found, request-says, request-done}
 use Rattle.model.proofs.Tables.{entry-computed}
@@ -128,6 +128,7 @@ examples-hold = record {
   where
     route-of : Route square (allNodes 4) 0 3 (0 ∷ 1 ∷ 3 ∷ [])
     route-of =
-        let h = tests-passes {N = NoRoute square (allNodes 4) 0 3} (λ p r n. n p (r .is)) (λ p q g k. best-unique g k) (λ (p : List ℕ). (0 ∷ 1 ∷ 3 ∷ []) ≡ p) (same (0 ∷ 1 ∷ 3 ∷ []))
+        let h = tests-passes {P = Route square (allNodes 4) 0 3} (λ p r n. route-only square (allNodes 4) 0 3 r n) (λ p q g k. best-unique g k)
+        (λ (p : List ℕ). (0 ∷ 1 ∷ 3 ∷ []) ≡ p) (same (0 ∷ 1 ∷ 3 ∷ []))
         (tests-same (0 ∷ 1 ∷ 3 ∷ [])) (routeOf square (allNodes 4) 0 3) (route-found square (allNodes 4) 0 3) .yes (holds 12) in
         subst (Route square (allNodes 4) 0 3) (sym (h .2)) (h .1)

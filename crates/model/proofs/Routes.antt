@@ -1,30 +1,30 @@
--- The route that is searched for is the planner's, and there is none where none is found.
+-- The route that is searched for is the planner's; where none is found all are too far, or there is none.
 use mathlib.Core.Path.{_≡_, refl, sym, subst}
-use mathlib.Core.Logic.{inl, inr}
+use mathlib.Core.Logic.{_⊎_, inl, inr}
 use mathlib.Core.Bool.{Bool, true, false, cond, _&&_}
 use mathlib.Core.List.{List, [], _∷_}
 use mathlib.Core.Option.{Option, some, none}
 use Prim.Native.Nat.{ℕ, zero, suc, _+_, _<_, _≤_}
 use native.Mathlib.Omega.{arith}
+use native.Mathlib.Nat.{lt-of-not-le}
 use native.Mathlib.Decide.{decLt}
-use lib.Dec.{eqb}
+use lib.Dec.{eqb, leb}
 use Rattle.rules.specs.Words.{NoLater, Tests}
-use Rattle.rules.specs.Topology.{Topology, nodes, Joined, hopCount, mostRouteHops, Route, NoRoute}
-use Rattle.rules.proofs.Tests.{never, tests-and, tests-eq, said-yes}
-use Rattle.rules.proofs.Ways.{MayStand, Way, LowestWay, NoWay, no-path, planned, no-round}
-use Rattle.model.specs.Search.{before, firstFrom, mayStand, wayOf, routeOf}
+use Rattle.rules.specs.Topology.{Topology, nodes, Joined, mostRouteHops, Route, NoRoute, TooFar}
+use Rattle.rules.proofs.Tests.{never, tests-and, tests-eq, tests-le}
+use Rattle.rules.proofs.Greedy.{Least}
+use Rattle.rules.proofs.Ways.{MayStand, Way, LowestWay, NoWay, way-path, planned, too-far, no-round}
+use Rattle.rules.proofs.Cases.{route-near, route-some, none-under}
+use Rattle.model.specs.Search.{before, leastFrom, andThen, mayStand, onLevel, linksOf, wayOf, routeOf}
 use Rattle.model.specs.Test.{joined}
-use Rattle.model.proofs.Tests.{tests-has, tests-joined}
-use Rattle.model.proofs.Searches.{Found, FirstAt, first-found}
+use Rattle.model.proofs.Tests.{tests-joined}
+use Rattle.model.proofs.Searches.{Found, FirstAt, first-found, least-found}
+use Rattle.model.proofs.Levels.{HasWay, tests-stand, tests-level}
 
 module _ (T : Topology) (middle z : ℕ) where
   -- ONE STEP
   abbrev Step : ℕ → ℕ → ℕ → Type 0
   Step n a m = Joined T a m × MayStand middle n m
-
-  tests-stand : (n m : ℕ) → Tests (mayStand middle n m) (MayStand middle n m)
-  tests-stand zero m = said-yes tt
-  tests-stand (suc n) m = tests-has middle m
 
   abbrev StepTo : ℕ → ℕ → ℕ → List ℕ → Type 0
   StepTo n a m x = (p : List ℕ) × (x ≡ m ∷ p) × Step n a m × LowestWay T middle z n m p
@@ -32,11 +32,11 @@ module _ (T : Topology) (middle z : ℕ) where
   abbrev NoStep : ℕ → ℕ → ℕ → Type 0
   NoStep n a m = Step n a m → NoWay T middle z n m
 
-  tried : (n a m : ℕ) (t : Bool) (o : Option (List ℕ)) → Tests t (Step n a m) → Found (LowestWay T middle z n m) (NoWay T middle z n m) o
+  tried : (n a m : ℕ) (t : Bool) (o : Option (List ℕ)) → Tests t (Step n a m × HasWay T middle z n m) → Found (LowestWay T middle z n m) (NoWay T middle z n m) o
       → Found (StepTo n a m) (NoStep n a m) (cond t (before m o) none)
   tried n a m true none t g = λ l. g
-  tried n a m true (some p) t g = (p, refl, t .yes refl, g)
-  tried n a m false o t g = λ l. never (t .back l)
+  tried n a m true (some p) t g = (p, refl, t .yes refl .0, g)
+  tried n a m false o t g = λ l q w. never (t .back (l, (q, w)))
 
   stepped : (n a : ℕ) (o : Option (List ℕ)) → Found (FirstAt (StepTo n a) (NoStep n a) 0 (0 + nodes T)) ((m : ℕ) → 0 ≤ m → m < 0 + nodes T → NoStep n a m) o
       → Found (LowestWay T middle z (suc n) a) (NoWay T middle z (suc n) a) o
@@ -72,34 +72,66 @@ module _ (T : Topology) (middle z : ℕ) where
   way-found zero a = ended a (eqb a z) (tests-eq a z)
   way-found (suc n) a =
       stepped n a (wayOf T middle z (suc n) a)
-      (first-found (StepTo n a) (NoStep n a) (λ m. cond (joined T a m && mayStand middle n m) (before m (wayOf T middle z n m)) none)
-      (λ m. tried n a m (joined T a m && mayStand middle n m) (wayOf T middle z n m) (tests-and (tests-joined T a m) (tests-stand n m)) (way-found n m)) (nodes T) 0)
+      (first-found (StepTo n a) (NoStep n a) (λ m. cond ((joined T a m && mayStand middle n m) && onLevel T middle z n m) (before m (wayOf T middle z n m)) none)
+      (λ m. tried n a m ((joined T a m && mayStand middle n m) && onLevel T middle z n m) (wayOf T middle z n m)
+      (tests-and (tests-and (tests-joined T a m) (tests-stand middle n m)) (tests-level T middle z n m)) (way-found n m)) (nodes T) 0)
 
-module _ (T : Topology) (middle a z : ℕ) (apart : a ≡ z → ⊥) where
-  abbrev RouteAt : ℕ → List ℕ → Type 0
-  RouteAt n x = (p : List ℕ) × (x ≡ a ∷ p) × LowestWay T middle z n a p
+module _ (T : Topology) (middle a z : ℕ) where
+  -- the shortest way between different nodes has n links
+  pub record Nearest (n : ℕ) : Type 0 where
+    pub apart : a ≡ z → ⊥
+    pub some : 1 ≤ n
+    pub way : HasWay T middle z n a
+    pub shortest : (j : ℕ) → j < n → NoWay T middle z j a
 
-  started : (n : ℕ) (o : Option (List ℕ)) → Found (LowestWay T middle z n a) (NoWay T middle z n a) o → Found (RouteAt n) (NoWay T middle z n a) (before a o)
-  started n none g = g
-  started n (some p) g = (p, refl, g)
+  not-none : (a ≡ z → ⊥) → (n : ℕ) (q : List ℕ) → Way T middle z n a q → 1 ≤ n
+  not-none f zero [] w = absurd (f w)
+  not-none f zero (m ∷ q) w = absurd w
+  not-none f (suc n) q w = omega arith
 
-  routed : (o : Option (List ℕ))
-      → Found (FirstAt RouteAt (λ n. NoWay T middle z n a) 1 (1 + mostRouteHops)) ((n : ℕ) → 1 ≤ n → n < 1 + mostRouteHops → NoWay T middle z n a) o
-      → Found (Route T middle a z) (NoRoute T middle a z) o
-  routed none g = λ q h. no-path T middle a z q (g (hopCount q) (h .between .path .some) (omega (arith, h .most))) (h .between)
-  routed (some x) g =
-      subst (Route T middle a z) (sym (g .here .1))
-      (planned T middle a z apart mostRouteHops (g .at) (g .here .0) (g .above) (omega (arith, g .below)) (g .here .2) (g .not-before))
+  pub links-found : Found Nearest (NoRoute T middle a z) (linksOf T middle a z)
+  links-found = go (eqb a z) (tests-eq a z)
+    where
+      on : (a ≡ z → ⊥) → (o : Option ℕ)
+          → Found (Least (λ (n : ℕ). HasWay T middle z n a) 0 (0 + nodes T)) ((j : ℕ) → 0 ≤ j → j < 0 + nodes T → HasWay T middle z j a → ⊥) o
+          → Found Nearest (NoRoute T middle a z) o
+      on f none g = none-under T middle a z (λ j l q w. g j (omega arith) (omega arith) (q, w))
+      on f (some n) g = record {
+        apart = f;
+        some = not-none f n (g .holds .0) (g .holds .1);
+        way = g .holds;
+        shortest = λ j l q w. g .none-before j (omega arith) l (q, w);
+      }
 
-  search-found : Found (Route T middle a z) (NoRoute T middle a z) (firstFrom mostRouteHops 1 (λ (n : ℕ). before a (wayOf T middle z n a)))
-  search-found =
-      routed (firstFrom mostRouteHops 1 (λ (n : ℕ). before a (wayOf T middle z n a)))
-      (first-found RouteAt (λ n. NoWay T middle z n a) (λ n. before a (wayOf T middle z n a)) (λ n. started n (wayOf T middle z n a) (way-found T middle z n a)) mostRouteHops 1)
+      go : (t : Bool) → Tests t (a ≡ z) → Found Nearest (NoRoute T middle a z) (cond t none (leastFrom (nodes T) 0 (λ (n : ℕ). onLevel T middle z n a)))
+      go true t = no-round T middle a z (t .yes refl)
+      go false t =
+          on (λ e. never (t .back e)) (leastFrom (nodes T) 0 (λ (n : ℕ). onLevel T middle z n a))
+          (least-found (λ n. HasWay T middle z n a) (λ n. onLevel T middle z n a) (λ n. tests-level T middle z n a) (nodes T) 0)
 
-pub route-found : (T : Topology) (middle a z : ℕ) → Found (Route T middle a z) (NoRoute T middle a z) (routeOf T middle a z)
-route-found T middle a z = go (eqb a z) (tests-eq a z)
-  where
-    go : (t : Bool) → Tests t (a ≡ z)
-        → Found (Route T middle a z) (NoRoute T middle a z) (cond t none (firstFrom mostRouteHops 1 (λ (n : ℕ). before a (wayOf T middle z n a))))
-    go true t = λ p h. no-round T middle a z (t .yes refl) p (h .between)
-    go false t = search-found T middle a z (λ e. never (t .back e))
+  pub links-some : (n : ℕ) → Nearest n → NoRoute T middle a z → ⊥
+  links-some n g f = f (a ∷ g .way .0) (way-path T middle z n a (g .way .0) (g .some) (g .way .1) (g .shortest))
+
+  -- the planner's route, or that all are too far or there is none
+  pub route-found : Found (Route T middle a z) (TooFar T middle a z ⊎ NoRoute T middle a z) (routeOf T middle a z)
+  route-found = go (linksOf T middle a z) links-found
+    where
+      at : (n : ℕ) → Nearest n → n ≤ mostRouteHops → (o : Option (List ℕ)) → Found (LowestWay T middle z n a) (NoWay T middle z n a) o
+          → Found (Route T middle a z) (TooFar T middle a z ⊎ NoRoute T middle a z) (before a o)
+      at n g l none f = absurd (f (g .way .0) (g .way .1))
+      at n g l (some p) f = planned T middle a z (g .apart) mostRouteHops n p (g .some) l f (λ j k. g .shortest j)
+
+      on : (n : ℕ) → Nearest n → (t : Bool) → Tests t (n ≤ mostRouteHops)
+          → Found (Route T middle a z) (TooFar T middle a z ⊎ NoRoute T middle a z) (cond t (before a (wayOf T middle z n a)) none)
+      on n g true t = at n g (t .yes refl) (wayOf T middle z n a) (way-found T middle z n a)
+      on n g false t = inl (too-far T middle a z n (g .way .0) (lt-of-not-le (λ l. never (t .back l))) (g .way .1) (g .shortest))
+
+      go : (o : Option ℕ) → Found Nearest (NoRoute T middle a z) o
+          → Found (Route T middle a z) (TooFar T middle a z ⊎ NoRoute T middle a z)
+          (andThen o (λ (n : ℕ). cond (leb n mostRouteHops) (before a (wayOf T middle z n a)) none))
+      go none g = inr g
+      go (some n) g = on n g (leb n mostRouteHops) (tests-le n mostRouteHops)
+
+  pub route-only : {p : List ℕ} → Route T middle a z p → TooFar T middle a z ⊎ NoRoute T middle a z → ⊥
+  route-only r (inl f) = route-near r f
+  route-only r (inr n) = route-some r n

@@ -9,7 +9,7 @@ use Rattle.rules.specs.Topology as topologies
 use Rattle.rules.specs.Image.{linksStart, versionOf, nodesOf, setsAt, linksOf}
 use Rattle.rules.specs.Calls.{anyMiddle}
 use Rattle.rules.specs.Placing as placing
-use Rattle.rules.proofs.Middles.{route-any, no-route-any}
+use Rattle.rules.proofs.Middles.{route-any, no-route-any, too-far-any}
 use Rattle.rules.proofs.Written.{length-sets-at}
 use Rattle.rules.proofs.Reading.{bookIn, LawfulImage}
 use Rattle.image.specs.Header.{HeaderOf}
@@ -20,7 +20,7 @@ use Rattle.bitset.specs.Rows.{topology}
 use Rattle.routes.specs.Planner.{Asked, Says, PlannerSays}
 use Rattle.routes.specs.declared.Planned.{Planned}
 use Rattle.routes.specs.declared.Reach.{Reach}
-use Rattle.routes.specs.declared.Reach.the-variants.{Found, NoRoute}
+use Rattle.routes.specs.declared.Reach.the-variants.{Found, TooFar, NoRoute}
 use Rattle.opening.specs.Beside.{AskedBeside}
 
 -- a route has at most 15 hops, and no route none
@@ -29,7 +29,8 @@ hops-most T middle source destination r w = go (r .reach) w
   where
     go : (reach : Reach) → Says T middle source destination reach (r .hops) (r .nodes) → r .hops ≤ 15
     go Found w = w .most
-    go NoRoute w = omega (arith, w .no-hops)
+    go TooFar w = omega (arith, w .1 .no-hops)
+    go NoRoute w = omega (arith, w .1 .no-hops)
 
 module _ {s : List ℕ} (h : LawfulImage s) where
   pub known : nodes (linksOf s) ≡ nodesOf s
@@ -77,4 +78,10 @@ module _ {s words : List ℕ} {book : head.Book} {q : placing.Asked} {place : �
       planned-none e =
           no-route-any 64 (nodes (linksOf s)) (linksOf s) (nodes-few lawful) (omega arith)
           (subst (λ (T : Topology). topologies.NoRoute T (allNodes 64) (q .source) (q .destination)) same-topology
-          (subst (λ (reach : Reach). Says (topology (take (book .nodes) rows)) (allNodes 64) (q .source) (q .destination) reach (r .hops) (r .nodes)) e p .none))
+          (subst (λ (reach : Reach). Says (topology (take (book .nodes) rows)) (allNodes 64) (q .source) (q .destination) reach (r .hops) (r .nodes)) e p .0))
+
+      pub planned-far : r .reach ≡ TooFar → topologies.TooFar (linksOf s) (anyMiddle (bookIn s)) (q .source) (q .destination)
+      planned-far e =
+          too-far-any 64 (nodes (linksOf s)) (linksOf s) (nodes-few lawful) (omega arith)
+          (subst (λ (T : Topology). topologies.TooFar T (allNodes 64) (q .source) (q .destination)) same-topology
+          (subst (λ (reach : Reach). Says (topology (take (book .nodes) rows)) (allNodes 64) (q .source) (q .destination) reach (r .hops) (r .nodes)) e p .0))

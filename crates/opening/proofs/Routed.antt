@@ -9,7 +9,7 @@ use native.Mathlib.Decide.{decLt}
 use lib.ListN.{length}
 use Rattle.rules.specs.Words.{Tests}
 use Rattle.rules.specs.Says.{Refusal, _when_}
-use Rattle.rules.specs.Topology.{Topology, NoRoute, hopCount}
+use Rattle.rules.specs.Topology.{Topology, NoRoute, TooFar, hopCount}
 use Rattle.rules.specs.Book.{Row, Book, Plus, mostStreams, mostHops, hopsInAll}
 use Rattle.rules.specs.Placing.{Asked, Planned, FirstPlacing, NoPlacing, NoPlacings, Full, NewRow, NewRows}
 use Rattle.rules.specs.Placing.Planned.{one}
@@ -17,6 +17,7 @@ use Rattle.rules.specs.Image.{newest, streamsOf, hopsOf, encode}
 use Rattle.rules.specs.Calls.{anyMiddle, OfRoutes, Opened, NoRoom}
 use Rattle.rules.specs.Calls.Request.{Open}
 use Rattle.rules.proofs.Choice.{planned-unique, rows-unique}
+use Rattle.rules.proofs.Cases.{route-near, route-some}
 use Rattle.rules.proofs.Tests.{alike}
 use Rattle.rules.proofs.Reading.{rowsIn, bookIn, LawfulImage}
 use Rattle.image.specs.Header.{HeaderOf}
@@ -44,7 +45,11 @@ routed-in s {out} q routes new h full none w =
 
 -- where there are routes, there is one
 some-route : {T : Topology} {middle : ℕ} {q : Asked} {routes : List (List ℕ)} → Planned T middle q routes → NoRoute T middle (q .source) (q .destination) → ⊥
-some-route (one {p} r) none = none p (r .is)
+some-route (one r) none = route-some r none
+
+-- and none is too far
+near-route : {T : Topology} {middle : ℕ} {q : Asked} {routes : List (List ℕ)} → Planned T middle q routes → TooFar T middle (q .source) (q .destination) → ⊥
+near-route (one r) far = route-near r far
 
 -- the planner's routes are the ones
 module _ (b : Book) (middle : ℕ) (q : Asked) (routes : List (List ℕ)) (planned : Planned (b .site .links) middle q routes) where
@@ -63,7 +68,7 @@ routed-new s {out} q routes planned w =
     let b : Book = bookIn s in
     let m : ℕ = anyMiddle (bookIn s) in
     let room : ℕ = length out in
-    reply-next (some-route planned)
+    reply-next (some-route planned) (reply-next (near-route planned)
     (reply-alike (routedRefusals q routes room b)
     ((8 when OfRoutes m q b (Full b)) ∷ (9 when OfRoutes m q b (NoPlacings b q)) ∷ (12 when NoRoom m room (Open q) b) ∷ []) (
       refl,
@@ -81,7 +86,7 @@ routed-new s {out} q routes planned w =
         ),
       ),
     )
-    (λ bytes c. (c .0, opened-on b m q routes planned (c .0) (c .1), c .2)) w)
+    (λ bytes c. (c .0, opened-on b m q routes planned (c .0) (c .1), c .2)) w))
 
 -- ONE ROUTE
 

@@ -6,7 +6,7 @@ use lib.ListN.{length}
 use Rattle.rules.specs.Says.{Refusal, _when_, Says}
 use Rattle.rules.specs.Tiles.{periodAt}
 use Rattle.rules.specs.Periods.{InList}
-use Rattle.rules.specs.Topology.{NoRoute}
+use Rattle.rules.specs.Topology.{NoRoute, TooFar}
 use Rattle.rules.specs.Book.{Row, Book, Known, Plus}
 use Rattle.rules.specs.Placing.{Asked, Full, NewRows, NoPlacings}
 use Rattle.rules.specs.Image.{newest, encode}
@@ -53,6 +53,7 @@ Routed s q routes out number len out′ = Reply (routedRefusals q routes (length
 abbrev pub newRefusals : Asked → ℕ → Book → List Refusal
 newRefusals q room b =
     (7 when NoRoute (b .site .links) (anyMiddle b) (q .source) (q .destination))
+    ∷ (17 when TooFar (b .site .links) (anyMiddle b) (q .source) (q .destination))
     ∷ (8 when OfRoutes (anyMiddle b) q b (Full b))
     ∷ (9 when OfRoutes (anyMiddle b) q b (NoPlacings b q))
     ∷ (12 when NoRoom (anyMiddle b) room (Open q) b)

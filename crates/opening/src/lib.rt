@@ -123,6 +123,7 @@ fn open_new(
     let nodes = planned.nodes;
     match reach {
         Reach::NoRoute => answers::refused(7),
+        Reach::TooFar => answers::refused(17),
         Reach::Found => open_routed(
             image,
             index,

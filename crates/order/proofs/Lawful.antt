@@ -150,7 +150,7 @@ module _ (b : Book) (l : LawfulBook b) (middle : ℕ) where
   pub made-lawful : (q : Request) (size : ℕ) → IdInRange q → Says (requestRefusals middle q size b) 0 → (c : Book) → Made middle b q c → LawfulBook c
   made-lawful (Open q) size small h =
       let none = says-none (openRefusals middle q size b) (omega arith) h in
-      opened-lawful q small (none .0) (none .1 .1 .1 .0) (none .1 .1 .1 .1 .1 .1 .0)
+      opened-lawful q small (none .0) (none .1 .1 .1 .0) (none .1 .1 .1 .1 .1 .1 .1 .0)
   made-lawful (Close id) size small h = closed-lawful id
 
 -- the newest version holds what another one holds

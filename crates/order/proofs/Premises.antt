@@ -9,7 +9,7 @@ use native.Mathlib.Omega.{arith}
 use lib.Dec.{T, eqb, leb, ltb}
 use lib.ListN.{length, take}
 use Rattle.rules.specs.Words.{_∈_, Pairwise, Each, total, Tests}
-use Rattle.rules.specs.Topology.{Topology, hopCount, hopAt, NoRoute, NoClash}
+use Rattle.rules.specs.Topology.{Topology, hopCount, hopAt, NoClash}
 use Rattle.rules.specs.Book.{Row, Book, hopsInAll, mostStreams, mostHops, LawfulBook}
 use Rattle.rules.specs.Placing.{Asked, Planned}
 use Rattle.rules.specs.Image.{newest, encode, Stored}
@@ -25,7 +25,7 @@ use Rattle.model.specs.Reading.{isLawfulSite, allPairs, isLawful, isRising, cla
 use Rattle.model.specs.Calls.{serve}
 use Rattle.model.proofs.Tests.{tests-same, tests-clashes}
 use Rattle.model.proofs.Searches.{Found}
-use Rattle.model.proofs.Answers.{planned-route, routes-found}
+use Rattle.model.proofs.Answers.{NotPlanned, planned-route, routes-found}
 use Rattle.model.proofs.Reading.{tests-pairs, tests-site, tests-lawful, tests-rising, tests-meet}
 use Rattle.model.proofs.Calls.{serve-computed}
 use Rattle.order.specs.Needed.{NoNodeShared}
@@ -86,7 +86,7 @@ stored-routes (x ∷ xs) r m = go (eqb (x .id) (r .id)) (tests-eq (x .id) (r .id
 given-routes : (b : Book) (q : Asked) (ps : List (List ℕ)) → Planned (b .site .links) (anyMiddle b) q ps → givenRoutes b q ≡ ps
 given-routes b q ps h = go (routesOf (b .site .links) (anyMiddle b) q) (routes-found (b .site .links) (anyMiddle b) q)
   where
-    go : (o : Option (List (List ℕ))) → Found (Planned (b .site .links) (anyMiddle b) q) (NoRoute (b .site .links) (anyMiddle b) (q .source) (q .destination)) o → orGiven o [] ≡ ps
+    go : (o : Option (List (List ℕ))) → Found (Planned (b .site .links) (anyMiddle b) q) (NotPlanned (b .site .links) (anyMiddle b) q) o → orGiven o [] ≡ ps
     go none g = absurd (planned-route (b .site .links) (anyMiddle b) q h g)
     go (some v) g = planned-unique g h
 

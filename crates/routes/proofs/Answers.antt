@@ -1,20 +1,21 @@
 -- The walk down gives the planner's route, and there is one answer.
 use mathlib.Core.Path.{_≡_, refl, sym, ap, _∙_, subst}
 use mathlib.Core.List.{List}
-use Prim.Native.Nat.{ℕ, _+_, _<_, _≤_}
+use Prim.Native.Nat.{ℕ, _+_, _<_}
 use native.Mathlib.Decide.{decLt}
 use native.Mathlib.Omega.{arith}
-use lib.ListN.{length, getD, take, replicate}
+use lib.ListN.{length, getD, take}
 use lib.Seq.{ext-getD, getD-take, length-take-le}
-use Rattle.rules.specs.Topology.{Topology, hopCount, mostRouteHops}
+use Rattle.rules.specs.Topology.{Topology, mostRouteHops}
 use Rattle.rules.specs.Topology as rules
-use Rattle.rules.proofs.Ways.{NoWay, no-path, planned}
+use Rattle.rules.proofs.Ways.{planned, no-route, too-far}
+use Rattle.rules.proofs.Cases.{route-near, route-some, far-some}
 use Rattle.rules.proofs.Choice.{best-unique}
 use Rattle.routes.specs.declared.Reach.{Reach}
-use Rattle.routes.specs.declared.Reach.the-variants.{Found, NoRoute}
+use Rattle.routes.specs.declared.Reach.the-variants.{Found, TooFar, NoRoute}
 use Rattle.routes.specs.declared.Planned.{Planned}
-use Rattle.routes.specs.Planner.{Asked, routePlaces, SaysRoute, SaysNone, Says, PlannerSays}
-use Rattle.routes.specs.Levels.{Reached, Descended}
+use Rattle.routes.specs.Planner.{Asked, SaysRoute, Empty, Says, PlannerSays}
+use Rattle.routes.specs.Levels.{Beyond, Never, Reached, Descended}
 
 pub says-route : {T : Topology} {middle source z hops : ℕ} {sets chosen : List ℕ} → Asked T source z → Reached T middle source z hops sets → Descended T middle source z hops chosen
     → SaysRoute T middle source z hops chosen
@@ -26,12 +27,14 @@ says-route {T} {middle} {source} {z} {hops} a r d = record {
   after = d .after;
 }
 
-pub says-none : {T : Topology} {middle source z : ℕ} → ((n : ℕ) → n ≤ mostRouteHops → NoWay T middle z n source) → SaysNone T middle source z 0 (replicate routePlaces 0)
-says-none {T} {middle} {source} {z} f = record {
-  none = λ q g. no-path T middle source z q (f (hopCount q) (g .most)) (g .between);
-  no-hops = refl;
-  zeros = refl;
-}
+module _ {T : Topology} {middle source z : ℕ} {r : Planned} where
+  pub says-far : Beyond T middle source z mostRouteHops → (r .reach ≡ TooFar) × Empty (r .hops) (r .nodes) → PlannerSays T middle source z r
+  says-far b e =
+      subst (λ (c : Reach). Says T middle source z c (r .hops) (r .nodes)) (sym (e .0))
+      (too-far T middle source z (b .0) (b .2 .path) (b .1) (b .2 .way) (b .2 .nearest), e .1)
+
+  pub says-none : Never T middle source z → (r .reach ≡ NoRoute) × Empty (r .hops) (r .nodes) → PlannerSays T middle source z r
+  says-none f e = subst (λ (c : Reach). Says T middle source z c (r .hops) (r .nodes)) (sym (e .0)) (no-route T middle source z f, e .1)
 
 -- ONE ANSWER
 module _ {T : Topology} {middle source z : ℕ} where
@@ -50,13 +53,21 @@ module _ {T : Topology} {middle source z : ℕ} where
       at i (yes l) = sym (getD-take (h + 1) xs i 0 l) ∙ ap (λ (x : List ℕ). getD x i 0) same ∙ getD-take (h + 1) ys i 0 l
       at i (no l) = a .after i (omega arith) ∙ sym (b .after i (omega arith))
 
+one-empty : {c d : Reach} {h k : ℕ} {xs ys : List ℕ} → c ≡ d → Empty h xs → Empty k ys → (c ≡ d) × (h ≡ k) × (xs ≡ ys)
+one-empty e a b = (e, a .no-hops ∙ sym (b .no-hops), a .zeros ∙ sym (b .zeros))
+
 module _ (T : Topology) (middle source z : ℕ) where
   one-case : (c d : Reach) (h k : ℕ) (xs ys : List ℕ) → Says T middle source z c h xs → Says T middle source z d k ys → (c ≡ d) × (h ≡ k) × (xs ≡ ys)
   one-case Found Found h k xs ys a b =
       let e = one-hops a b in (refl, e, one-route a (subst (λ (x : ℕ). SaysRoute T middle source z x ys) (sym e) b))
-  one-case Found NoRoute h k xs ys a b = absurd (b .none (take (h + 1) xs) (a .route .is))
-  one-case NoRoute Found h k xs ys a b = absurd (a .none (take (k + 1) ys) (b .route .is))
-  one-case NoRoute NoRoute h k xs ys a b = (refl, a .no-hops ∙ sym (b .no-hops), a .zeros ∙ sym (b .zeros))
+  one-case TooFar TooFar h k xs ys a b = one-empty refl (a .1) (b .1)
+  one-case NoRoute NoRoute h k xs ys a b = one-empty refl (a .1) (b .1)
+  one-case Found TooFar h k xs ys a b = absurd (route-near (a .route) (b .0))
+  one-case Found NoRoute h k xs ys a b = absurd (route-some (a .route) (b .0))
+  one-case TooFar Found h k xs ys a b = absurd (route-near (b .route) (a .0))
+  one-case TooFar NoRoute h k xs ys a b = absurd (far-some (a .0) (b .0))
+  one-case NoRoute Found h k xs ys a b = absurd (route-some (b .route) (a .0))
+  one-case NoRoute TooFar h k xs ys a b = absurd (far-some (b .0) (a .0))
 
 -- two answers that the contract allows are equal
 pub planner-unique : (T : Topology) (middle source z : ℕ) (r s : Planned) → PlannerSays T middle source z r → PlannerSays T middle source z s → r ≡ s

@@ -90,6 +90,7 @@ module _ (T : Topology) (middle z : ℕ) where
 
     pub shrunk : {less : ℕ} → SetOf (λ (a : ℕ). Has unmet a × (Has next a → ⊥)) less → Unmet T middle z (suc k) less
     shrunk {less} s = record {
+      fits = s .fits;
       only = λ a h. u .only a (s .only a h .0);
       farther = λ a h j l p w. far a h j p w (eq-or-lt-of-le l);
       all = λ a i. met a (has-or-not next a) (u .all a i);

@@ -1,5 +1,6 @@
 -- The search from the destination, level by level, until the source is next.
 use mathlib.Core.Path.{_≡_, sym, subst}
+use mathlib.Core.Bool.{Bool, true, false}
 use mathlib.Core.Logic.{_⊎_, inl, inr, ⊎-elim}
 use mathlib.Core.List.{List, _∷_}
 use Prim.Native.Nat.{ℕ, zero, suc, _+_, _<_, _≤_}
@@ -14,8 +15,9 @@ use Rattle.rules.proofs.Ways.{Way, NoWay}
 use Rattle.bitset.specs.Sets.{SetOf}
 use Rattle.bitset.proofs.Bits.{has-or-not, zero-none}
 use Rattle.bitset.proofs.Members.{some-member}
+use Rattle.routes.specs.declared.Outcome.the-variants.{At, Farther, Nowhere}
 use Rattle.routes.specs.Planner.{Asked}
-use Rattle.routes.specs.Levels.{Neighbour, Distance, Stop, Levels, Front, Reached, Searched}
+use Rattle.routes.specs.Levels.{Neighbour, Distance, Stop, Levels, Front, Reached, Beyond, Never, Searched, Under, Meets}
 use Rattle.routes.proofs.Distances.{joined-back, first-step, stays, nearer, at-destination, grown, shrunk, no-farther}
 
 -- the level at distance hops is reached, those before it are in sets, and the source is farther
@@ -25,12 +27,27 @@ pub record Searching (T : Topology) (middle source z hops last unmet : ℕ) (set
   pub levels : Levels T middle z hops sets
   pub front : Front T middle source z hops last unmet
 
-pub searched-reached : {T : Topology} {middle source z hops : ℕ} {sets : List ℕ} → Reached T middle source z hops sets → Searched T middle source z hops sets
-searched-reached r = record { yes = λ h. r; no = λ e. absurd (omega (arith, r .some)) }
+module _ {T : Topology} {middle source z : ℕ} {sets : List ℕ} where
+  pub searched-at : {hops : ℕ} → Reached T middle source z hops sets → Searched T middle source z sets (At hops)
+  searched-at {hops} r = record {
+    at = λ h e. let k : hops ≡ h = cc in subst (λ (x : ℕ). Reached T middle source z x sets) k r;
+    farther = λ e. let k : _≡_ {A = ℕ} 0 1 = cc in absurd (omega arith);
+    nowhere = λ e. let k : _≡_ {A = ℕ} 0 1 = cc in absurd (omega arith);
+  }
 
-pub searched-none : {T : Topology} {middle source z : ℕ} {sets : List ℕ} → ((n : ℕ) → n ≤ mostRouteHops → NoWay T middle z n source)
-    → Searched T middle source z 0 sets
-searched-none f = record { yes = λ h. absurd (omega arith); no = λ e. f }
+  searched-farther : Beyond T middle source z mostRouteHops → Searched T middle source z sets Farther
+  searched-farther b = record {
+    at = λ h e. let k : _≡_ {A = ℕ} 0 1 = cc in absurd (omega arith);
+    farther = λ e. b;
+    nowhere = λ e. let k : _≡_ {A = ℕ} 0 1 = cc in absurd (omega arith);
+  }
+
+  pub searched-nowhere : Never T middle source z → Searched T middle source z sets Nowhere
+  searched-nowhere n = record {
+    at = λ h e. let k : _≡_ {A = ℕ} 0 1 = cc in absurd (omega arith);
+    farther = λ e. let k : _≡_ {A = ℕ} 0 1 = cc in absurd (omega arith);
+    nowhere = λ e. n;
+  }
 
 levels-more : (T : Topology) (middle z n last : ℕ) (sets : List ℕ) → n < length sets → Levels T middle z n sets → SetOf (Stop T middle z n) last
     → Levels T middle z (n + 1) (set sets n last)
@@ -49,6 +66,7 @@ module _ (T : Topology) (middle source z : ℕ) (asked : Asked T source z) where
   front-start {first} {unmet} s u = record {
     level = record { fits = s .fits; only = here; all = λ a d. s .all a (inr (stays T middle z a (d .0 .path) (d .0 .way))) };
     ahead = record {
+      fits = u .fits;
       only = λ a h. u .only a h .0;
       farther = λ a h j l p w. u .only a h .1 (s .all a (inr (stays-at j a p l w)));
       all = λ a h. at a h (has-or-not first a);
@@ -110,7 +128,7 @@ module _ (T : Topology) (middle source z : ℕ) (asked : Asked T source z) where
       }
 
       -- no stop is at the next distance: the source is never reached
-      pub front-empty : met ≡ 0 → next ≡ 0 → (j : ℕ) → NoWay T middle z j source
+      pub front-empty : met ≡ 0 → next ≡ 0 → Never T middle source z
       front-empty e g zero p w = asked .apart (stays T middle z source p w)
       front-empty e g (suc j) p w =
           let t = first-step T middle z j source p w in
@@ -133,3 +151,15 @@ module _ (T : Topology) (middle source z : ℕ) (asked : Asked T source z) where
       levels = levels;
       front = rw add-one (front-more (s .front) m n d e l);
     }
+
+-- after 15 levels without the source it is met farther on, or nowhere
+module _ {T : Topology} {middle source z hops last unmet : ℕ} {sets : List ℕ} {r : Bool} (asked : Asked T source z)
+    (s : Searching T middle source z hops last unmet sets) (m : Meets T source last unmet r) where
+  under : Under T middle source z hops last unmet
+  under = record { asked = asked; front = s .front }
+
+  pub search-farther : mostRouteHops ≤ hops → r ≡ true → Searched T middle source z sets Farther
+  search-farther h e = let b = m .later e middle z hops under in searched-farther (b .0, omega (arith, b .1), b .2)
+
+  pub search-nowhere : r ≡ false → Searched T middle source z sets Nowhere
+  search-nowhere e = searched-nowhere (m .never e middle z hops under)

@@ -1,14 +1,17 @@
 -- The nodes at each distance from the destination, and the walk down to it.
 use mathlib.Core.Path.{_≡_}
 use mathlib.Core.Logic.{_⊎_}
+use mathlib.Core.Bool.{Bool, true, false}
 use mathlib.Core.List.{List, _∷_}
 use Prim.Native.Nat.{ℕ, _+_, _<_, _≤_}
 use lib.ListN.{length, getD, take}
-use Rattle.rules.specs.Words.{Has}
+use Rattle.rules.specs.Words.{Has, NoBitFrom}
 use Rattle.rules.specs.Topology.{Topology, Joined, mostRouteHops}
 use Rattle.rules.proofs.Ways.{MayStand, Way, LowestWay, NoWay}
 use Rattle.bitset.specs.Sets.{SetOf}
-use Rattle.routes.specs.Planner.{routePlaces}
+use Rattle.routes.specs.declared.Outcome.{Outcome}
+use Rattle.routes.specs.declared.Outcome.the-variants.{At, Farther, Nowhere}
+use Rattle.routes.specs.Planner.{Asked, routePlaces}
 
 -- b is linked to a member of the set
 abbrev pub Neighbour : Topology → ℕ → ℕ → Type 0
@@ -30,6 +33,7 @@ Levels T middle z n sets = (k : ℕ) → k < n → SetOf (Stop T middle z k) (ge
 
 -- unmet has the nodes that may stand in the middle and are farther than k
 pub record Unmet (T : Topology) (middle z k unmet : ℕ) : Type 0 where
+  pub fits : NoBitFrom 64 unmet
   pub only : (a : ℕ) → Has unmet a → Has middle a
   pub farther : (a : ℕ) → Has unmet a → (j : ℕ) → j ≤ k → NoWay T middle z j a
   pub all : (a : ℕ) → Has middle a → Has unmet a ⊎ ((j : ℕ) × (j ≤ k) × Distance T middle z j a)
@@ -47,10 +51,33 @@ pub record Reached (T : Topology) (middle source z hops : ℕ) (sets : List ℕ)
   pub there : Distance T middle z hops source
   pub levels : Levels T middle z hops sets
 
--- what the search from the destination says: the hops, or 0 where there is no route
-pub record Searched (T : Topology) (middle source z hops : ℕ) (sets : List ℕ) : Type 0 where
-  pub yes : 1 ≤ hops → Reached T middle source z hops sets
-  pub no : hops ≡ 0 → (n : ℕ) → n ≤ mostRouteHops → NoWay T middle z n source
+-- the source is at some distance over n
+abbrev pub Beyond : Topology → ℕ → ℕ → ℕ → ℕ → Type 0
+Beyond T middle source z n = (hops : ℕ) × (n < hops) × Distance T middle z hops source
+
+-- no way leads from the source
+abbrev pub Never : Topology → ℕ → ℕ → ℕ → Type 0
+Never T middle source z = (n : ℕ) → NoWay T middle z n source
+
+-- what the search from the destination says of the source
+pub record Searched (T : Topology) (middle source z : ℕ) (sets : List ℕ) (r : Outcome) : Type 0 where
+  pub at : (hops : ℕ) → r ≡ At hops → Reached T middle source z hops sets
+  pub farther : r ≡ Farther → Beyond T middle source z mostRouteHops
+  pub nowhere : r ≡ Nowhere → Never T middle source z
+
+-- two nodes and a search between them, over some set of middles, that has come to this front
+pub record Under (T : Topology) (middle source z hops last unmet : ℕ) : Type 0 where
+  pub asked : Asked T source z
+  pub front : Front T middle source z hops last unmet
+
+-- a search that has come to this front
+abbrev pub SomeFront : Topology → ℕ → ℕ → ℕ → Type 0
+SomeFront T source last unmet = (middle z hops : ℕ) × Under T middle source z hops last unmet
+
+-- the source is met later on, or never, in each such search
+pub record Meets (T : Topology) (source last unmet : ℕ) (r : Bool) : Type 0 where
+  pub later : r ≡ true → (middle z hops : ℕ) → Under T middle source z hops last unmet → Beyond T middle source z hops
+  pub never : r ≡ false → (middle z hops : ℕ) → Under T middle source z hops last unmet → Never T middle source z
 
 -- the nodes that the walk down chose: the source, then the lowest way; 0 after them
 pub record Descended (T : Topology) (middle source z hops : ℕ) (chosen : List ℕ) : Type 0 where

@@ -6,16 +6,17 @@ ghost use Rattle.rules.specs.Words.{Has};
 ghost use Rattle.rules.specs.Topology.{mostRouteHops};
 ghost use Rattle.bitset.specs.Sets.{SetOf};
 ghost use Rattle.bitset.specs.Rows.{topology};
-ghost use Rattle.routes.specs.Planner.{Asked, PlannerSays};
-ghost use Rattle.routes.specs.Levels.{Neighbour, Searched, ReachedBySome, Descends};
+ghost use Rattle.routes.specs.Planner.{Asked, Empty, PlannerSays};
+ghost use Rattle.routes.specs.Levels.{Neighbour, Searched, SomeFront, Meets, ReachedBySome, Descends};
 use rules::Node;
 use rules::ROUTE_HOPS;
 
 pub mod topology;
 
-// Whether there is a route.
+// Whether there is a route: of at most 15 hops, only of more, or none.
 pub enum Reach {
     Found,
+    TooFar,
     NoRoute,
 }
 
@@ -24,6 +25,13 @@ pub struct Planned {
     pub reach: Reach,
     pub hops: usize,
     pub nodes: [u8; ROUTE_HOPS + 1],
+}
+
+// Where the search met the source: at so many hops, at more than 15, or nowhere.
+enum Outcome {
+    At(usize),
+    Farther,
+    Nowhere,
 }
 
 // The nodes that are linked to a member of the set.
@@ -41,16 +49,34 @@ fn neighbours(links: &[u64], set: u64) -> u64
     around
 }
 
-// The hops from the source to the destination, 0 where there is no route; in sets the stops at each lesser distance.
+// Whether a search that has come to this front, with the source not met, meets it later.
+fn goes_on(links: &[u64], source: usize, last: u64, unmet: u64) -> bool
+    requires { ⌜ SomeFront (topology (now links)) source last unmet ⌝ }
+    ensures { λ r. ⌜ Meets (topology (now (links .entry))) source last unmet r ⌝ }
+{
+    let row = links[source];
+    let mut level = last;
+    let mut left = unmet;
+    while bitset::intersection(row, level) == 0 {
+        level = bitset::intersection(neighbours(links, level), left);
+        if level == 0 {
+            return false;
+        }
+        left = bitset::difference(left, level);
+    }
+    true
+}
+
+// Where the source is met by levels from the destination; in sets the stops at each distance before it, up to 15.
 fn search(
     links: &[u64],
     middle: u64,
     source: usize,
     destination: usize,
     sets: &mut [u64; ROUTE_HOPS],
-) -> usize
+) -> Outcome
     requires { ⌜ Asked (topology (now links)) source destination × (length (now sets) ≡ mostRouteHops) ⌝ }
-    ensures { λ r. ⌜ Searched (topology (now (links .entry))) middle source destination r (now (sets .exit)) ⌝ }
+    ensures { λ r. ⌜ Searched (topology (now (links .entry))) middle source destination (now (sets .exit)) r ⌝ }
 {
     let row = links[source];
     let mut last = bitset::insert(0, destination);
@@ -60,15 +86,19 @@ fn search(
         sets[hops] = last;
         hops += 1;
         if bitset::intersection(row, last) != 0 {
-            return hops;
+            return Outcome::At(hops);
         }
         last = bitset::intersection(neighbours(links, last), unmet);
         if last == 0 {
-            return 0;
+            return Outcome::Nowhere;
         }
         unmet = bitset::difference(unmet, last);
     }
-    0
+    if goes_on(links, source, last, unmet) {
+        Outcome::Farther
+    } else {
+        Outcome::Nowhere
+    }
 }
 
 // The route of so many hops: from the source on, each time the lowest neighbour that is one link nearer.
@@ -94,6 +124,17 @@ fn descend(
     nodes
 }
 
+// No route, for this reason.
+fn no_route(reach: Reach) -> Planned
+    ensures { λ r. ⌜ (r .reach ≡ reach) × Empty (r .hops) (r .nodes) ⌝ }
+{
+    Planned {
+        reach,
+        hops: 0,
+        nodes: [0u8; ROUTE_HOPS + 1],
+    }
+}
+
 // The planner's route from the source to the destination, with only members of the set in the middle.
 pub fn plan(links: &[u64], middle: u64, source: Node, destination: Node) -> Planned
     requires { ⌜ Asked (topology (now links)) (source .0) (destination .0) ⌝ }
@@ -102,18 +143,17 @@ pub fn plan(links: &[u64], middle: u64, source: Node, destination: Node) -> Plan
     let from = source.0 as usize;
     let to = destination.0 as usize;
     let mut sets = [0u64; ROUTE_HOPS];
-    let hops = search(links, middle, from, to, &mut sets);
-    if hops == 0 {
-        return Planned {
-            reach: Reach::NoRoute,
-            hops: 0,
-            nodes: [0u8; ROUTE_HOPS + 1],
-        };
-    }
-    let nodes = descend(links, &sets, from, to, hops);
-    Planned {
-        reach: Reach::Found,
-        hops,
-        nodes,
+    let outcome = search(links, middle, from, to, &mut sets);
+    match outcome {
+        Outcome::At(hops) => {
+            let nodes = descend(links, &sets, from, to, hops);
+            Planned {
+                reach: Reach::Found,
+                hops,
+                nodes,
+            }
+        }
+        Outcome::Farther => no_route(Reach::TooFar),
+        Outcome::Nowhere => no_route(Reach::NoRoute),
     }
 }

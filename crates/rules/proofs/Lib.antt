@@ -3,6 +3,8 @@ pub mod Lists
 pub mod Sets
 pub mod Middles
 pub mod Ways
+pub mod Deciding
+pub mod Cases
 pub mod Says
 pub mod Choice
 pub mod Encoding

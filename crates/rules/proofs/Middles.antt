@@ -5,7 +5,7 @@ use Prim.Native.Nat.{ℕ, zero, suc, _-_, _≤_}
 use native.Mathlib.Omega.{arith}
 use lib.ListN.{take, drop}
 use Rattle.rules.specs.Words.{_∈_}
-use Rattle.rules.specs.Topology.{Topology, nodes, hopCount, middles, Path, KeepsTo, allNodes, PathWithin, Route, NoRoute}
+use Rattle.rules.specs.Topology.{Topology, nodes, hopCount, middles, Path, KeepsTo, allNodes, PathBetween, PathWithin, Route, NoRoute, TooFar}
 use Rattle.rules.proofs.Sets.{all-has}
 
 in-take : {A : Type 0} (n : ℕ) (xs : List A) (x : A) → x ∈ take n xs → x ∈ xs
@@ -28,12 +28,13 @@ pub all-keep : (N : ℕ) (T : Topology) (p : List ℕ) → nodes T ≤ N → Pat
 all-keep N T p few w a h = all-has N a (omega (arith, w .known a (middle-in p a h)))
 
 -- whichever set has all nodes, the planner's route is the same
+pub between-any : {middle source destination : ℕ} (N : ℕ) (T : Topology) → nodes T ≤ N → (p : List ℕ)
+    → PathBetween T middle source destination p → PathBetween T (allNodes N) source destination p
+between-any N T few p w = record { path = w .path; starts = w .starts; ends = w .ends; keeps = all-keep N T p few (w .path) }
+
 pub within-any : {n middle source destination : ℕ} (N : ℕ) (T : Topology) → nodes T ≤ N → (p : List ℕ)
     → PathWithin n T middle source destination p → PathWithin n T (allNodes N) source destination p
-within-any N T few p w = record {
-  between = record { path = w .between .path; starts = w .between .starts; ends = w .between .ends; keeps = all-keep N T p few (w .between .path) };
-  most = w .most;
-}
+within-any N T few p w = record { between = between-any N T few p (w .between); most = w .most }
 
 module _ (N M : ℕ) (T : Topology) (few : nodes T ≤ N) (few′ : nodes T ≤ M) {source destination : ℕ} where
   pub route-any : (p : List ℕ) → Route T (allNodes N) source destination p → Route T (allNodes M) source destination p
@@ -44,4 +45,7 @@ module _ (N M : ℕ) (T : Topology) (few : nodes T ≤ N) (few′ : nodes T ≤ 
   }
 
   pub no-route-any : NoRoute T (allNodes N) source destination → NoRoute T (allNodes M) source destination
-  no-route-any f p w = f p (within-any N T few p w)
+  no-route-any f p w = f p (between-any N T few p w)
+
+  pub too-far-any : TooFar T (allNodes N) source destination → TooFar T (allNodes M) source destination
+  too-far-any f = record { some = (f .some .0, between-any M T few′ (f .some .0) (f .some .1)); over = λ p w. f .over p (between-any N T few p w) }

@@ -8,7 +8,7 @@ use native.Mathlib.Nat.{lt-of-not-le}
 use native.Mathlib.Decide.{decLt}
 use lib.ListN.{length, getD, take, List·getD-eq-default}
 use Rattle.rules.specs.Words.{Has, _∈_, Distinct, NoLater}
-use Rattle.rules.specs.Topology.{Topology, nodes, Joined, hopCount, LinkedInTurn, PathBetween, PathWithin, Best}
+use Rattle.rules.specs.Topology.{Topology, nodes, Joined, hopCount, LinkedInTurn, PathBetween, PathWithin, Best, mostRouteHops, NoRoute, TooFar}
 use Rattle.rules.proofs.Lists.{pair-at}
 use Rattle.rules.proofs.Sets.{zero-none}
 
@@ -144,6 +144,14 @@ route-way T middle a z (s ∷ rest) g =
 pub no-path : (T : Topology) (middle a z : ℕ) (q : List ℕ) → NoWay T middle z (hopCount q) a → PathBetween T middle a z q → ⊥
 no-path T middle a z q f g = let w = route-way T middle a z q g in f (w .0) (w .2)
 
+-- where there is no way of under n links every path has n hops or more
+pub path-long : (T : Topology) (middle a z n : ℕ) → ((j : ℕ) → j < n → NoWay T middle z j a) → (q : List ℕ) → PathBetween T middle a z q → n ≤ hopCount q
+path-long T middle a z n f q g = go (decLt (hopCount q) n)
+  where
+    go : Dec (hopCount q < n) → n ≤ hopCount q
+    go (yes l) = absurd (no-path T middle a z q (f (hopCount q) l) g)
+    go (no l) = omega arith
+
 module _ (T : Topology) (middle a z : ℕ) (apart : a ≡ z → ⊥) where
   -- the lowest of the shortest ways is the best path within any bound that it keeps
   module _ (bound n : ℕ) (p : List ℕ) (some : 1 ≤ n) (most : n ≤ bound) (g : LowestWay T middle z n a p) (f : (j : ℕ) → 1 ≤ j → j < n → NoWay T middle z j a) where
@@ -156,11 +164,7 @@ module _ (T : Topology) (middle a z : ℕ) (apart : a ≡ z → ⊥) where
     none-shorter (suc j) l q w = f (suc j) (omega arith) l q w
 
     shortest : (q : List ℕ) → PathWithin bound T middle a z q → hopCount (a ∷ p) ≤ hopCount q
-    shortest q h = go (decLt (hopCount q) n)
-      where
-        go : Dec (hopCount q < n) → hopCount (a ∷ p) ≤ hopCount q
-        go (yes l) = absurd (no-path T middle a z q (none-shorter (hopCount q) l) (h .between))
-        go (no l) = omega (arith, long)
+    shortest q h = omega (arith, long, path-long T middle a z n none-shorter q (h .between))
 
     first : (q : List ℕ) → PathWithin bound T middle a z q → hopCount q ≡ hopCount (a ∷ p) → NoLater (a ∷ p) q
     first q h e =
@@ -174,6 +178,19 @@ module _ (T : Topology) (middle a z : ℕ) (apart : a ≡ z → ⊥) where
       shortest = shortest;
       first = first;
     }
+
+-- NO ROUTE OF AT MOST 15 HOPS
+
+-- where there is no way there is no route
+pub no-route : (T : Topology) (middle a z : ℕ) → ((n : ℕ) → NoWay T middle z n a) → NoRoute T middle a z
+no-route T middle a z f q g = no-path T middle a z q (f (hopCount q)) g
+
+-- where the shortest way has over 15 links every route is too far
+pub too-far : (T : Topology) (middle a z n : ℕ) (p : List ℕ) → mostRouteHops < n → Way T middle z n a p → ((j : ℕ) → j < n → NoWay T middle z j a) → TooFar T middle a z
+too-far T middle a z n p l w f = record {
+  some = (a ∷ p, way-path T middle z n a p (omega arith) w f);
+  over = λ q g. omega (arith, path-long T middle a z n f q g);
+}
 
 -- no path leads from a node to itself
 pub no-round : (T : Topology) (middle a z : ℕ) → a ≡ z → (p : List ℕ) → PathBetween T middle a z p → ⊥

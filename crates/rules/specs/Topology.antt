@@ -94,9 +94,14 @@ mostRouteHops = 15
 abbrev pub Route : Topology → ℕ → ℕ → ℕ → List ℕ → Type 0
 Route T middle source destination = Best (PathWithin mostRouteHops T middle source destination)
 
--- no route of at most 15 hops
+-- none exists, of any number of hops
 abbrev pub NoRoute : Topology → ℕ → ℕ → ℕ → Type 0
-NoRoute T middle source destination = (p : List ℕ) → PathWithin mostRouteHops T middle source destination p → ⊥
+NoRoute T middle source destination = (p : List ℕ) → PathBetween T middle source destination p → ⊥
+
+-- routes exist, but all have over 15 hops
+pub record TooFar (T : Topology) (middle source destination : ℕ) : Type 0 where
+  pub some : (p : List ℕ) × PathBetween T middle source destination p
+  pub over : (p : List ℕ) → PathBetween T middle source destination p → mostRouteHops < hopCount p
 
 -- CLASHES, over the hearing
 

@@ -6,9 +6,10 @@ use Prim.Native.Nat.{ℕ, _+_}
 use lib.ListN.{length, take}
 use lib.Seq.{length-take-le}
 use Rattle.rules.specs.Placing.Planned.{one}
-use Rattle.answers.proofs.Replies.{reply-refused}
+use Rattle.rules.proofs.Cases.{far-some}
+use Rattle.answers.proofs.Replies.{reply-refused, reply-next}
 use Rattle.opening.proofs.Routed.{routed-new}
-use Rattle.opening.proofs.Planned.{hops-most, nodes-most, links-inside, same-links, asked, planned-route, planned-none}
+use Rattle.opening.proofs.Planned.{hops-most, nodes-most, links-inside, same-links, asked, planned-route, planned-none, planned-far}
 use borrow.Author.Needs.{needs}
 use Rattle.opening.proofs.open_new.Statement.{statement}
 use Rattle.opening.proofs.open_new.Tie as tie
@@ -75,7 +76,7 @@ open-routed-requires c κs =
     let a = c .before .before .before .before .before .before .before .before .before .before .before .before in
     let route = planned-route (a .pre .asked) (c .before .before .before .before .before .before .before .before .before .sets .ensures)
     (c .before .before .before .before .before .before .before .plan .result) (c .before .before .before .before .before .before .before .plan .ensures)
-    (c .before .before .before .enum-told2 .given .1) in
+    (c .before .before .before .enum-told3 .given .1) in
     record {
       new = a .pre;
       heard = same-links (a .pre .asked)
@@ -93,10 +94,17 @@ returns c =
 
 returns-2 : tie.Need-returns-2
 returns-2 c =
+    let a = c .before .before .before .before .before .before .before .before .before .before in
+    let planned = c .before .before .before .before .before .plan in
+    let far = planned-far (a .pre .asked) (c .before .before .before .before .before .before .before .sets .ensures) (planned .result) (planned .ensures) (c .before .enum-told2 .given .1) in
+    reply-next (far-some far) (reply-refused far (λ z. omega arith) (c .refused2 .ensures .0) (c .refused2 .ensures .1))
+
+returns-3 : tie.Need-returns-3
+returns-3 c =
     let a = c .before .before .before .before .before .before .before .before .before .before .before .before .before .before .before in
     let route = planned-route (a .pre .asked) (c .before .before .before .before .before .before .before .before .before .before .before .before .sets .ensures)
     (c .before .before .before .before .before .before .before .before .before .before .plan .result)
-    (c .before .before .before .before .before .before .before .before .before .before .plan .ensures) (c .before .before .before .before .before .before .enum-told2 .given .1) in
+    (c .before .before .before .before .before .before .before .before .before .before .plan .ensures) (c .before .before .before .before .before .before .enum-told3 .given .1) in
     routed-new (a .args .image .now) _ _ (one route) (c .before .before .open-routed .ensures)
 
 pub open-new-spec : {M : Type 1} → statement M
@@ -111,11 +119,14 @@ open-new-spec =
     (λ c. search needs)
     (λ c κs. search needs)
     (λ c. search needs)
+    (λ c κs. search needs)
+    (λ c. search needs)
     array-share-prefix-rows-2
     slice-aggregate-open-routed
     array-share-prefix-nodes
     slice-aggregate-open-routed-2
     open-routed-requires
     returns
+    returns-2
     (λ c. search needs)
-    returns-2)
+    returns-3)

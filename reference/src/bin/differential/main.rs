@@ -5,8 +5,8 @@
 //! number, length or counts, and every byte of the output buffer.
 //! `differential --self` puts them to the reference itself.
 //!
-//! It fails on the first differences, and where an answer number that document
-//! 01 makes possible for a call was never reached. `--cases` sets how many
+//! It fails on the first differences, and where an answer number that the
+//! documents make possible for a call was never reached. `--cases` sets how many
 //! calls are thrown beside the fixed ones.
 
 mod dice;

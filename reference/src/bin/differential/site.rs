@@ -128,7 +128,7 @@ pub fn ids(book: &Book) -> Vec<u16> {
 
 /// Opens a stream as the planner does; false where it has no route or placing.
 pub fn add_stream(book: &mut Book, id: u16, source: u8, destination: u8, period: u8) -> bool {
-    let Some(route) = planners_route(&book.topology, source, destination) else { return false };
+    let Ok(route) = planners_route(&book.topology, source, destination) else { return false };
     let Some(offsets) = first_placing(book, &route, period) else { return false };
     book.add(Stream { id, period, route, offsets });
     true

@@ -53,7 +53,7 @@ fn tiles_the_other_way_round(driver: &mut Driver) {
     driver.ask(open(&empty, 1, 3, 0, 1), Room::Full);
 }
 
-/// 15 hops are accepted, 16 are not.
+/// 15 hops are accepted, 16 are too far.
 fn long_lines(driver: &mut Driver) {
     for nodes in [15, 16, 17, 18, 64] {
         let empty = new_image(driver, &open_plan(4), &line(nodes));
