@@ -12,6 +12,7 @@ pub mod Entries
 pub mod Unique
 pub mod Written
 pub mod Every
+pub mod Bezout
 pub mod Meeting
 pub mod Periods
 pub mod Plans

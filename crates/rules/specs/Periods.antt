@@ -1,9 +1,9 @@
 -- How the code's records are read, and what the functions over plans and periods promise.
 use mathlib.Core.Path.{_≡_}
-use Prim.Native.Nat.{ℕ, _*_, _<_, _≤_}
+use Prim.Native.Nat.{ℕ, _<_}
 use lib.ListN.{length}
 use Rattle.rules.specs.Tiles as tiles
-use Rattle.rules.specs.Tiles.{periods, periodAt, Period, cycleTiles, Gcd}
+use Rattle.rules.specs.Tiles.{periods, periodAt, Period}
 use Rattle.rules.specs.Placing as placing
 use Rattle.rules.specs.declared.Plan.{Plan}
 use Rattle.rules.specs.declared.Asked.{Asked}
@@ -26,17 +26,3 @@ InList i = i < length periods
 abbrev pub PlaceOf : ℕ → Place → Type 0
 PlaceOf K (At i) = InList i × (periodAt i ≡ K)
 PlaceOf K Nowhere = Period K → ⊥
-
--- g is the greatest common divisor of the periods K and L
-pub record Divisor (K L g : ℕ) : Type 0 where
-  pub greatest : Gcd K L g
-  pub some : 0 < g
-  pub most : g ≤ cycleTiles
-
--- m is g * S, by which the offsets of hops of the periods K and L are compared
-pub record Modulus (S K L m : ℕ) : Type 0 where
-  pub divisor : ℕ
-  pub greatest : Gcd K L divisor
-  pub whole : m ≡ divisor * S
-  pub some : 0 < m
-  pub most : m ≤ cycleTiles * S

@@ -4,12 +4,12 @@ use Prim.Native.Nat.{ℕ, _*_}
 use native.Mathlib.Omega.{arith}
 use native.Mathlib.Nat.{mul-le-mul-right}
 use borrow.Author.Needs.{needs}
-use Rattle.rules.proofs.Periods.{modulus-fits}
+use Rattle.rules.proofs.Periods.{span-fits}
 use Rattle.rules.proofs.span.Statement.{statement}
 use Rattle.rules.proofs.span.Tie as tie
 
 mul-t4 : tie.Need-mul-t4
-mul-t4 c = omega (arith, modulus-fits (c .before .before .before .args .s .0) (c .before .before .period-at .result .0) (c .before .before .before .pre .0) (c .before .before .period-at .ensures .1))
+mul-t4 c = omega (arith, span-fits (c .before .before .before .args .s .0) (c .before .before .period-at .result .0) (c .before .before .before .pre .0) (c .before .before .period-at .ensures .1))
 
 returns : tie.Need-returns
 returns c = (
