@@ -1,9 +1,11 @@
 /* trace kill N PROGRAM WORDS..: runs the program and kills it at the start of its Nth system call, counted from 0.
    trace fail N ERROR PROGRAM WORDS..: makes its Nth system call fail with that error number; N may be a name of the
    list below, a colon and a number, as in fsync:1, and then only calls of that name count.
+   trace hold N FILE PROGRAM WORDS..: before that call makes the file, and lets the call go on when the file is gone.
    trace list FILE PROGRAM WORDS..: writes to the file each call that changes names or brings bytes to the disk.
    Only the program itself is traced, not the programs that it starts.
-   Exit status: the program's own; 125 killed here; 126 no such call was reached (kill, fail); 127 not run or traced. */
+   Exit status: the program's own; 125 killed here; 126 no such call was reached (kill, fail, hold); 127 not run or
+   traced. */
 #define _GNU_SOURCE
 #include <elf.h>
 #include <fcntl.h>
@@ -32,6 +34,7 @@ static const struct call {
     int file, old, new;
 } calls[] = {
     {SYS_openat, "unnamed", -1, -1, 1},
+    {SYS_flock, "flock", 0, -1, -1},
     {SYS_fsync, "fsync", 0, -1, -1},
     {SYS_fdatasync, "fdatasync", 0, -1, -1},
     {SYS_linkat, "linkat", -1, -1, 3},
@@ -124,58 +127,92 @@ static int counts(const char *which, const struct __ptrace_syscall_info *now) {
     return !colon || (call && strlen(call->name) == (size_t)(colon - which) && !strncmp(call->name, which, colon - which));
 }
 
-int main(int count, char **words) {
-    if (count < 4)
-        return NOT_RUN;
-    char mode = words[1][0];
-    char **program = words + (mode == 'f' ? 4 : 3);
-    const char *colon = strchr(words[2], ':');
-    long left = atol(colon ? colon + 1 : words[2]), error = mode == 'f' ? atol(words[3]) : 0;
-    FILE *list = mode == 'l' ? fopen(words[2], "we") : NULL;
+/* Makes the file, and waits until it is gone. */
+static void wait_at(const char *name) {
+    close(open(name, O_CREAT | O_WRONLY | O_CLOEXEC, 0600));
+    while (access(name, F_OK) == 0)
+        usleep(1000);
+}
+
+/* What is to be done, at which call, and what has come of it. */
+struct task {
+    char mode;
+    const char *which, *word;
+    long left;
+    FILE *list;
+    int reached, failing;
+};
+
+/* Starts the program, and stops it before its first call; 0 where it does not run. */
+static pid_t started(char **program) {
+    int state;
     pid_t child = fork();
     if (child == 0) {
         ptrace(PTRACE_TRACEME, 0, NULL, NULL);
         execv(program[0], program);
         _exit(NOT_RUN);
     }
-    int state, reached = mode == 'l', failing = 0, deliver = 0;
     if (waitpid(child, &state, 0) != child || !WIFSTOPPED(state))
-        return NOT_RUN;
+        return 0;
     ptrace(PTRACE_SETOPTIONS, child, NULL, PTRACE_O_TRACESYSGOOD | PTRACE_O_EXITKILL);
-    for (;;) {
+    return child;
+}
+
+/* Lets the program run until a call starts or ends: -1, or the exit status where the program has ended. */
+static int run(pid_t child, struct __ptrace_syscall_info *now) {
+    for (int state, deliver = 0;;) {
         ptrace(PTRACE_SYSCALL, child, NULL, deliver);
-        deliver = 0;
         if (waitpid(child, &state, 0) != child)
             return NOT_RUN;
         if (WIFEXITED(state))
-            return reached ? WEXITSTATUS(state) : NOT_REACHED;
+            return WEXITSTATUS(state);
         if (WIFSIGNALED(state))
             return 128 + WTERMSIG(state);
-        if (WSTOPSIG(state) != (SIGTRAP | 0x80)) {
-            deliver = WSTOPSIG(state) == SIGTRAP ? 0 : WSTOPSIG(state);
-            continue;
-        }
-        struct __ptrace_syscall_info now;
-        ptrace(PTRACE_GET_SYSCALL_INFO, child, sizeof now, &now);
-        if (now.op == PTRACE_SYSCALL_INFO_EXIT && failing) {
-            give(child, -error);
-            failing = 0;
-        }
-        if (now.op != PTRACE_SYSCALL_INFO_ENTRY)
-            continue;
-        if (list)
-            put_call(list, child, &now);
-        if (mode == 'l' || !counts(words[2], &now) || left-- != 0)
-            continue;
-        reached = 1;
-        if (mode == 'k') {
-            kill(child, SIGKILL);
-            waitpid(child, &state, 0);
-            return KILLED;
-        }
-        /* A file that fails to close is closed all the same. */
-        if (now.entry.nr != SYS_close)
-            skip(child);
-        failing = 1;
+        if (WSTOPSIG(state) == (SIGTRAP | 0x80))
+            break;
+        deliver = WSTOPSIG(state) == SIGTRAP ? 0 : WSTOPSIG(state);
     }
+    ptrace(PTRACE_GET_SYSCALL_INFO, child, sizeof *now, now);
+    return -1;
+}
+
+/* Does to the call that starts what the task says. */
+static void act(struct task *task, pid_t child, const struct __ptrace_syscall_info *now) {
+    if (task->mode == 'l')
+        put_call(task->list, child, now);
+    if (task->mode == 'l' || !counts(task->which, now) || task->left-- != 0)
+        return;
+    task->reached = 1;
+    if (task->mode == 'h')
+        wait_at(task->word);
+    if (task->mode == 'k')
+        kill(child, SIGKILL);
+    if (task->mode != 'f')
+        return;
+    /* A file that fails to close is closed all the same. */
+    if (now->entry.nr != SYS_close)
+        skip(child);
+    task->failing = 1;
+}
+
+int main(int count, char **words) {
+    if (count < 4)
+        return NOT_RUN;
+    const char *colon = strchr(words[2], ':');
+    struct task task = {.mode = words[1][0], .which = words[2], .word = words[3], .left = atol(colon ? colon + 1 : words[2])};
+    task.list = task.mode == 'l' ? fopen(words[2], "we") : NULL;
+    pid_t child = started(words + (task.mode == 'f' || task.mode == 'h' ? 4 : 3));
+    struct __ptrace_syscall_info now;
+    int status = child ? run(child, &now) : NOT_RUN;
+    for (; status == -1; status = run(child, &now)) {
+        if (now.op == PTRACE_SYSCALL_INFO_EXIT && task.failing) {
+            give(child, -atol(task.word));
+            task.failing = 0;
+        }
+        if (now.op == PTRACE_SYSCALL_INFO_ENTRY)
+            act(&task, child, &now);
+    }
+    if (task.mode == 'l' || !child)
+        return status;
+    return !task.reached ? NOT_REACHED : task.mode == 'k' ? KILLED : status;
 }

@@ -98,6 +98,13 @@ impl Bytes<'_> {
     }
 }
 
+/// Every link of these rows of neighbours once, the lower node first.
+pub fn pairs(links: &[u64]) -> Vec<(usize, usize)> {
+    let is_linked = |a: usize, b: usize| links[a] >> b & 1 == 1;
+    let upper = |a| (a + 1..links.len()).filter(move |&b| is_linked(a, b)).map(move |b| (a, b));
+    (0..links.len()).flat_map(upper).collect()
+}
+
 impl Book {
     /// Reads a lawful book; none where the bytes are no book of a version that is known here.
     pub fn decode(image: &[u8]) -> Option<Book> {
@@ -110,7 +117,22 @@ impl Book {
         let links = (0..nodes).map(|_| rest.number(8)).collect::<Option<_>>()?;
         let streams = (0..streams).map(|_| rest.stream(layout)).collect::<Option<_>>()?;
         let book = Book { version, slots, tiles, kinds, down, up, links, streams };
-        (rest.0.is_empty() && slots > 0 && tiles > 0).then_some(book)
+        (rest.0.is_empty() && book.is_sound()).then_some(book)
+    }
+
+    /// What is relied on here holds, whoever called the bytes lawful; the engine asks for more.
+    fn is_sound(&self) -> bool {
+        let is_sound = |stream: &Stream| {
+            PERIODS.contains(&stream.period)
+                && stream.hops() > 0
+                && stream.nodes.iter().all(|&node| node < self.nodes())
+                && stream.offsets.is_sorted()
+        };
+        self.slots > 0
+            && self.tiles > 0
+            && self.down.max(self.up) <= self.slots
+            && self.links.len() <= MOST_NODES
+            && self.streams.iter().all(is_sound)
     }
 
     pub fn nodes(&self) -> u8 {
@@ -125,6 +147,15 @@ impl Book {
     /// The tile of the cycle is downlink.
     pub fn is_down(&self, tile: u16) -> bool {
         self.kinds >> (tile % u16::from(self.tiles)) & 1 == 1
+    }
+
+    /// The word for the tile's kind.
+    pub fn kind(&self, tile: u16) -> &'static str {
+        if self.is_down(tile) {
+            "downlink"
+        } else {
+            "uplink"
+        }
     }
 
     /// How many slots at the start of the tile are control.
@@ -146,9 +177,8 @@ impl Book {
     }
 
     /// Every link once, the lower node first.
-    pub fn pairs(&self) -> impl Iterator<Item = (u8, u8)> + '_ {
-        let upper = |a| self.neighbours(a).filter(move |&b| a < b).map(move |b| (a, b));
-        (0..self.nodes()).flat_map(upper)
+    pub fn pairs(&self) -> Vec<(usize, usize)> {
+        pairs(&self.links)
     }
 
     /// The nodes that no link reaches.

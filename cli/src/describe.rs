@@ -8,8 +8,8 @@ pub fn counts(book: &Book) -> String {
     format!(
         "{}, {} of at most {MOST_STREAMS}, {} of at most {MOST_HOPS}\n",
         count(book.nodes(), "node"),
-        count(book.streams.len() as u64, "stream"),
-        count(book.hops() as u64, "hop"),
+        count(book.streams.len(), "stream"),
+        count(book.hops(), "hop"),
     )
 }
 

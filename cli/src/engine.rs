@@ -41,6 +41,11 @@ fn wrong(what: impl std::fmt::Display) -> Trouble {
     Trouble::Failed(format!("the engine {what}; nothing is changed"))
 }
 
+/// Nothing can be put to the engine, or had from it.
+fn out_of_reach(e: &io::Error) -> Trouble {
+    wrong(format!("is out of reach: {}", reason(e)))
+}
+
 /// The engine's program.
 fn find() -> Result<PathBuf, Trouble> {
     if let Some(named) = env::var_os(VARIABLE).filter(|named| !named.is_empty()) {
@@ -110,12 +115,12 @@ impl Engine {
                 Ok(false) => return Err(wrong("gives no answer")),
                 Ok(true) => {}
                 Err(e) if e.kind() == io::ErrorKind::Interrupted => continue,
-                Err(e) => return Err(wrong(format!("is out of reach: {}", reason(&e)))),
+                Err(e) => return Err(out_of_reach(&e)),
             }
             match output.read(&mut buffer[at..]) {
                 Ok(0) => return Err(wrong("ended before it answered")),
                 Ok(n) => at += n,
-                Err(e) => return Err(wrong(format!("is out of reach: {}", reason(&e)))),
+                Err(e) => return Err(out_of_reach(&e)),
             }
         }
         Ok(())
@@ -129,10 +134,9 @@ impl Engine {
             // One request fits into the pipe; several are written while the answers are read.
             let written = match requests {
                 [_] => Engine::write(input, &all),
-                _ => {
-                    scope.spawn(|| Engine::write(input, &all));
-                    Ok(())
-                }
+                _ => thread::Builder::new()
+                    .spawn_scoped(scope, || Engine::write(input, &all))
+                    .map_or_else(|e| Err(out_of_reach(&e)), |_| Ok(())),
             };
             let mut read = || requests.iter().map(|r| Engine::read_answer(output, r)).collect();
             let answers = written.and_then(|()| read());
@@ -147,9 +151,7 @@ impl Engine {
     /// Writes to the engine; where it has ended, the reading says so.
     fn write(input: &mut ChildStdin, bytes: &[u8]) -> Result<(), Trouble> {
         match input.write_all(bytes) {
-            Err(e) if e.kind() != io::ErrorKind::BrokenPipe => {
-                Err(wrong(format!("is out of reach: {}", reason(&e))))
-            }
+            Err(e) if e.kind() != io::ErrorKind::BrokenPipe => Err(out_of_reach(&e)),
             _ => Ok(()),
         }
     }
@@ -183,7 +185,7 @@ impl Engine {
         match self.child.wait() {
             Ok(status) if status.success() => Ok(()),
             Ok(status) => Err(wrong(format!("ended badly: {status}"))),
-            Err(e) => Err(wrong(format!("is out of reach: {}", reason(&e)))),
+            Err(e) => Err(out_of_reach(&e)),
         }
     }
 }

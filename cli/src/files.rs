@@ -62,7 +62,7 @@ fn must_be_plain(path: &Path, found: &fs::Metadata) -> Result<(), Trouble> {
 
 /// Reads up to `most` bytes.
 fn read_up_to(input: &mut impl Read, most: usize) -> io::Result<Vec<u8>> {
-    let mut bytes = Vec::new();
+    let mut bytes = Vec::with_capacity(most);
     input.take(most as u64).read_to_end(&mut bytes)?;
     Ok(bytes)
 }

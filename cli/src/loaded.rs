@@ -23,8 +23,8 @@ pub fn accepted(answer: Answer, about: impl Into<String>) -> Result<Answer, Trou
     }
 }
 
-/// The engine called bytes good that cannot be read here.
-fn unreadable() -> Trouble {
+/// The engine called bytes good that cannot be read here, or that it then contradicts.
+pub fn unreadable() -> Trouble {
     Trouble::Failed("the engine says what is no answer; nothing is changed".into())
 }
 

@@ -51,15 +51,15 @@ fn say(line: &str) {
 /// Prints what a command reports; the status says what became of the book.
 fn tell(report: &Report) -> u8 {
     report.warnings.iter().for_each(|warning| say(&format!("lindurask: {warning}")));
+    let status = if report.refused { REFUSED } else { DONE };
     match print(&report.text) {
-        Ok(()) if report.refused => REFUSED,
-        Ok(()) => DONE,
+        Ok(()) => status,
         Err(e) if report.changed => {
             say(&format!(
                 "lindurask: it is done, but standard output failed: {}",
                 text::reason(&e)
             ));
-            DONE
+            status
         }
         Err(e) => {
             say(&format!("lindurask: standard output: {}", text::reason(&e)));
@@ -107,6 +107,10 @@ fn alias(word: OsString) -> OsString {
 }
 
 fn main() -> ExitCode {
+    if sys::is_mute() {
+        let said = "standard output is closed; nothing is changed";
+        return complain(&Trouble::Failed(said.into()), false).into();
+    }
     let mut words = env::args_os().skip(1);
     let Some(name) = words.next().map(alias) else {
         return complain(&Trouble::Misused(USAGE.into()), false).into();

@@ -1,11 +1,13 @@
 //! The page of a book: one HTML file with the site, its streams, the slots of the cycle and each
 //! node's balance.
 
+mod agreement;
 mod arrows;
 mod bars;
 mod canvas;
 mod graph;
 mod grid;
+mod hops;
 mod identity;
 mod layout;
 mod markup;
@@ -14,7 +16,6 @@ mod read_back;
 mod routes;
 #[cfg(test)]
 mod samples;
-mod slots;
 mod streams;
 mod style;
 mod summary;
@@ -23,6 +24,7 @@ mod traffic;
 mod wellformed;
 
 use crate::book::{Balance, Book};
+pub use agreement::agrees;
 use markup::{escape, section};
 
 /// The page of a lawful book with the balance of each of its nodes; the same book gives the same

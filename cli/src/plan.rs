@@ -191,7 +191,11 @@ impl Plan {
                 ![1, 2, 4, 5, 10].contains(&tiles.value.len()),
                 "a plan has 1, 2, 4, 5 or 10 tiles",
             ),
-            (nodes.line, !(2..=64).contains(&nodes.value), "a site has 2 to 64 nodes"),
+            (
+                nodes.line,
+                !(2..=MOST_NODES as u64).contains(&nodes.value),
+                "a site has 2 to 64 nodes",
+            ),
             (
                 control.line,
                 down.max(up) > slots.value,

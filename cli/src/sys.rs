@@ -4,6 +4,7 @@ use std::ffi::{c_char, c_int, c_uint, c_void, CStr, CString};
 use std::fs::File;
 use std::io::{self, Read};
 use std::os::fd::AsRawFd;
+use std::sync::atomic::{AtomicBool, Ordering};
 
 #[cfg(target_arch = "aarch64")]
 mod flags {
@@ -23,6 +24,10 @@ pub const NONBLOCK: i32 = 0o4000;
 /// A file without a name, in the folder that is opened.
 pub const TMPFILE: i32 = 0o20000000 | flags::DIRECTORY;
 
+const STANDARD_OUTPUT: c_int = 1;
+const F_GETFL: c_int = 3;
+const O_ACCMODE: c_int = 3;
+const O_RDONLY: c_int = 0;
 const LOCK_EX: c_int = 2;
 const LOCK_NB: c_int = 4;
 const AT_FDCWD: c_int = -100;
@@ -39,6 +44,7 @@ struct PollFd {
 }
 
 extern "C" {
+    fn fcntl(fd: c_int, operation: c_int, ...) -> c_int;
     fn flock(fd: c_int, operation: c_int) -> c_int;
     fn linkat(
         old_folder: c_int,
@@ -65,6 +71,25 @@ extern "C" {
         flags: c_int,
     ) -> c_int;
     fn fremovexattr(fd: c_int, name: *const c_char) -> c_int;
+}
+
+/// Nothing that is written to standard output goes anywhere.
+static IS_MUTE: AtomicBool = AtomicBool::new(false);
+
+/// Looks at standard output as the program was given it.
+extern "C" fn look() {
+    let how = unsafe { fcntl(STANDARD_OUTPUT, F_GETFL) };
+    IS_MUTE.store(how == -1 || how & O_ACCMODE == O_RDONLY, Ordering::Relaxed);
+}
+
+/// Has the look taken before main: by then the standard library has opened what was closed, on nothing.
+#[used]
+#[link_section = ".init_array"]
+static BEFORE_MAIN: extern "C" fn() = look;
+
+/// Standard output was closed, or open for reading alone, when the program started.
+pub fn is_mute() -> bool {
+    IS_MUTE.load(Ordering::Relaxed)
 }
 
 /// What a call of the C library that answers 0 or -1 gave.

@@ -40,11 +40,9 @@ pub fn reason(e: &io::Error) -> String {
 }
 
 /// A count of things: 1 slot, 2 slots.
-pub fn count(n: impl Into<u64>, thing: &str) -> String {
-    match n.into() {
-        1 => format!("1 {thing}"),
-        n => format!("{n} {thing}s"),
-    }
+pub fn count<N: Display + PartialEq + From<u8>>(n: N, thing: &str) -> String {
+    let plural = if n == N::from(1) { "" } else { "s" };
+    format!("{n} {thing}{plural}")
 }
 
 /// Words in a row behind a title, wrapped; later lines stand below the first word.
@@ -64,4 +62,15 @@ pub fn row(title: &str, words: impl IntoIterator<Item = impl Display>) -> String
     }
     said.push('\n');
     said
+}
+
+#[cfg(test)]
+mod tests {
+    use super::*;
+
+    #[test]
+    fn one_thing_has_no_plural() {
+        let counts = [count(0u8, "slot"), count(1u16, "slot"), count(2usize, "slot")];
+        assert_eq!(counts, ["0 slots", "1 slot", "2 slots"]);
+    }
 }

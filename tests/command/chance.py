@@ -83,8 +83,8 @@ def site(turn):
         other, target = plan(dice)
         room.put("b.plan", other.encode())
         said = room.run("replan", "a.book", "b.plan", "b.book")
-        want, new = work_out.replanned(book, target)
-        check(said.status == 0 and said.out == want and room.get("b.book") == new.image(), "replan says\n%s\nand not\n%s" % (said.all, want))
+        want, status, new = work_out.replanned(book, target)
+        check(said.status == status and said.out == want and room.get("b.book") == new.image(), "replan says\n%s\nand not\n%s" % (said.all, want))
 
 
 def hostile(room):

@@ -166,9 +166,6 @@ def made(room):
     os.symlink("nowhere", room.at("dangling.book"))
     room.says(2, "lindurask: dangling.book: File exists; it is never replaced\n", "new", "dangling.book", "kiln.plan")
     room.says(2, "lindurask: nowhere/a.book: No such file or directory\n", "new", "nowhere/a.book", "kiln.plan")
-    room.says(0, "made: kiln.html\n", "page", "kiln.book", "kiln.html")
-    check(room.get("kiln.html").decode() == room.run("page", "kiln.book").out and room.get("kiln.html").lower().startswith(b"<!doctype html>"), "the page in a file is another")
-    room.says(2, "lindurask: kiln.html: File exists; it is never replaced\n", "page", "site.book", "kiln.html")
     room.says(2, "lindurask: kiln.book: File exists; it is never replaced\n", "replan", "yard.book", "yard.plan", "kiln.book")
 
 

@@ -3,6 +3,7 @@ import errno
 import os
 import shutil
 import subprocess
+import time
 
 import tool
 from tool import check
@@ -90,6 +91,16 @@ def killed(case, trace):
         case.name, len(got), states.count("old"), states.count("new"), sum(1 for part in got if part[2])))
 
 
+def left(case, trace):
+    """Killed between the naming of the new file and the rename: the next change clears what is beside the book."""
+    with case.folder("left") as folder:
+        status = case.run(folder, trace, "kill", "rename:0").returncode
+        beside = [name for name in os.listdir(folder) if name.startswith(".lindurask-")]
+        check(status == KILLED and len(beside) == 1 and case.held(folder) == case.before, "%s: a cut-off before the rename left %s" % (case.name, beside))
+        check(case.run(folder).returncode == 0 and case.held(folder) == case.after, "%s after a cut-off before the rename" % case.name)
+        check(not [name for name in os.listdir(folder) if name.startswith(".lindurask-")], "%s: what a cut-off left is still there" % case.name)
+
+
 def failed(case, trace):
     """Each of its system calls fails, in turn: done means the new book, and not done the old one."""
     def one(moment):
@@ -136,16 +147,15 @@ def seen(case, trace):
     with case.folder("seen") as folder:
         log = os.path.join(case.room.path, "calls")
         check(case.run(folder, trace, "list", log).returncode == 0, "%s under a tracer" % case.name)
-        lines = [line.split(" ") for line in open(log).read().splitlines()]
-        real = os.path.realpath(folder)
-        check(lines[0][0] == "unnamed", "%s makes no file without a name: %s" % (case.name, lines))
-        lines = lines[1:]
-        names = [line[0] for line in lines]
-        if case.before is None:
-            check(names == ["fsync", "linkat", "fsync"] and lines[1][1].endswith(case.file), "%s: %s" % (case.name, lines))
-        else:
-            check(names == ["fsync", "linkat", "rename", "fsync"] and lines[2][2].endswith("/" + case.file) and lines[1][1] == lines[2][1], "%s: %s" % (case.name, lines))
-        check(lines[0][1] != real and lines[-1][1] == real, "%s syncs %s and %s" % (case.name, lines[0], lines[-1]))
+        lines = [line.split(" ") for line in open(log).read().splitlines() if not line.startswith("flock ")]
+        names = ["unnamed", "fsync", "linkat"] + ["rename"] * (case.before is not None) + ["fsync"]
+        check([line[0] for line in lines] == names, "%s: the calls are %s" % (case.name, lines))
+        if len(lines) != len(names):
+            return
+        real, named = os.path.realpath(folder), lines[-2][-1]
+        check(named == case.file or named.endswith("/" + case.file), "%s names %s" % (case.name, named))
+        check(case.before is None or lines[2][1] == lines[3][1], "%s: %s is named, and %s renamed" % (case.name, lines[2][1], lines[3][1]))
+        check(lines[1][1] != real and lines[-1][1] == real, "%s syncs %s and %s" % (case.name, lines[1], lines[-1]))
 
 
 def named(case, trace):
@@ -157,6 +167,22 @@ def named(case, trace):
         check(sorted(os.listdir(folder)) == sorted(set(before + [case.file])), "%s by a named file left %s" % (case.name, os.listdir(folder)))
 
 
+def replaced(case, trace):
+    """A book that another change replaces after it was opened and before it was locked is opened anew."""
+    with case.folder("replaced") as folder:
+        at, held, other = (os.path.join(folder, name) for name in ["at-lock", case.file, "other"])
+        old = tool.work_out.Book.read(case.before)
+        new = old.without(old.streams[0].id)
+        run = subprocess.Popen([trace, "hold", "flock:0", at, tool.TOOL, *case.words], cwd=folder, stdout=subprocess.DEVNULL)
+        while not os.path.exists(at) and run.poll() is None:
+            time.sleep(0.001)
+        with open(other, "wb") as file:
+            file.write(new.image())
+        os.rename(other, held)
+        os.remove(at)
+        check(run.wait(60) == 0 and case.held(folder) == new.without(int(case.words[2])).image(), "%s: a book that was replaced meanwhile" % case.name)
+
+
 def test(room):
     trace = tool.compiled(room, "trace.c")
     if trace is None or subprocess.run([trace, "kill", "0", "/bin/true"]).returncode != KILLED:
@@ -166,12 +192,16 @@ def test(room):
     cases = [Case(room, "open", "a.book", old, "open", "a.book", "200", "0", "63", "100"),
              Case(room, "close", "a.book", room.get("site.book"), "close", "a.book", "64"),
              Case(room, "new", "n.book", None, "new", "n.book", "kiln.plan"),
-             Case(room, "replan", "n.book", None, "replan", "kiln.book", "yard.plan", "n.book")]
+             Case(room, "replan", "n.book", None, "replan", "kiln.book", "yard.plan", "n.book"),
+             Case(room, "page", "p.html", None, "page", "kiln.book", "p.html")]
     for case in cases:
         check(case.status == 0 and case.after not in (None, case.before), "%s is not done" % case.name)
         seen(case, trace)
         unsynced(case, trace)
         named(case, trace)
-    for case in cases[:3]:
+    replaced(cases[1], trace)
+    for case in cases[:2]:
+        left(case, trace)
+    for case in cases:
         killed(case, trace)
         failed(case, trace)

@@ -75,6 +75,16 @@ def documents(room, usages, refusals):
         check(variable in text("cli/lindurask.1"), "the man page has no %s" % variable)
 
 
+def links():
+    """Every link of the documents to a file of this repository leads to one."""
+    files = ["README.md", "books/README.md"] + [os.path.join("docs", name) for name in os.listdir(os.path.join(tool.ROOT, "docs")) if name.endswith(".md")]
+    for file in files:
+        for target in re.findall(r"\]\(([^)#]+)\)", text(file)):
+            check("://" in target or os.path.exists(os.path.join(tool.ROOT, os.path.dirname(file), target)), "%s: no file %s" % (file, target))
+    for sample in ["docs/sample/kiln.html", "docs/sample/kiln.png"]:
+        check("(%s)" % sample in text("README.md"), "README.md has no link to %s" % sample)
+
+
 def samples(room):
     os.mkdir(room.at("made"))
     check(subprocess.run([os.path.join(tool.BOOKS, "make"), room.at("made")]).returncode == 0, "books/make failed")
@@ -108,5 +118,6 @@ def test(room):
     completion(usages)
     json_fields(room)
     documents(room, usages, refusals)
+    links()
     samples(room)
     installed(room)

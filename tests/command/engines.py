@@ -29,6 +29,7 @@ while True:
     if mode in ("more", "badly") and room:
         image = open(os.path.join(os.path.dirname(sys.argv[0]), "new.image"), "rb").read()
         counts[0], out = len(image), image + out[len(image):]
+    if mode == "sleepy" and head[0] == 5: counts[0], out = 300 * data[5], bytes(300 * data[5]) + out[300 * data[5]:]
     if mode == "same" and room: counts[0], out = len(data), data + out[len(data):]
     answer = bytes([number]) + b"".join(n.to_bytes(4, "big") for n in counts) + out
     if mode == "half":
@@ -55,49 +56,73 @@ def hold(room, engine, words, said):
     check(got.status == 2 and told, "%s with engine %s: %d %s" % (words, engine, got.status, got.all))
 
 
+def program(engines, name, text):
+    path = engines.put(name, text)
+    os.chmod(path, 0o755)
+    return path
+
+
+def no_engines(room, engines):
+    """What is missing, is no program, or ends before it has answered."""
+    nowhere, ends = engines.at("nowhere"), program(engines, "ends", b"#!/bin/sh\nexit 0\n")
+    loud = program(engines, "loud", b"#!/bin/sh\nexec head -c 300000 /dev/zero | tr '\\0' 'Z'\n")
+    for words in COMMANDS:
+        hold(room, nowhere, words, "could not be started: %s: No such file or directory" % os.fsdecode(nowhere))
+        hold(room, ends, words, "ended before it answered")
+        hold(room, loud, words, "says what is no answer")
+    hold(room, program(engines, "killed", b"#!/bin/sh\nkill -9 $$\n"), COMMANDS[0], "ended before it answered")
+    hold(room, engines.put("plain", b"no program"), COMMANDS[2], "could not be started")
+    hold(room, engines.path, COMMANDS[2], "could not be started")
+
+
+def nonsense(room, engines):
+    """What is no answer, or comes beside one; two of these engines give the right book first."""
+    old = tool.work_out.Book.read(room.get("kiln.book"))
+    engines.put("new.image", old.with_stream(old.opened(8, 1, 2, 5)).image())
+    fake = {mode: program(engines, "engine-" + mode, FAKE.encode()) for mode in list(WRONG) + ["spilt", "touched", "junk", "short", "same", "sleepy"]}
+    for mode, said in WRONG.items():
+        for words in COMMANDS[:1] + COMMANDS[2:3]:
+            hold(room, fake[mode], words, said)
+    for mode in ["spilt", "touched", "junk", "short", "same"]:
+        for words in COMMANDS[2:4] + COMMANDS[7:9] if mode != "same" else COMMANDS[2:4]:
+            got = room.run(*words, env={"LINDURASK_ENGINE": os.fsdecode(fake[mode])})
+            check(got.status == 2 and got.out == "" and "the engine" in got.err, "%s with an engine that gives %s: %s" % (words, mode, got.all))
+    # Tables that are not those of the streams in the book make no page.
+    hold(room, fake["sleepy"], COMMANDS[9], "says what is no answer")
+
+
+def called_lawful(room, engines):
+    """Bytes that a wrong engine calls lawful do no harm."""
+    engine, book = program(engines, "engine-lawful", FAKE.encode()), room.get("kiln.book")
+    row = book.index(bytes([0, 1, 10, 7]))
+    unsound = {"a period of 0": (row + 2, 0), "a period of 3": (row + 2, 3), "a node beyond the site": (row + 4, 8), "offsets that fall": (row + 12, 255),
+               "no slots": (5, 0), "no tiles": (6, 0), "more control slots than slots": (9, 9), "more nodes than rows hold": (11, 65)}
+    cases = {what: book[:at] + bytes([byte]) + book[at + 1:] for what, (at, byte) in unsound.items()}
+    others = [b"", b"SLB", book[:40], b"SLB\0\1" + bytes(11), b"SLB\0\1" + b"\xff" * 4000, bytes(4096), book[:12] + b"\x40" + book[13:]]
+    cases.update(("%d bytes" % len(data), data) for data in others)
+    for what, data in cases.items():
+        room.put("odd.book", data)
+        for words in [["check", "odd.book"], ["show", "odd.book"], ["quote", "odd.book", "1", "2"], ["page", "odd.book"]]:
+            got = room.run(*words, env={"LINDURASK_ENGINE": os.fsdecode(engine)})
+            check(got.status == 2 and "the engine says what is no answer" in got.err, "%s with %s, called lawful: %s" % (words, what, got.all))
+    os.remove(room.at("odd.book"))
+
+
+def alone(room, engines):
+    """A tool that stands alone finds no engine, and says where one comes from."""
+    shutil.copy(tool.TOOL, engines.at("lindurask"))
+    env = {k: v for k, v in os.environ.items() if k != "LINDURASK_ENGINE"}
+    done = subprocess.run([engines.at("lindurask"), "check", room.at("kiln.book")], capture_output=True, env=env)
+    check(done.returncode == 2 and b"the engine is not there: ./lindurask in the repository builds it" in done.stderr, "a tool without an engine: %s" % done.stderr)
+    for words in [["help"], ["--version"], ["check", "--help"]]:
+        check(subprocess.run([engines.at("lindurask"), *words], capture_output=True, env=env).returncode == 0, "%s needs an engine" % words)
+
+
 def test(room):
     book, before = room.get("kiln.book"), room.names()
     with tool.Room() as engines:
-        script = engines.put("ends", b"#!/bin/sh\nexit 0\n")
-        os.chmod(script, 0o755)
-        loud = engines.put("loud", b"#!/bin/sh\nexec head -c 300000 /dev/zero | tr '\\0' 'Z'\n")
-        os.chmod(loud, 0o755)
-        killed = engines.put("killed", b"#!/bin/sh\nkill -9 $$\n")
-        os.chmod(killed, 0o755)
-        plain = engines.put("plain", b"no program")
-        for words in COMMANDS:
-            hold(room, engines.at("nowhere"), words, "could not be started: %s: No such file or directory" % os.fsdecode(engines.at("nowhere")))
-            hold(room, script, words, "ended before it answered")
-            hold(room, loud, words, "says what is no answer")
-        hold(room, killed, COMMANDS[0], "ended before it answered")
-        hold(room, plain, COMMANDS[2], "could not be started")
-        hold(room, engines.path, COMMANDS[2], "could not be started")
-        # Two of them give the right book first.
-        old = tool.work_out.Book.read(book)
-        engines.put("new.image", old.with_stream(old.opened(8, 1, 2, 5)).image())
-        fakes = {}
-        for mode in list(WRONG) + ["spilt", "touched", "junk", "short", "same", "lawful"]:
-            fakes[mode] = engines.put("engine-" + mode, FAKE.encode())
-            os.chmod(fakes[mode], 0o755)
-        for mode, said in WRONG.items():
-            for words in COMMANDS[:1] + COMMANDS[2:3]:
-                hold(room, fakes[mode], words, said)
-        for mode in ["spilt", "touched", "junk", "short", "same"]:
-            for words in COMMANDS[2:4] + COMMANDS[7:9] if mode != "same" else COMMANDS[2:4]:
-                got = room.run(*words, env={"LINDURASK_ENGINE": os.fsdecode(fakes[mode])})
-                check(got.status == 2 and got.out == "" and "the engine" in got.err, "%s with an engine that gives %s: %s" % (words, mode, got.all))
-        # Bytes that a wrong engine calls lawful do no harm.
-        for data in [b"", b"SLB", book[:40], b"SLB\0\1" + bytes(11), b"SLB\0\1" + b"\xff" * 4000, bytes(4096), book[:12] + b"\x40" + book[13:]]:
-            room.put("odd.book", data)
-            for words in [["check", "odd.book"], ["show", "odd.book"], ["quote", "odd.book", "1", "2"], ["page", "odd.book"]]:
-                got = room.run(*words, env={"LINDURASK_ENGINE": os.fsdecode(fakes["lawful"])})
-                check(got.status == 2 and "the engine says what is no answer" in got.err, "%s of %d bytes called lawful: %s" % (words, len(data), got.all))
-        os.remove(room.at("odd.book"))
-        # A tool that stands alone finds no engine, and says where one comes from.
-        shutil.copy(tool.TOOL, engines.at("lindurask"))
-        env = {k: v for k, v in os.environ.items() if k != "LINDURASK_ENGINE"}
-        done = subprocess.run([engines.at("lindurask"), "check", room.at("kiln.book")], capture_output=True, env=env)
-        check(done.returncode == 2 and b"the engine is not there: ./lindurask in the repository builds it" in done.stderr, "a tool without an engine: %s" % done.stderr)
-        for words in [["help"], ["--version"], ["check", "--help"]]:
-            check(subprocess.run([engines.at("lindurask"), *words], capture_output=True, env=env).returncode == 0, "%s needs an engine" % words)
+        no_engines(room, engines)
+        nonsense(room, engines)
+        called_lawful(room, engines)
+        alone(room, engines)
     check(room.get("kiln.book") == book and room.names() == before, "a wrong engine changed something: %s" % room.names())

@@ -56,8 +56,23 @@ def closed(room):
     done = shut(["new", "n.book", "-"])
     check(done.returncode == 2 and done.stderr == b"standard input: there is no line slots\n", "a plan from a closed standard input: %s" % done.stderr)
     check(shut(["check", "kiln.book"]).returncode == 0, "a check with standard input closed")
-    done = subprocess.run(["sh", "-c", 'exec "$0" "$@" <&- >&- 2>&-', tool.TOOL, "open", "kiln.book", "77", "1", "2", "100"], cwd=room.path, timeout=20)
-    check(done.returncode == 0 and room.run("show", "kiln.book", "--stream", "77").status == 0, "an open with all streams closed")
+    done = subprocess.run(["sh", "-c", 'exec "$0" "$@" <&- 2>&-', tool.TOOL, "open", "kiln.book", "77", "1", "2", "100"], cwd=room.path, stdout=subprocess.DEVNULL, timeout=20)
+    check(done.returncode == 0 and room.run("close", "kiln.book", "77").status == 0, "an open with standard input and standard error closed")
+
+
+def mute(room):
+    """Standard output that is closed, or open for reading alone: nothing is done."""
+    before, books = room.names(), [room.get("kiln.book"), room.get("yard.book")]
+    words = READERS + CHANGERS + [["page", "m.html"], ["replan", "yard.plan", "m.book"]]
+    commands = [asked(command, "kiln.book") for command in words] + [["new", "m.book", "kiln.plan"], ["help"], ["--version"], ["frob"]]
+    for closing in [">&-", "1</dev/null", "<&- >&-"]:
+        for command in commands if closing == ">&-" else commands[6:10]:
+            done = subprocess.run(["sh", "-c", 'exec "$0" "$@" ' + closing, tool.TOOL, *command], cwd=room.path, stderr=subprocess.PIPE, timeout=20)
+            said = b"lindurask: standard output is closed; nothing is changed\n"
+            check(done.returncode == 2 and done.stderr == said, "%s with %s: %d %s" % (command, closing, done.returncode, done.stderr))
+    done = subprocess.run(["sh", "-c", 'exec "$0" "$@" <&- >&- 2>&-', tool.TOOL, *commands[6]], cwd=room.path, timeout=20)
+    check(done.returncode == 2, "an open with all streams closed")
+    check(room.names() == before and [room.get("kiln.book"), room.get("yard.book")] == books, "a tool that cannot speak changed something")
 
 
 def gone(room):
@@ -86,6 +101,7 @@ def gone(room):
     with open("/dev/full", "wb") as full:
         check(run_into(full, "close", "kiln.book", "90") == (0, done % "No space left on device") and room.get("kiln.book") == before, "a close into a full device")
         check(run_into(full, "new", "full.book", "kiln.plan") == (0, done % "No space left on device") and room.get("full.book") == room.empty, "new into a full device")
+        check(run_into(full, "replan", "site.book", "yard.plan", "part.book") == (1, done % "No space left on device") and "part.book" in room.names(), "replan in part into a full device")
         check(run_into(full, "show", "kiln.book") == (2, "lindurask: standard output: No space left on device\n"), "show into a full device")
 
 
@@ -102,6 +118,7 @@ def rights(room):
 def test(room):
     kinds(room)
     closed(room)
+    mute(room)
     gone(room)
     with tool.Room() as other:
         rights(other)

@@ -20,7 +20,12 @@ class Wait:
         self.run = subprocess.Popen([tool.TOOL, *words], stdout=subprocess.PIPE, stderr=subprocess.PIPE, cwd=room.path, env=dict(os.environ, **(env or {})))
 
     def collect(self):
-        out, err = self.run.communicate(timeout=60)
+        try:
+            out, err = self.run.communicate(timeout=60)
+        except subprocess.TimeoutExpired:
+            self.run.kill()
+            out, err = self.run.communicate()
+            check(False, "a run that waits did not give up: %s" % err.decode())
         self.hold(self.room, self.run.returncode, out.decode(), err.decode())
 
 

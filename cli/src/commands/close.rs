@@ -25,7 +25,7 @@ pub const CLOSE: Command = Command {
 /// What was closed and what it gives back.
 fn closed(stream: &Stream) -> String {
     let slots = count(stream.repeats(), "slot");
-    let hops = count(stream.hops() as u64, "hop");
+    let hops = count(stream.hops(), "hop");
     describe::stream("closed ", stream)
         + &format!("     gives back {slots} in a cycle for each of {hops}\n")
 }

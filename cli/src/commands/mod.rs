@@ -22,7 +22,7 @@ pub struct Report {
     pub warnings: Vec<String>,
     /// A file was made or changed.
     pub changed: bool,
-    /// The answer is no, and was given in full.
+    /// The answer is no, in full or in part, and was given.
     pub refused: bool,
 }
 

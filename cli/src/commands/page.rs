@@ -2,8 +2,8 @@
 
 use super::{Command, Report};
 use crate::files;
-use crate::loaded::Loaded;
-use crate::page::page;
+use crate::loaded::{unreadable, Loaded};
+use crate::page::{agrees, page};
 use crate::text::plain;
 use crate::trouble::Trouble;
 use crate::words::Words;
@@ -27,7 +27,11 @@ fn run(words: &Words) -> Result<Report, Trouble> {
     let mut loaded = Loaded::read(path)?;
     let nodes = loaded.nodes(None)?;
     let balances = loaded.balances(&nodes)?;
+    let tables = loaded.tables(&nodes)?;
     loaded.engine.finish()?;
+    if !agrees(&loaded.book, &tables) {
+        return Err(unreadable());
+    }
     let title = plain(path.file_name().unwrap_or(path.as_os_str()));
     let drawn = page(&title, &loaded.book, &balances);
     if words.operands.len() < 2 {

@@ -21,7 +21,8 @@ pub const REPLAN: Command = Command {
     explains: "\
 Makes the book NEW from another plan, with the streams of BOOK opened anew in
 the order of their ids. Prints what each got, and which no longer has a place.
-BOOK is not changed. PLAN is a file, or - for standard input.",
+The exit status is 0 where all have a place, and 1 where one has none; NEW is
+made all the same. BOOK is not changed. PLAN is a file, or - for standard input.",
     example: "lindurask replan kiln.book wider.plan wider.book",
     run,
 };
@@ -72,11 +73,9 @@ fn run(words: &Words) -> Result<Report, Trouble> {
     let book = decode(&bytes)?;
     engine.finish()?;
     files::make(words.path(2), &bytes)?;
-    let kept = format!(
-        "{} of {} have a place\n",
-        book.streams.len(),
-        count(old.streams.len() as u64, "stream")
-    );
+    let kept =
+        format!("{} of {} have a place\n", book.streams.len(), count(old.streams.len(), "stream"));
     let text = format!("{said}{kept}made: {}", describe::counts(&book));
-    Ok(Report { text, warnings: warnings(&book), changed: true, ..Report::default() })
+    let refused = book.streams.len() < old.streams.len();
+    Ok(Report { text, warnings: warnings(&book), changed: true, refused })
 }

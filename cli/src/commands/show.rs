@@ -76,7 +76,7 @@ fn plan(book: &Book, colour: Colour) -> String {
         count(book.tiles, "tile")
     );
     let tile = |tile: u16| {
-        let kind = if book.is_down(tile) { "downlink" } else { "uplink" };
+        let kind = book.kind(tile);
         let control = usize::from(book.control(tile));
         let data = usize::from(book.slots) - control;
         format!("  tile {tile}  {kind:<8}  {}{}\n", "#".repeat(control), ".".repeat(data))
@@ -94,7 +94,7 @@ fn or_none(lines: String) -> String {
 }
 
 fn links(book: &Book, colour: Colour) -> String {
-    let pairs = book.pairs().map(|(a, b)| format!("{a}-{b}"));
+    let pairs = book.pairs().into_iter().map(|(a, b)| format!("{a}-{b}"));
     format!("\n{}\n{}", colour.title("Links"), or_none(row(" ", pairs)))
 }
 
@@ -127,7 +127,7 @@ fn lists(book: &Book, part: &Part, balances: &[Balance], colour: Colour) -> Stri
 
 /// The nodes that have no row because they carry no stream.
 fn idle(part: &Part, balances: &[Balance]) -> String {
-    let idle = balances.iter().filter(|balance| balance.used == 0).count() as u64;
+    let idle = balances.iter().filter(|balance| balance.used == 0).count();
     match part {
         Part::All if idle != 0 => {
             format!("  Left out: {} without a stream.\n", count(idle, "node"))
@@ -137,7 +137,7 @@ fn idle(part: &Part, balances: &[Balance]) -> String {
 }
 
 fn in_json(book: &Book, part: &Part) -> String {
-    let pairs = book.pairs().map(|(a, b)| json::array([a, b]));
+    let pairs = book.pairs().into_iter().map(|(a, b)| json::array([a, b]));
     let streams = part.streams(book).map(|place| json::stream(&book.streams[place]));
     json::answer([
         ("version", book.version.to_string()),

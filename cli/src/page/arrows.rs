@@ -1,12 +1,13 @@
 //! The arrows beside the links: one for every stream that goes there, or one for many.
 
 use super::graph::RADIUS;
+use super::hops::hops;
 use super::identity::{colour, name, title};
 use super::layout::Point;
-use super::markup::{count, direction, joined, length};
-use super::slots::hops;
+use super::markup::{direction, joined, length};
 use super::traffic::{names, slots_in_use, Traffic};
 use crate::book::Book;
+use crate::text::count;
 
 /// The room between a link and the arrows beside it, and between two arrows.
 const CLEARANCE: f64 = 2.5;

@@ -1,8 +1,8 @@
 //! Each node's balance, in numbers and as a bar.
 
-use super::markup::{count, direction, scrolling, table};
-use super::slots::CYCLE;
-use crate::book::Balance;
+use super::markup::{direction, scrolling, table};
+use crate::book::{Balance, CYCLE};
+use crate::text::count;
 
 /// The length of the longest bar, and the height of each.
 const LONGEST: f64 = 240.0;
@@ -44,7 +44,7 @@ fn line(node: usize, balance: &Balance, most: u32) -> String {
 /// A bar as long as the node's data slots, filled as far as they are used.
 fn bar(balance: &Balance, most: u32) -> String {
     let long = |slots: u32| direction(LONGEST * f64::from(slots) / f64::from(most));
-    let label = format!("{} used, {} free", count(balance.used as usize, "slot"), balance.free);
+    let label = format!("{} used, {} free", count(balance.used, "slot"), balance.free);
     format!(
         "<svg viewBox=\"-1 -1 {} {}\" role=\"img\" aria-label=\"{label}\">\
          <rect class=\"free\" width=\"{}\" height=\"{HEIGHT}\"/>\

@@ -1,7 +1,8 @@
 //! The site on a canvas of its own scale: a spot for each node, and the links between them.
 
-use super::layout::{each_link, Point};
+use super::layout::Point;
 use super::markup::{joined, length};
+use crate::book::pairs;
 
 /// The spots of all nodes, and the size of the whole.
 pub struct Canvas {
@@ -30,7 +31,7 @@ impl Canvas {
     pub fn links(&self, rows: &[u64]) -> String {
         let line =
             |(a, b): (usize, usize)| format!("M{}L{}", pair(self.spots[a]), pair(self.spots[b]));
-        joined(each_link(rows).into_iter().map(line), "")
+        joined(pairs(rows).into_iter().map(line), "")
     }
 
     /// A node's circle.

@@ -2,10 +2,11 @@
 
 use super::arrows::{arrows, MOST_ARROWS};
 use super::canvas::Canvas;
-use super::layout::{each_link, Point};
-use super::markup::{count, joined, scrolling};
+use super::layout::Point;
+use super::markup::{joined, scrolling};
 use super::traffic::{traffic, Traffic};
 use crate::book::Book;
+use crate::text::count;
 
 /// The length of a link of length 1.
 const UNIT: f64 = 118.0;
@@ -19,7 +20,7 @@ pub fn graph(book: &Book, places: &[Point]) -> String {
     let traffic = traffic(book);
     let canvas = Canvas::new(places, UNIT, MARGIN);
     let nodes = count(places.len(), "node");
-    let links = count(each_link(&book.links).len(), "link");
+    let links = count(book.pairs().len(), "link");
     let figure = format!(
         "<svg class=\"graph\" style=\"--w:{}px\" {} role=\"img\" aria-label=\"Graph of the site \
          with {nodes} and {links}; the list below names the streams on each link.\">\n\
@@ -34,8 +35,7 @@ pub fn graph(book: &Book, places: &[Point]) -> String {
 }
 
 fn node_drawn(book: &Book, canvas: &Canvas, node: usize) -> String {
-    let is_neighbour = |other: &usize| book.links[node] >> other & 1 == 1;
-    let neighbours = (0..book.links.len()).filter(is_neighbour).collect::<Vec<_>>();
+    let neighbours = book.neighbours(node as u8).collect::<Vec<_>>();
     let linked = match neighbours.is_empty() {
         true => "no node".to_string(),
         false => joined(neighbours, ", "),
@@ -63,9 +63,9 @@ fn legend(traffic: &Traffic) -> String {
 
 #[cfg(test)]
 mod tests {
+    use super::super::hops::hops;
     use super::super::layout::places;
     use super::super::samples::{full_site, kiln, line_book, stream};
-    use super::super::slots::hops;
     use super::*;
 
     fn graph_of(book: &Book) -> String {

@@ -3,9 +3,9 @@
 mod parts;
 mod sketch;
 
-use super::markup::{count, joined, scrolling};
-use super::slots::{repeat, CYCLE};
-use crate::book::Book;
+use super::markup::{joined, scrolling};
+use crate::book::{Book, CYCLE};
+use crate::text::count;
 use sketch::Sketch;
 
 /// The most idle tiles in a row that are drawn all the same: those of the longest plan.
@@ -16,7 +16,7 @@ const FEW_NODES: usize = 24;
 /// The grid with its legend and what it leaves out.
 pub fn grid(book: &Book) -> String {
     let sketch = Sketch::new(book);
-    let tiles = (0..repeat(book)).collect::<Vec<_>>();
+    let tiles = (0..book.repeats_after()).collect::<Vec<_>>();
     let runs = tiles.chunk_by(|&a, &b| sketch.is_idle(a) == sketch.is_idle(b)).collect::<Vec<_>>();
     let is_left_out = |run: &[u16]| sketch.is_idle(run[0]) && run.len() > IDLE_DRAWN;
     let left_out = runs.iter().filter(|run| is_left_out(run)).map(|run| span(run));
@@ -46,13 +46,13 @@ const READING: &str = "An offset of a stream counts slots from the start of the 
 
 /// How much of the cycle is shown.
 fn extent(book: &Book) -> String {
-    let shown = repeat(book);
+    let shown = book.repeats_after();
     if shown == CYCLE {
         return format!(
             "The picture repeats only with the cycle of {CYCLE} tiles, which is shown."
         );
     }
-    let tiles = count(shown.into(), "tile");
+    let tiles = count(shown, "tile");
     let times = CYCLE / shown;
     format!(
         "The picture repeats after {tiles}: one repeat is shown, and a cycle of {CYCLE} tiles has \

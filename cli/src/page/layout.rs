@@ -30,19 +30,11 @@ fn part_places(rows: &[u64]) -> Vec<Point> {
     folding::folded(alignment::in_reading_order(clear))
 }
 
-/// Every link once, from its lower node to its higher one.
-pub fn each_link(rows: &[u64]) -> Vec<(usize, usize)> {
-    let linked = |a: usize, b: usize| rows[a] >> b & 1 == 1;
-    let nodes = rows.len();
-    (0..nodes)
-        .flat_map(|a| (a + 1..nodes).filter(move |&b| linked(a, b)).map(move |b| (a, b)))
-        .collect()
-}
-
 #[cfg(test)]
 mod tests {
     use super::super::samples::{line_links, links_of, square_links};
     use super::*;
+    use crate::book::pairs;
 
     fn close(a: f64, b: f64) -> bool {
         (a - b).abs() < 1e-6
@@ -63,7 +55,7 @@ mod tests {
     #[test]
     fn a_long_line_turns_back_under_itself() {
         let places = places(&line_links(64));
-        for (a, b) in each_link(&line_links(64)) {
+        for (a, b) in pairs(&line_links(64)) {
             assert!(close(places[b].less(places[a]).length(), 1.0), "{a} and {b}");
         }
         assert_eq!(

@@ -51,11 +51,6 @@ fn trimmed(number: String) -> String {
     }
 }
 
-/// A count with its noun: 1 slot, 2 slots.
-pub fn count(number: usize, noun: &str) -> String {
-    format!("{number} {noun}{}", if number == 1 { "" } else { "s" })
-}
-
 /// Numbers or names, one after the other.
 pub fn joined<T: ToString>(items: impl IntoIterator<Item = T>, between: &str) -> String {
     items.into_iter().map(|item| item.to_string()).collect::<Vec<_>>().join(between)
@@ -109,10 +104,6 @@ mod tests {
             ["104.04", "2.0", "-0.01"].map(|n| length(n.parse().unwrap())),
             ["104", "2", "0"]
         );
-        assert_eq!(direction(-0.70710678), "-0.707");
-        assert_eq!(
-            [count(0, "slot"), count(1, "slot"), count(2, "slot")],
-            ["0 slots", "1 slot", "2 slots"]
-        );
+        assert_eq!(direction(-std::f64::consts::FRAC_1_SQRT_2), "-0.707");
     }
 }

@@ -3,8 +3,11 @@
 use super::samples::{bare, full_site, kiln, line_book, stream};
 use super::wellformed::{tags, Tag};
 use super::{grid, style};
-use crate::book::Book;
+use crate::book::{Book, CYCLE};
 use std::collections::BTreeMap;
+
+/// The tiles of the cycle.
+const TILES: usize = CYCLE as usize;
 
 /// What a node does in a slot of the cycle, by node and slot.
 type Table = Vec<Vec<String>>;
@@ -73,7 +76,14 @@ fn tiles(tags: &[Tag]) -> BTreeMap<usize, Vec<String>> {
 /// After how many tiles the picture comes again, as the page says it.
 fn tiles_shown(page: &str) -> usize {
     let number = page.split("repeats after ").nth(1).and_then(|rest| rest.split(' ').next());
-    number.map_or(100, |number| number.parse().expect("a number of tiles"))
+    number.map_or(TILES, |number| number.parse().expect("a number of tiles"))
+}
+
+/// Marks a slot with a cell that is drawn over it; only the ground of a tile has others over it.
+fn mark(place: &mut String, cell: &Cell) {
+    let is_ground = place == "left out" || place == "sleep";
+    assert!(is_ground, "a slot is both {place} and {}", cell.meaning);
+    *place = cell.meaning.clone();
 }
 
 /// The table of the whole cycle as the picture shows it; what is left out of it is marked so.
@@ -87,27 +97,18 @@ fn read_back(book: &Book) -> Table {
     let (slots, nodes) = (usize::from(book.slots), book.links.len());
     let (column, row) = (ground.width / slots, ground.height / nodes);
     let shown = tiles_shown(&page);
-    let mut table = vec![vec!["left out".to_string(); 100 * slots]; nodes];
-    for tile in 0..100 {
+    let mut table = vec![vec!["left out".to_string(); TILES * slots]; nodes];
+    for tile in 0..TILES {
         let cells = tiles
             .get(&(tile % shown))
             .into_iter()
             .flatten()
             .flat_map(|part| parts.get(part).into_iter().flatten());
         for cell in cells {
-            for slot in cell.left / column..(cell.left + cell.width).div_ceil(column) {
-                for node in (cell.top - ground.top) / row
-                    ..(cell.top + cell.height - ground.top).div_ceil(row)
-                {
-                    let place = &mut table[node][tile * slots + slot];
-                    let is_ground = *place == "left out" || *place == "sleep";
-                    assert!(
-                        is_ground,
-                        "node {node} in slot {slot} of tile {tile} is both {place} and {}",
-                        cell.meaning
-                    );
-                    *place = cell.meaning.clone();
-                }
+            let columns = cell.left / column..(cell.left + cell.width).div_ceil(column);
+            let top = cell.top - ground.top;
+            for row in &mut table[top / row..(top + cell.height).div_ceil(row)] {
+                columns.clone().for_each(|slot| mark(&mut row[tile * slots + slot], cell));
             }
         }
     }
@@ -121,14 +122,14 @@ fn by_the_document(book: &Book) -> Table {
         let is_downlink = book.kinds & 1 << (slot / slots % usize::from(book.tiles)) != 0;
         slot % slots < usize::from(if is_downlink { book.down } else { book.up })
     };
-    let ground =
-        (0..100 * slots).map(|slot| if is_control(slot) { "control" } else { "sleep" }.to_string());
+    let ground = (0..TILES * slots)
+        .map(|slot| if is_control(slot) { "control" } else { "sleep" }.to_string());
     let mut table = vec![ground.collect::<Vec<_>>(); book.links.len()];
     for (row, stream) in book.streams.iter().enumerate() {
         let (id, colour) = (stream.id, row % style::COLOURS);
         for (hop, &offset) in stream.offsets.iter().enumerate() {
             for slot in
-                (usize::from(offset)..100 * slots).step_by(usize::from(stream.period) * slots)
+                (usize::from(offset)..TILES * slots).step_by(usize::from(stream.period) * slots)
             {
                 table[usize::from(stream.nodes[hop])][slot] = format!("sends k{colour} {id}");
                 table[usize::from(stream.nodes[hop + 1])][slot] =

@@ -3,9 +3,9 @@
 use super::canvas::{pair, Canvas};
 use super::identity::{colour, is_second, journey, title};
 use super::layout::Point;
-use super::markup::{count, joined};
-use super::slots::latency;
+use super::markup::joined;
 use crate::book::{Book, Stream};
+use crate::text::count;
 
 /// The length of a link of length 1.
 const UNIT: f64 = 26.0;
@@ -56,9 +56,9 @@ fn card(canvas: &Canvas, ways: &[Stream], colour: &str) -> String {
          <use href=\"#{GROUND}\"/>{drawn}</svg></li>\n",
         first.id,
         journey(first),
-        joined(ways.iter().map(|way| count(way.offsets.len(), "hop")), " and "),
-        count(first.period.into(), "tile"),
-        joined(ways.iter().map(|way| count(latency(way), "slot")), " and "),
+        joined(ways.iter().map(|way| count(way.hops(), "hop")), " and "),
+        count(first.period, "tile"),
+        joined(ways.iter().map(|way| count(way.latency(), "slot")), " and "),
         canvas.frame(),
         joined(ways.iter().map(in_words), "; "),
     )

@@ -2,7 +2,6 @@
 
 use super::identity::{colour, name};
 use super::markup::{joined, scrolling, table};
-use super::slots::latency;
 use crate::book::{Book, Stream};
 
 /// Between two nodes of a route; a line may end behind the arrow, not before it.
@@ -32,6 +31,6 @@ fn line(stream: &Stream, colour: &str) -> String {
         stream.period,
         joined(&stream.nodes, ONWARD),
         joined(&stream.offsets, " "),
-        latency(stream)
+        stream.latency()
     )
 }

@@ -1,23 +1,18 @@
 //! The book in a few figures: its size and its tile plan.
 
-use super::layout::each_link;
-use super::markup::{count, joined};
-use super::slots::{control_slots, kind, CYCLE, MOST_HOPS, MOST_STREAMS};
-use crate::book::Book;
+use super::markup::joined;
+use crate::book::{Book, CYCLE, MOST_HOPS, MOST_STREAMS};
+use crate::text::count;
 
 /// What the book holds, and its tile plan.
 pub fn summary(book: &Book) -> String {
-    let hops = book.streams.iter().map(|stream| stream.offsets.len()).sum::<usize>();
-    let size = format!(
-        "{}, {}",
-        count(book.links.len(), "node"),
-        count(each_link(&book.links).len(), "link")
-    );
+    let size =
+        format!("{}, {}", count(book.links.len(), "node"), count(book.pairs().len(), "link"));
     let sold = format!("{} of at most {MOST_STREAMS}", book.streams.len());
-    let used = format!("{hops} of at most {MOST_HOPS}");
+    let used = format!("{} of at most {MOST_HOPS}", book.hops());
     let tiles = u16::from(book.tiles);
-    let cycle = format!("{CYCLE} tiles of {}", count(book.slots.into(), "slot"));
-    let kinds = (0..tiles).map(|tile| kind(book, tile)).collect::<Vec<_>>();
+    let cycle = format!("{CYCLE} tiles of {}", count(book.slots, "slot"));
+    let kinds = (0..tiles).map(|tile| book.kind(tile)).collect::<Vec<_>>();
     let run = |run: &[&str]| {
         if run.len() == 1 {
             run[0].to_string()
@@ -39,9 +34,8 @@ pub fn summary(book: &Book) -> String {
 
 /// The control slots of each kind of tile that the plan has.
 fn control(book: &Book) -> String {
-    let of_kind =
-        |wanted: &str| (0..u16::from(book.tiles)).find(|&tile| kind(book, tile) == wanted);
-    let words = |tile| format!("{} {}", kind(book, tile), control_slots(book, tile));
+    let of_kind = |wanted: &str| (0..u16::from(book.tiles)).find(|&tile| book.kind(tile) == wanted);
+    let words = |tile| format!("{} {}", book.kind(tile), book.control(tile));
     let both = joined(["downlink", "uplink"].into_iter().filter_map(of_kind).map(words), ", ");
     format!("<div><dt>Control slots of a tile</dt><dd>{both}</dd></div>\n")
 }

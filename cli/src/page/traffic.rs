@@ -1,10 +1,10 @@
 //! Which streams go over which link, in which direction.
 
+use super::hops::hops;
 use super::identity::{is_second, name};
-use super::layout::each_link;
-use super::markup::{count, joined};
-use super::slots::{hops, repeats};
+use super::markup::joined;
 use crate::book::{Book, Stream};
+use crate::text::count;
 use std::collections::BTreeMap;
 
 /// For each direction of a link that is in use: the rows of the book whose routes go there.
@@ -22,7 +22,7 @@ pub fn traffic(book: &Book) -> Traffic {
 
 /// The slots of a cycle that these rows take on one link.
 pub fn slots_in_use(book: &Book, rows: &[usize]) -> usize {
-    rows.iter().map(|&row| repeats(&book.streams[row])).sum()
+    rows.iter().map(|&row| usize::from(book.streams[row].repeats())).sum()
 }
 
 /// The names of these rows' streams, ids that follow each other as a range.
@@ -46,7 +46,7 @@ pub fn listing(book: &Book, traffic: &Traffic) -> String {
     let is_idle = |&&(a, b): &&(usize, usize)| {
         !traffic.contains_key(&(a, b)) && !traffic.contains_key(&(b, a))
     };
-    let links = each_link(&book.links);
+    let links = book.pairs();
     let idle = links.iter().filter(is_idle).map(|(a, b)| format!("{a}–{b}")).collect::<Vec<_>>();
     let list = if used.is_empty() {
         String::new()

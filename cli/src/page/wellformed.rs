@@ -38,7 +38,7 @@ pub fn tags(page: &str) -> Vec<Tag> {
         tags.push(tag(inside, text));
         let is_style = tags.last().is_some_and(|tag: &Tag| tag.name == "style" && !tag.closes);
         assert!(is_style || !text.contains('>'), "a bare > in {text:?}");
-        text.split('&').skip(1).for_each(|entity| assert_entity(entity));
+        text.split('&').skip(1).for_each(assert_entity);
     }
     tags
 }

@@ -2,9 +2,9 @@
 
 use super::sketch::{part_name, Sketch, HEAD, ROW};
 use crate::book::Stream;
+use crate::page::hops::{hops, slot_of, tile_of, Hop};
 use crate::page::identity::{colour, name, title};
 use crate::page::markup::{joined, length};
-use crate::page::slots::{control_slots, hops, is_downlink, kind, slot_of, tile_of, Hop};
 use std::collections::BTreeSet;
 
 /// The base line of a text within its row, and of the numbers above the rows.
@@ -42,17 +42,17 @@ impl Sketch<'_> {
     /// The ground of a tile of one kind, if the plan has it: control first, then sleep.
     fn ground(&self, downlink: bool) -> String {
         let mut plan = 0..u16::from(self.book.tiles);
-        let Some(tile) = plan.find(|&tile| is_downlink(self.book, tile) == downlink) else {
+        let Some(tile) = plan.find(|&tile| self.book.is_down(tile) == downlink) else {
             return String::new();
         };
         let rows = self.height - HEAD;
-        let control = usize::from(control_slots(self.book, tile)) * self.column;
+        let control = usize::from(self.book.control(tile)) * self.column;
         format!(
             "<g id=\"{}\"><g class=\"sleep\">\
              <rect y=\"{HEAD}\" width=\"{}\" height=\"{rows}\"/></g>\
              <g class=\"control\"><rect y=\"{HEAD}\" width=\"{control}\" height=\"{rows}\"/></g>\
              <path class=\"rules\" d=\"{}\"/><g class=\"slot-numbers\">{}</g></g>\n",
-            kind(self.book, tile),
+            self.book.kind(tile),
             self.width,
             self.rules(),
             self.slot_numbers(),

@@ -1,8 +1,8 @@
 //! The tiles of the grid, each put together from parts that are drawn once.
 
 use crate::book::{Book, Stream};
+use crate::page::hops::tile_of;
 use crate::page::identity::name;
-use crate::page::slots::{is_downlink, kind, tile_of};
 use crate::page::traffic::names;
 
 /// The height of a row.
@@ -70,10 +70,10 @@ impl<'a> Sketch<'a> {
              <text y=\"{SECOND_LINE}\">{} {first}–{last}</text>\
              <use href=\"#{kind}\"/><use href=\"#nodes\" class=\"own\"/>{}</svg>\n",
             self.height,
-            if is_downlink(self.book, tile) { "down" } else { "up" },
+            if self.book.is_down(tile) { "down" } else { "up" },
             rows.iter().map(part).collect::<String>(),
             width = self.width.max(NARROWEST),
-            kind = kind(self.book, tile),
+            kind = self.book.kind(tile),
         )
     }
 

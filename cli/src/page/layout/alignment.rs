@@ -1,7 +1,7 @@
 //! Turning a picture so that links lie level or upright, and nodes come in the order of numbers.
 
-use super::each_link;
 use super::plane::Point;
+use crate::book::pairs;
 
 /// The least agreement of the links on a cross of directions for which a picture is turned.
 const AGREEMENT: f64 = 0.2;
@@ -12,7 +12,7 @@ const ROW_BEFORE_COLUMN: f64 = 8.0;
 
 /// The places turned so that as many links as can be lie along the page's sides.
 pub fn along_the_axes(places: Vec<Point>, rows: &[u64]) -> Vec<Point> {
-    let links = each_link(rows);
+    let links = pairs(rows);
     let cross = links.iter().fold(Point::ORIGIN, |sum, &(a, b)| {
         let way = places[b].less(places[a]).unit();
         let doubled = way.turned(way);

@@ -1,7 +1,7 @@
 //! Nodes that nearly stand in rows and columns are put into them.
 
-use super::each_link;
 use super::plane::Point;
+use crate::book::pairs;
 
 /// The furthest that a node is moved to its row or column.
 const FURTHEST: f64 = 0.4;
@@ -12,7 +12,7 @@ const TRIES: usize = 20;
 
 /// The places in rows and columns, if every node is near one and no link would run through a node.
 pub fn snapped(places: &[Point], rows: &[u64]) -> Option<Vec<Point>> {
-    let links = each_link(rows);
+    let links = pairs(rows);
     let unit = straight_length(places, &links);
     let columns = rounded(places.iter().map(|p| p.x / unit).collect())?;
     let lines = rounded(places.iter().map(|p| p.y / unit).collect())?;

@@ -1,7 +1,7 @@
 //! Nodes moved off each other and off links that are not theirs.
 
-use super::each_link;
 use super::plane::Point;
+use crate::book::pairs;
 
 /// Rounds in which nodes give way.
 const ROUNDS: usize = 80;
@@ -16,7 +16,7 @@ const DENSE: usize = 4;
 
 /// The places after every node has given way to what is too near.
 pub fn apart(mut places: Vec<Point>, rows: &[u64]) -> Vec<Point> {
-    let links = each_link(rows);
+    let links = pairs(rows);
     let avoided = if links.len() > DENSE * rows.len() { &[] } else { &links[..] };
     for round in 0..ROUNDS {
         for node in 0..places.len() {
