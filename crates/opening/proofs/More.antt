@@ -81,7 +81,8 @@ module _ (s : List ℕ) (at : ℕ) (r : Row) (h : NewestImage s) (v : Vacant s (
         omega
         (arith, ap length parts, length-append (headed s at n k ++ encodeRow newest r) (drop at s), length-append (headed s at n k) (encodeRow newest r), long, size, length-drop at s, v .inside)
 
-    written : (d o₁ o₂ o₃ tail : List ℕ) (e : ℕ) → o₁ ≡ over d 0 (headed s at n k) → o₂ ≡ over o₁ at (encodeRow newest r) → e ≡ at + (rowLength newest + 3 * hops r) → tail ≡ drop at s → o₃ ≡ over o₂ e tail
+    written : (d o₁ o₂ o₃ tail : List ℕ) (e : ℕ) → o₁ ≡ over d 0 (headed s at n k) → o₂ ≡ over o₁ at (encodeRow newest r) → e ≡ at + (rowLength newest + 3 * hops r)
+        → tail ≡ drop at s → o₃ ≡ over o₂ e tail
         → o₃ ≡ encode newest more ++ drop (length (encode newest more)) d
     written d o₁ o₂ o₃ tail e p q z t u =
         let a = then d o₁ o₂ (headed s at n k) (encodeRow newest r) 0 at (omega arith) p (omega (arith, long)) q in

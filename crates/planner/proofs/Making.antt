@@ -59,7 +59,8 @@ module _ (plan : Plan) (N : ℕ) (links : List ℕ) where
       new-short out l a b =
           new-of out (reply-next (λ g. g fits) (reply-next (λ g. g (record { links-whole = long; sound = heard-links _ sound })) (reply-refused (omega (arith, size)) (λ z. omega arith) a b)))
 
-      pub new-done : (out : List ℕ) {number len : ℕ} {out′ : List ℕ} → headerLength + length links ≤ length out → number ≡ 0 → len ≡ headerLength + length links → out′ ≡ over out 0 (encodeHeader newest plan N 0 0 ++ links) → New plan N links out number len out′
+      pub new-done : (out : List ℕ) {number len : ℕ} {out′ : List ℕ} → headerLength + length links ≤ length out → number ≡ 0 → len ≡ headerLength + length links
+          → out′ ≡ over out 0 (encodeHeader newest plan N 0 0 ++ links) → New plan N links out number len out′
       new-done out l a b w =
           new-of out
           (reply-next (λ g. g fits) (reply-next (λ g. g (record { links-whole = long; sound = heard-links _ sound })) (reply-next (λ k. omega (arith, k, size))

@@ -64,7 +64,8 @@ module _ (b : Book) (xs ys : List Row) (split : b .rows ≡ xs ++ ys) where
         ∙ ap (λ (l : List ℕ). encodeHeader newest (b .site .plan) (nodes (b .site .links)) (length (xs ++ (r ∷ ys))) (hopsInAll (xs ++ (r ∷ ys))) ++ l) t
 
 -- a row less: the first of those that stand from the place on
-pub row-less : (b : Book) (xs ys : List Row) (r : Row) (split : b .rows ≡ xs ++ (r ∷ ys)) (at next n h : ℕ) → at ≤ length (encode newest b) → drop at (encode newest b) ≡ inTurn (encodeRow newest) (r ∷ ys)
+pub row-less : (b : Book) (xs ys : List Row) (r : Row) (split : b .rows ≡ xs ++ (r ∷ ys)) (at next n h : ℕ) → at ≤ length (encode newest b)
+    → drop at (encode newest b) ≡ inTurn (encodeRow newest) (r ∷ ys)
     → next ≡ at + length (encodeRow newest r) → n + 1 ≡ length (b .rows) → h + hops r ≡ hopsInAll (b .rows)
     → headed (encode newest b) at n h ++ drop next (encode newest b) ≡ encode newest (withRows b (xs ++ ys))
 row-less b xs ys r split at next n h inside behind e f g =

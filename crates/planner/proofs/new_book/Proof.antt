@@ -7,6 +7,8 @@ use borrow.Author.Tests.{not-true, not-false}
 use lib.ListN.{length, take}
 use lib.Seq.{length-take-le}
 use Rattle.rules.specs.Topology.{Topology, NodesInRange, SoundTopology}
+use Rattle.rules.specs.Tiles.{PlanInRange}
+use Rattle.rules.specs.Image.{topologyAt}
 use Rattle.rules.specs.Periods.{thePlan}
 use Rattle.rules.proofs.Tests.{fails}
 use Rattle.planner.proofs.Making.{new-range, new-topology, new-short, new-done, given-topology}
@@ -26,15 +28,27 @@ returns-2 c =
     new-range (thePlan (a .args .plan)) (a .args .nodes) (a .args .topology .now) _
     (λ f. fails (c .before .before .nodes-in-range .ensures) (not-true _ (c .before .if2 .taken)) (f .1)) (c .refused2 .ensures .0) (c .refused2 .ensures .1)
 
+-- the plan and the nodes are in their ranges
+fits : (c : tie.Else2) → let a = c .before .before .before .before .before .before .args in PlanInRange (thePlan (a .plan)) × NodesInRange (a .nodes)
+fits c = (
+  c .before .before .before .plan-in-range .ensures .yes (not-false _ (c .before .before .if1 .left)),
+  c .before .nodes-in-range .ensures .yes (not-false _ (c .if2 .left)),
+)
+
+-- the topology that was given is sound
+given-sound : (c : tie.Else4) →
+    let two = c .before .before .before .before .before in
+    let a = two .before .before .before .before .before .before .args in SoundTopology (topologyAt (a .topology .now) 0 (a .nodes))
+given-sound c =
+    subst SoundTopology (given-topology _ (c .before .before .before .sets .result) _ (c .before .before .before .sets .ensures))
+    (c .before .sound .ensures .yes (not-false _ (c .if4 .left)))
+
 returns-3 : tie.Need-returns-3
 returns-3 c =
-    let a = c .before .before .before .before .before .before .before .before in
-    new-topology (thePlan (a .args .plan)) (a .args .nodes) (a .args .topology .now) (
-      c .before .before .before .before .before .plan-in-range .ensures .yes
-          (not-false _ (c .before .before .before .before .if1 .left)),
-      c .before .before .before .nodes-in-range .ensures .yes (not-false _ (c .before .before .if2 .left)),
-    ) _
-    (λ f. c .before .if3 .taken (f .links-whole)) (c .refused3 .ensures .0) (c .refused3 .ensures .1)
+    let two = c .before .before in
+    let a = two .before .before .before .before .before .before in
+    new-topology (thePlan (a .args .plan)) (a .args .nodes) (a .args .topology .now) (fits two) _ (λ f. c .before .if3 .taken (f .links-whole))
+    (c .refused3 .ensures .0) (c .refused3 .ensures .1)
 
 sets-requires : tie.Need-sets-requires
 sets-requires c κs =
@@ -67,8 +81,9 @@ sound-requires c κs =
 
 returns-4 : tie.Need-returns-4
 returns-4 c =
-    let a = c .before .before .before .before .before .before .before .before .before .before .before .before in
-    new-topology (thePlan (a .args .plan)) (a .args .nodes) (a .args .topology .now) (c .before .before .before .before .before .before .before .before .before .plan-in-range .ensures .yes (not-false _ (c .before .before .before .before .before .before .before .before .if1 .left)), c .before .before .before .before .before .before .before .nodes-in-range .ensures .yes (not-false _ (c .before .before .before .before .before .before .if2 .left))) _
+    let two = c .before .before .before .before .before .before in
+    let a = two .before .before .before .before .before .before in
+    new-topology (thePlan (a .args .plan)) (a .args .nodes) (a .args .topology .now) (fits two) _
     (λ f. fails (c .before .before .sound .ensures) (not-true _ (c .before .if4 .taken))
     (subst SoundTopology (sym (given-topology (a .args .topology .now) (c .before .before .before .before .sets .result) (a .args .nodes)
     (c .before .before .before .before .sets .ensures))) (f .sound .links-sound)))
@@ -76,8 +91,11 @@ returns-4 c =
 
 returns-5 : tie.Need-returns-5
 returns-5 c =
-    let a = c .before .before .before .before .before .before .before .before .before .before .before .before .before in
-    new-short (thePlan (a .args .plan)) (a .args .nodes) (a .args .topology .now) (c .before .before .before .before .before .before .before .before .before .before .plan-in-range .ensures .yes (not-false _ (c .before .before .before .before .before .before .before .before .before .if1 .left)), c .before .before .before .before .before .before .before .before .nodes-in-range .ensures .yes (not-false _ (c .before .before .before .before .before .before .before .if2 .left))) (c .before .before .before .before .before .before .if3 .left) (subst SoundTopology (given-topology (a .args .topology .now) (c .before .before .before .before .before .sets .result) (a .args .nodes) (c .before .before .before .before .before .sets .ensures)) (c .before .before .before .sound .ensures .yes (not-false _ (c .before .before .if4 .left)))) (λ i. c .before .before .before .before .before .before .before .before .before .before .before .before .shared-slice-known .given i .fits) _ (c .before .if5 .taken) (c .refused5 .ensures .0) (c .refused5 .ensures .1)
+    let four = c .before .before in
+    let two = four .before .before .before .before .before in
+    let a = two .before .before .before .before .before .before in
+    new-short (thePlan (a .args .plan)) (a .args .nodes) (a .args .topology .now) (fits two) (four .before .before .before .before .if3 .left) (given-sound four)
+    (λ i. two .before .before .before .before .before .shared-slice-known .given i .fits) _ (c .before .if5 .taken) (c .refused5 .ensures .0) (c .refused5 .ensures .1)
 
 put-new-requires : tie.Need-put-new-requires
 put-new-requires c κs = (
@@ -88,8 +106,13 @@ put-new-requires c κs = (
 
 returns-6 : tie.Need-returns-6
 returns-6 c =
-    let a = c .before .before .before .before .before .before .before .before .before .before .before .before .before .before .before .before .before in
-    new-done (thePlan (a .args .plan)) (a .args .nodes) (a .args .topology .now) (c .before .before .before .before .before .before .before .before .before .before .before .before .before .before .plan-in-range .ensures .yes (not-false _ (c .before .before .before .before .before .before .before .before .before .before .before .before .before .if1 .left)), c .before .before .before .before .before .before .before .before .before .before .before .before .nodes-in-range .ensures .yes (not-false _ (c .before .before .before .before .before .before .before .before .before .before .before .if2 .left))) (c .before .before .before .before .before .before .before .before .before .before .if3 .left) (subst SoundTopology (given-topology (a .args .topology .now) (c .before .before .before .before .before .before .before .before .before .sets .result) (a .args .nodes) (c .before .before .before .before .before .before .before .before .before .sets .ensures)) (c .before .before .before .before .before .before .before .sound .ensures .yes (not-false _ (c .before .before .before .before .before .before .if4 .left)))) (λ i. c .before .before .before .before .before .before .before .before .before .before .before .before .before .before .before .before .shared-slice-known .given i .fits) _ (c .before .before .before .before .before .if5 .left) (c .done .ensures .0) (c .done .ensures .1) (c .before .before .before .put-new .ensures)
+    let five = c .before .before .before .before .before in
+    let four = five .before in
+    let two = four .before .before .before .before .before in
+    let a = two .before .before .before .before .before .before in
+    new-done (thePlan (a .args .plan)) (a .args .nodes) (a .args .topology .now) (fits two) (four .before .before .before .before .if3 .left) (given-sound four)
+    (λ i. two .before .before .before .before .before .shared-slice-known .given i .fits) _ (five .if5 .left) (c .done .ensures .0) (c .done .ensures .1)
+    (c .before .before .before .put-new .ensures)
 
 pub new-book-spec : {M : Type 1} → statement M
 new-book-spec =
