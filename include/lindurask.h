@@ -49,11 +49,11 @@
  *
  * - A pointer is to as many bytes as the length beside it says, and not null, also where that
  *   length is 0.
- * - The input, out, *length and the counts of a balance lie apart: none of them overlaps another.
+ * - The input, out, *length, *more and the counts of a balance lie apart: none of them overlaps another.
  *   To make the new image the current one, swap the two buffers.
  * - No image is longer than LINDURASK_LONGEST_IMAGE bytes; an output buffer of that size is never
  *   too short for a book. A table takes 300 x S bytes, S the slots of a tile: at most
- *   LINDURASK_LONGEST_TABLE.
+ *   LINDURASK_LONGEST_TABLE. A list of routes takes at most LINDURASK_LONGEST_LIST.
  * - A call takes up to 60 KB of stack, and nothing from the heap.
  *
  * Every image is otherwise safe to pass: damaged bytes are refused by number.
@@ -73,6 +73,9 @@ extern "C" {
 
 /* The longest table, in bytes: 100 tiles of 32 slots, 3 bytes an entry. */
 #define LINDURASK_LONGEST_TABLE 9600
+
+/* The longest list of routes, in bytes: 32 routes of a hop byte and 7 nodes. */
+#define LINDURASK_LONGEST_LIST 256
 
 /*
  * Makes a book without streams, and writes its image of 16 + 8 x n bytes. Refusals: 10, 11, 12.
@@ -120,6 +123,15 @@ uint8_t lindurask_expand(const uint8_t *book, size_t book_len, uint8_t node, uin
  * of an image, then 4.
  */
 uint8_t lindurask_balance(const uint8_t *book, size_t book_len, uint8_t node, uint32_t *data, uint32_t *used, uint32_t *free_slots);
+
+/*
+ * Lists every route of at most 6 hops from the source to the destination, each once, in order of node
+ * lists: for each a byte with its hops, and then its nodes, a byte each. The list stops after 32, with
+ * *more set to 1 if there are others, and otherwise to 0. No routes is 0 with *length 0. A refusal sets
+ * *more to 0. Refusals: those of an image, then 4, 5, 12.
+ */
+uint8_t lindurask_routes(const uint8_t *book, size_t book_len, uint8_t source, uint8_t destination,
+                         uint8_t *out, size_t out_len, size_t *length, uint8_t *more);
 
 #ifdef __cplusplus
 }

@@ -13,6 +13,9 @@ pub const MAX_HOPS: usize = 512;
 /// The most hops in a route.
 pub const MAX_ROUTE_HOPS: usize = 15;
 
+/// The most hops in a listed route.
+pub const MAX_SHORT_HOPS: usize = 6;
+
 #[derive(Clone, Debug, PartialEq, Eq)]
 pub struct Book {
     pub plan: Plan,

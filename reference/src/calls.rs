@@ -1,4 +1,4 @@
-//! The seven calls, on bytes.
+//! The eight calls, on bytes.
 //!
 //! Each gives back a number and a length. A refusal gives length 0 and leaves
 //! the output buffer as it was; success writes only the answer's own bytes.
@@ -8,10 +8,13 @@ use crate::image;
 use crate::placing::first_placing;
 use crate::plan::{Plan, period_of};
 use crate::refusal::{DONE, Refusal, refuse_if};
-use crate::route::planners_route;
+use crate::route::{planners_route, short_routes};
 use crate::stream::Stream;
 use crate::table;
 use crate::topology::{NODES, Topology};
+
+/// The most routes listed.
+pub const MAX_LISTED: usize = 32;
 
 /// Makes an empty book.
 #[allow(clippy::too_many_arguments)]
@@ -72,6 +75,16 @@ pub fn balance(book: &[u8], node: u8) -> (u8, u32, u32, u32) {
     }
 }
 
+/// Lists the routes of at most 6 hops: number, length, and whether more exist
+/// than are listed.
+pub fn routes(book: &[u8], source: u8, destination: u8, out: &mut [u8]) -> (u8, usize, bool) {
+    let found = routes_found(book, source, destination);
+    let more = found.as_ref().is_ok_and(|routes| routes.len() > MAX_LISTED);
+    let listed = |routes: Vec<Vec<u8>>| routes.into_iter().take(MAX_LISTED).flat_map(listed_route);
+    let (number, length) = deliver(found.map(|routes| listed(routes).collect()), out);
+    (number, length, more && number == DONE)
+}
+
 /// Puts an answer's bytes into the output buffer, if they fit.
 fn deliver(answer: Result<Vec<u8>, Refusal>, out: &mut [u8]) -> (u8, usize) {
     match answer {
@@ -129,4 +142,17 @@ fn read_with_node(book: &[u8], node: u8) -> Result<Book, Refusal> {
     let book = image::read(book)?;
     refuse_if(node >= book.topology.nodes(), Refusal::NoSuchNode)?;
     Ok(book)
+}
+
+/// The routes to list, and one more if there are more.
+fn routes_found(book: &[u8], source: u8, destination: u8) -> Result<Vec<Vec<u8>>, Refusal> {
+    let book = read_with_node(book, source.max(destination))?;
+    refuse_if(source == destination, Refusal::SourceIsDestination)?;
+    Ok(short_routes(&book.topology, source, destination, MAX_LISTED + 1))
+}
+
+/// A route as a hop byte and the nodes.
+fn listed_route(route: Vec<u8>) -> Vec<u8> {
+    let hops = (route.len() - 1) as u8;
+    [vec![hops], route].concat()
 }

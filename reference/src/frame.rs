@@ -9,10 +9,10 @@
 //! | Bytes | Field                                                          |
 //! |-------|----------------------------------------------------------------|
 //! | 0     | call: 0 new, 1 check, 2 rewrite, 3 open, 4 close, 5 expand,    |
-//! |       | 6 balance, 255 end                                             |
+//! |       | 6 balance, 7 routes, 255 end                                   |
 //! | 1–2   | id (open, close)                                               |
-//! | 3     | source (open) or node (expand, balance)                        |
-//! | 4     | destination (open)                                             |
+//! | 3     | source (open, routes) or node (expand, balance)                |
+//! | 4     | destination (open, routes)                                     |
 //! | 5–6   | period (open)                                                  |
 //! | 7, 8  | S, C (new)                                                     |
 //! | 9–10  | tile kinds (new)                                               |
@@ -32,7 +32,8 @@
 //! |-------|----------------------------------------------------------------|
 //! | 0     | number                                                         |
 //! | 1–4   | length, or data (balance)                                      |
-//! | 5–8   | used (balance), otherwise 0                                    |
+//! | 5–8   | used (balance), 1 if more routes exist than are listed         |
+//! |       | (routes), otherwise 0                                          |
 //! | 9–12  | free (balance), otherwise 0                                    |
 //! | then  | as many bytes as the request's output buffer has               |
 //!
@@ -53,7 +54,7 @@ pub const ANSWER_HEADER: usize = 13;
 /// The call number that ends the stream.
 const END: u8 = 255;
 
-/// The seven calls; the value is the call number.
+/// The calls; the value is the call number.
 #[derive(Clone, Copy, Debug, PartialEq, Eq)]
 #[repr(u8)]
 pub enum Call {
@@ -64,10 +65,11 @@ pub enum Call {
     Close = 4,
     Expand = 5,
     Balance = 6,
+    Routes = 7,
 }
 
 impl Call {
-    pub const ALL: [Call; 7] = [
+    pub const ALL: [Call; 8] = [
         Call::New,
         Call::Check,
         Call::Rewrite,
@@ -75,6 +77,7 @@ impl Call {
         Call::Close,
         Call::Expand,
         Call::Balance,
+        Call::Routes,
     ];
 
     /// The call has an output buffer.
@@ -93,7 +96,7 @@ impl Call {
 pub struct Request {
     pub call: Call,
     pub id: u16,
-    /// The source of an open, the node of an expand or a balance.
+    /// The source of an open or a list, the node of an expand or a balance.
     pub node: u8,
     pub destination: u8,
     pub period: u16,
@@ -197,6 +200,10 @@ impl Request {
                 let (number, data, used, free) = calls::balance(book, self.node);
                 return (number, [data, used, free]);
             }
+            Call::Routes => {
+                let (number, length, more) = calls::routes(book, self.node, self.destination, out);
+                return (number, [length as u32, u32::from(more), 0]);
+            }
         };
         (number, [length as u32, 0, 0])
     }
@@ -213,7 +220,7 @@ pub fn write_end(output: &mut impl Write) -> io::Result<()> {
 #[derive(Clone, Debug, PartialEq, Eq)]
 pub struct Answer {
     pub number: u8,
-    /// The length and two zeros, or data, used and free.
+    /// The length, the mark that more exist and a zero, or data, used and free.
     pub counts: [u32; 3],
     pub out: Vec<u8>,
 }

@@ -6,8 +6,8 @@
 //! struct with a list of rows.
 //!
 //! One subject a file, in document 01's order:
-//! `plan`, `slots` (tiles, slots, periods); `topology`, `route`, `hop`,
-//! `placing` (routes and clashes); `stream`, `book`, `law`, `image` (the
+//! `plan`, `slots` (tiles, slots, periods); `topology`, `node_set`,
+//! `route`, `hop`, `placing` (routes and clashes); `stream`, `book`, `law`, `image` (the
 //! image); `refusal`, `calls` (what each call says back); `table`, `listing`
 //! (a node's table and balance). `frame` carries calls between programs.
 
@@ -18,6 +18,7 @@ pub mod hop;
 pub mod image;
 pub mod law;
 pub mod listing;
+pub mod node_set;
 pub mod placing;
 pub mod plan;
 pub mod refusal;

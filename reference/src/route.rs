@@ -1,12 +1,14 @@
-//! The planner's route: the shortest, and of several the one whose node list
-//! comes first lexicographically.
+//! Routes: the planner's, and the list of short ones.
 
-use crate::book::MAX_ROUTE_HOPS;
+use crate::book::{MAX_ROUTE_HOPS, MAX_SHORT_HOPS};
+use crate::node_set::NodeSet;
 use crate::refusal::{Refusal, refuse_if};
 use crate::topology::Topology;
 
-/// The planner's route from `source` to `destination`, two different nodes;
-/// refused if no route exists, or if all that exist have over 15 hops.
+/// The planner's route from `source` to `destination`, two different nodes:
+/// the shortest, and of several the one whose node list comes first
+/// lexicographically. Refused if no route exists, or if all that exist have
+/// over 15 hops.
 pub fn planners_route(
     topology: &Topology,
     source: u8,
@@ -49,4 +51,54 @@ fn distances(topology: &Topology, destination: u8) -> Vec<Option<usize>> {
         ring = next_ring;
     }
     found
+}
+
+/// The first `most` routes of at most 6 hops between two different nodes, in
+/// order of node lists.
+pub fn short_routes(topology: &Topology, source: u8, destination: u8, most: usize) -> Vec<Vec<u8>> {
+    Search { topology, destination }.routes(source, MAX_SHORT_HOPS, most)
+}
+
+/// A search for routes to one node.
+struct Search<'a> {
+    topology: &'a Topology,
+    destination: u8,
+}
+
+impl Search<'_> {
+    /// The first `most` routes of at most `hops` hops, in order of node lists.
+    fn routes(&self, source: u8, hops: usize, most: usize) -> Vec<Vec<u8>> {
+        let mut found = Vec::new();
+        self.go_on(&mut vec![source], hops, most, &mut found);
+        found
+    }
+
+    /// Adds every route that begins like this one, up to `most` of them.
+    fn go_on(&self, route: &mut Vec<u8>, hops: usize, most: usize, found: &mut Vec<Vec<u8>>) {
+        let node = route[route.len() - 1];
+        if node == self.destination {
+            found.push(route.clone());
+            return;
+        }
+        for next in self.topology.neighbours(node) {
+            // A step that leads nowhere is not taken, or the search never ended
+            // on a site where every two nodes are linked.
+            if found.len() < most && hops > 0 && self.leads_on(route, next, hops - 1) {
+                route.push(next);
+                self.go_on(route, hops - 1, most, found);
+                route.pop();
+            }
+        }
+    }
+
+    /// Some route begins like this one, goes on to `next` and then takes at
+    /// most `hops` hops.
+    fn leads_on(&self, route: &[u8], next: u8, hops: usize) -> bool {
+        let open = NodeSet::ALL.without(route);
+        let mut reached = NodeSet::EMPTY.with(next).common(open);
+        for _ in 0..hops {
+            reached = self.topology.with_neighbours(reached).common(open);
+        }
+        reached.contains(self.destination)
+    }
 }

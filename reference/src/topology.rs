@@ -1,5 +1,7 @@
 //! The topology: which nodes are linked.
 
+use crate::node_set::NodeSet;
+
 /// The fewest and the most nodes of a site.
 pub const NODES: std::ops::RangeInclusive<u8> = 2..=64;
 
@@ -36,6 +38,12 @@ impl Topology {
     /// The nodes linked to `node`, in rising order.
     pub fn neighbours(&self, node: u8) -> impl Iterator<Item = u8> + '_ {
         (0..self.nodes()).filter(move |&other| self.linked(node, other))
+    }
+
+    /// The set of these nodes and all their neighbours.
+    pub fn with_neighbours(&self, nodes: NodeSet) -> NodeSet {
+        let members = (0..self.nodes()).filter(|&node| nodes.contains(node));
+        NodeSet(members.fold(nodes.0, |all, node| all | self.rows[usize::from(node)]))
     }
 
     /// No bit from N up, no self-link, no one-way link.

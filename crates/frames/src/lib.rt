@@ -15,7 +15,7 @@ pub const HEAD: usize = 19;
 pub const REPLY: usize = 13;
 
 // The highest number of a call; any other ends the stream.
-const LAST_CALL: u8 = 6;
+const LAST_CALL: u8 = 7;
 
 // The longest book.
 const MOST_BYTES: usize = 4096;
@@ -23,7 +23,7 @@ const MOST_BYTES: usize = 4096;
 // The longest output buffer.
 const MOST_ROOM: usize = 16384;
 
-// What a call says back: its number, and a length and two zeros, or data, used and free slots.
+// What a call says back: its number, and a length and two zeros, a list's length and its mark, or data, used and free slots.
 pub struct Reply {
     pub number: u8,
     pub first: usize,
@@ -144,6 +144,19 @@ fn balance(frame: &[u8]) -> Reply
     }
 }
 
+// Lists the routes between two nodes.
+fn routes_between(frame: &[u8], out: &mut [u8]) -> Reply
+    requires { ⌜ 19 ≤ length (now frame) ⌝ }
+{
+    let list = planner::routes_between(&frame[HEAD..], Node(frame[3]), Node(frame[4]), out);
+    Reply {
+        number: list.number,
+        first: list.length,
+        second: list.more as usize,
+        third: 0,
+    }
+}
+
 // Makes the call.
 pub fn call(frame: &[u8], out: &mut [u8]) -> Reply
     requires { ⌜ 19 ≤ length (now frame) ⌝ }
@@ -156,6 +169,7 @@ pub fn call(frame: &[u8], out: &mut [u8]) -> Reply
         3 => open_stream(frame, out),
         4 => close_stream(frame, out),
         5 => expand(frame, out),
+        7 => routes_between(frame, out),
         _ => balance(frame),
     }
 }

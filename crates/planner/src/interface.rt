@@ -1,7 +1,8 @@
-// The C interface: the seven calls over bare numbers.
+// The C interface: the eight calls over bare numbers.
 ghost use mathlib.Core.Path.{_≡_};
 ghost use Rattle.rules.specs.Calls.{New, Check, Rewrite, Serve, Expand, Balance};
 ghost use Rattle.rules.specs.Calls.Request.{Open, Close};
+ghost use Rattle.planner.specs.Marks.{RoutesMarked};
 use rules::Asked;
 use rules::Node;
 use rules::Plan;
@@ -114,5 +115,23 @@ pub extern "C" fn lindurask_balance(
     *held = answer.data;
     *used = answer.used;
     *free = answer.free;
+    answer.number
+}
+
+// Lists the routes between two nodes; the mark is 1 if more exist, and otherwise 0.
+#[no_mangle]
+pub extern "C" fn lindurask_routes(
+    book: &[u8],
+    source: u8,
+    destination: u8,
+    out: &mut [u8],
+    length: &mut usize,
+    more: &mut u8,
+) -> u8
+    ensures { λ r. ⌜ RoutesMarked (now (book .entry)) source destination (now (out .entry)) r (now (length .exit)) (now (out .exit)) (now (more .exit)) ⌝ }
+{
+    let answer = crate::routes_between(book, Node(source), Node(destination), out);
+    *length = answer.length;
+    *more = answer.more as u8;
     answer.number
 }

@@ -1,10 +1,11 @@
 // The public calls: each takes a book as its stored image, and says back a number.
 ghost use mathlib.Core.Path.{_≡_};
 ghost use Rattle.rules.specs.Periods.{thePlan, theAsked};
-ghost use Rattle.rules.specs.Calls.{New, Check, Rewrite, Serve, Expand};
+ghost use Rattle.rules.specs.Calls.{New, Check, Rewrite, Serve, Expand, Routes};
 ghost use Rattle.rules.specs.Calls.Request.{Open, Close};
 ghost use Rattle.planner.specs.Balances.{BalanceSays};
 use answers::Answer;
+use choices::Choices;
 use image::Book;
 use rules::Asked;
 use rules::Node;
@@ -147,4 +148,16 @@ pub fn balance_of(image: &[u8], node: Node) -> Balance
         used: counts.used,
         free: counts.free,
     }
+}
+
+// Lists the routes of at most 6 hops between two nodes: writes the first 32, and says whether more exist.
+pub fn routes_between(image: &[u8], source: Node, destination: Node, out: &mut [u8]) -> Choices
+    ensures { λ r. ⌜ Routes (now (image .entry)) (source .0) (destination .0) (now (out .entry)) (r .number) (r .length) (now (out .exit)) (r .more) ⌝ }
+{
+    let mut index = [0u64; index::WORDS];
+    let number = lawful::verdict(image, &mut index);
+    if number != 0 {
+        return choices::refused(number);
+    }
+    choices::book::list_on(image, source, destination, out)
 }

@@ -5,6 +5,7 @@ ghost use lib.ListN.{length};
 ghost use Rattle.rules.specs.Words.{Tests};
 ghost use Rattle.printing.specs.Buffers.{Untouched};
 use answers::Answer;
+use choices::Choices;
 use libc::STDOUT_FILENO;
 use planner::Balance;
 
@@ -67,6 +68,18 @@ pub fn table(said: Answer, out: &[u8]) {
     io::write_all(STDOUT_FILENO, b"\n");
 }
 
+// Prints the answer of a list of routes, and 1 where more exist.
+pub fn routes(said: Choices, out: &[u8]) {
+    let plain = Answer {
+        number: said.number,
+        length: said.length,
+    };
+    said_line(plain, out);
+    next(said.more as u64);
+    listed(written(said.length, out));
+    io::write_all(STDOUT_FILENO, b"\n");
+}
+
 // Prints the number and the length, and whether a byte was changed that should not be.
 fn said_line(said: Answer, out: &[u8]) {
     io::print_decimal(STDOUT_FILENO, said.number as u64);
@@ -124,6 +137,20 @@ fn next_part(image: &[u8], at: usize) -> usize
         return at;
     }
     at + 5 + 3 * count(image[at + 3])
+}
+
+// Prints a list in hex, with a space before each route.
+fn listed(list: &[u8]) {
+    let mut route = 0;
+    let mut i = 0;
+    while i < list.len() {
+        if i == route {
+            io::write_all(STDOUT_FILENO, b" ");
+            route = i + 2 + count(list[i]);
+        }
+        io::print_hex(STDOUT_FILENO, wide(list[i]), 2);
+        i += 1;
+    }
 }
 
 // Prints a table's entries, ten tiles to a line and a bar between tiles.

@@ -35,7 +35,7 @@ enum Outcome {
 }
 
 // The nodes that are linked to a member of the set.
-fn neighbours(links: &[u64], set: u64) -> u64
+pub fn neighbours(links: &[u64], set: u64) -> u64
     requires { ⌜ ((a : ℕ) → Has set a → a < length (now links)) ⌝ }
     ensures { λ r. ⌜ SetOf (Neighbour (topology (now (links .entry))) set) r ⌝ }
 {

@@ -3,6 +3,7 @@ pub mod Lists
 pub mod Sets
 pub mod Middles
 pub mod Ways
+pub mod Listing
 pub mod Deciding
 pub mod Cases
 pub mod Says

@@ -7,13 +7,13 @@ use Rattle.rules.specs.Tiles.{Plan}
 use Rattle.rules.specs.Book.{Book}
 use Rattle.rules.specs.Placing.{Asked}
 use Rattle.rules.specs.Image.{imageRefusals}
-use Rattle.rules.specs.Calls.{newRefusals, checkRefusals, rewriteRefusals, openRefusals, closeRefusals, expandRefusals, balanceRefusals}
+use Rattle.rules.specs.Calls.{newRefusals, checkRefusals, rewriteRefusals, openRefusals, closeRefusals, expandRefusals, balanceRefusals, routesRefusals}
 
 abbrev numbers : List Refusal → List ℕ
 numbers [] = []
 numbers (r ∷ rs) = r .number ∷ numbers rs
 
--- image; then open, close, rewrite, expand, balance; new book
+-- image; then open, close, rewrite, expand, balance, routes between; new book
 pub record InOrder : Type 0 where
   pub image : (s : List ℕ) → numbers (imageRefusals s) ≡ 14 ∷ 13 ∷ 10 ∷ 14 ∷ 11 ∷ 15 ∷ 16 ∷ []
   pub opens : (middle : ℕ) (q : Asked) (room : ℕ) (b : Book) → numbers (openRefusals middle q room b) ≡ 1 ∷ 4 ∷ 5 ∷ 6 ∷ 2 ∷ 7 ∷ 17 ∷ 8 ∷ 9 ∷ 12 ∷ []
@@ -21,6 +21,7 @@ pub record InOrder : Type 0 where
   pub rewrites : (room v : ℕ) (b : Book) → numbers (rewriteRefusals room v b) ≡ 12 ∷ []
   pub expands : (node room v : ℕ) (b : Book) → numbers (expandRefusals node room v b) ≡ 4 ∷ 12 ∷ []
   pub balances : (node v : ℕ) (b : Book) → numbers (balanceRefusals node v b) ≡ 4 ∷ []
+  pub lists : (middle source destination room v : ℕ) (b : Book) → numbers (routesRefusals middle source destination room v b) ≡ 4 ∷ 5 ∷ 12 ∷ []
   pub news : (plan : Plan) (N : ℕ) (links : List ℕ) (room : ℕ) → numbers (newRefusals plan N links room) ≡ 10 ∷ 11 ∷ 12 ∷ []
   pub checks : (v : ℕ) (b : Book) → numbers (checkRefusals v b) ≡ []
 
@@ -32,6 +33,7 @@ in-order = record {
   rewrites = λ room v b. refl;
   expands = λ node room v b. refl;
   balances = λ node v b. refl;
+  lists = λ middle source destination room v b. refl;
   news = λ plan N links room. refl;
   checks = λ v b. refl;
 }

@@ -1,10 +1,11 @@
 -- Topologies, routes, clashes.
 use mathlib.Core.Path.{_≡_}
 use mathlib.Core.Logic.{_⊎_}
+use mathlib.Core.Bool.{Bool}
 use mathlib.Core.List.{List, [], _∷_}
 use Prim.Native.Nat.{ℕ, suc, _-_, _^_, _<_, _≤_}
 use lib.ListN.{length, getD, take, drop}
-use Rattle.rules.specs.Words.{Has, NoBitFrom, _∈_, Distinct, NoLater}
+use Rattle.rules.specs.Words.{Has, NoBitFrom, _∈_, Pairwise, Distinct, NoLater, Earlier, Tests}
 
 -- one row for each node, a set of nodes: its neighbours, or those that it hears
 pub record Topology : Type 0 where
@@ -102,6 +103,33 @@ NoRoute T middle source destination = (p : List ℕ) → PathBetween T middle so
 pub record TooFar (T : Topology) (middle source destination : ℕ) : Type 0 where
   pub some : (p : List ℕ) × PathBetween T middle source destination p
   pub over : (p : List ℕ) → PathBetween T middle source destination p → mostRouteHops < hopCount p
+
+-- ROUTES TO CHOOSE FROM
+
+-- a listed route has at most 6 hops
+abbrev pub mostShortHops : ℕ
+mostShortHops = 6
+
+-- the list stops after 32
+abbrev pub mostListed : ℕ
+mostListed = 32
+
+-- every list with P, each once, in order
+pub record Exactly (P : List ℕ → Type 0) (every : List (List ℕ)) : Type 0 where
+  pub rising : Pairwise Earlier every
+  pub only : (p : List ℕ) → p ∈ every → P p
+  pub all : (p : List ℕ) → P p → p ∈ every
+
+-- the first 32 of them, and the mark that more exist
+pub record FirstOf (P : List ℕ → Type 0) (routes : List (List ℕ)) (more : Bool) : Type 0 where
+  pub every : List (List ℕ)
+  pub exactly : Exactly P every
+  pub first : routes ≡ take mostListed every
+  pub more-is : Tests more (mostListed < length every)
+
+-- the list of the routes of at most 6 hops
+abbrev pub Listed : Topology → ℕ → ℕ → ℕ → List (List ℕ) → Bool → Type 0
+Listed T middle source destination = FirstOf (PathWithin mostShortHops T middle source destination)
 
 -- CLASHES, over the hearing
 

@@ -46,6 +46,12 @@ NoLater [] ys = Unit {0}
 NoLater (x ∷ xs) [] = ⊥
 NoLater (x ∷ xs) (y ∷ ys) = (x < y) ⊎ ((x ≡ y) × NoLater xs ys)
 
+-- xs comes before ys in the lexicographic order
+abbrev pub Earlier : List ℕ → List ℕ → Type 0
+Earlier xs [] = ⊥
+Earlier [] (y ∷ ys) = Unit {0}
+Earlier (x ∷ xs) (y ∷ ys) = (x < y) ⊎ ((x ≡ y) × Earlier xs ys)
+
 -- the sum of f over the list
 abbrev pub total : {A : Type 0} → (A → ℕ) → List A → ℕ
 total f [] = 0

@@ -17,6 +17,7 @@ pub enum Kind {
     Close,
     Expand,
     Balance,
+    Routes,
     Unknown,
 }
 
@@ -43,6 +44,9 @@ pub fn kind_of(word: &[u8]) -> Kind {
     if check::same(word, b"balance") {
         return Kind::Balance;
     }
+    if check::same(word, b"routes") {
+        return Kind::Routes;
+    }
     Kind::Unknown
 }
 
@@ -55,6 +59,7 @@ pub fn limits(kind: Kind) -> [u16; 7] {
         Kind::Close => [65535, 65535, 0, 0, 0, 0, 0],
         Kind::Expand => [255, 65535, 0, 0, 0, 0, 0],
         Kind::Balance => [255, 0, 0, 0, 0, 0, 0],
+        Kind::Routes => [255, 255, 65535, 0, 0, 0, 0],
         Kind::Check => [0; 7],
         Kind::Unknown => [0; 7],
     }
@@ -84,6 +89,7 @@ fn room(kind: Kind, values: [u16; 7]) -> u16 {
         Kind::Open => values[4],
         Kind::Close => values[1],
         Kind::Expand => values[1],
+        Kind::Routes => values[2],
         _ => 0,
     }
 }
@@ -147,6 +153,11 @@ fn answer_in(
     requires { ⌜ kept ≤ length (now last) ⌝ }
     ensures { λ r. ⌜ r ≤ length (now (last .exit)) ⌝ }
 {
+    if let Kind::Routes = kind {
+        let list = planner::routes_between(image, node(values[0]), node(values[1]), out);
+        printing::routes(list, out);
+        return kept;
+    }
     let said = call(kind, values, image, out);
     if let Kind::Expand = kind {
         printing::table(said, out);

@@ -7,6 +7,7 @@
 //     close ID ROOM HEX
 //     expand NODE ROOM HEX
 //     balance NODE HEX
+//     routes SOURCE DESTINATION ROOM HEX
 //
 // Numbers are decimal, and ROOM is the length of the buffer lent to the call. HEX is the image, or
 // the topology of a new book, in hex, with spaces between bytes as one likes; `-` is no bytes, and

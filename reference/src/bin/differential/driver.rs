@@ -2,7 +2,9 @@
 //! to the planner under test.
 
 use crate::dice::Dice;
+use crate::events::event;
 use crate::tally::Tally;
+use reference::calls::MAX_LISTED;
 use reference::frame::{Answer, Call, Request};
 use reference::image::LONGEST_IMAGE;
 use std::sync::mpsc::SyncSender;
@@ -19,6 +21,9 @@ pub const BATCH: usize = 512;
 
 /// Bytes of the longest table: 100 tiles of 32 slots, 3 bytes each.
 const LONGEST_TABLE: u16 = 9600;
+
+/// Bytes of the longest list of routes: a hop byte and 7 nodes each.
+const LONGEST_LIST: u16 = 8 * MAX_LISTED as u16;
 
 /// How long an output buffer to give.
 #[derive(Clone, Copy)]
@@ -57,6 +62,7 @@ impl Room {
             Room::Exact => length,
             Room::Spare(more) => length + more,
             Room::Full if call == Call::Expand => LONGEST_TABLE,
+            Room::Full if call == Call::Routes => LONGEST_LIST,
             Room::Full => LONGEST_IMAGE as u16,
             Room::Most => 16384,
         }
@@ -96,6 +102,9 @@ impl Driver {
         }
         let expected = request.answer();
         self.tally.add(self.family, request.call, expected.number);
+        if let Some(name) = event(&request, &expected) {
+            self.tally.add_event(name);
+        }
         let exchange = Exchange { family: self.family, request, expected: expected.clone() };
         self.batch.push(exchange);
         if self.batch.len() == BATCH {

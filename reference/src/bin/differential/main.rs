@@ -6,11 +6,12 @@
 //! `differential --self` puts them to the reference itself.
 //!
 //! It fails on the first differences, and where an answer number that the
-//! documents make possible for a call was never reached. `--cases` sets how many
+//! documents make possible for a call, or an event of `events`, was never reached. `--cases` sets how many
 //! calls are thrown beside the fixed ones.
 
 mod dice;
 mod driver;
+mod events;
 mod families;
 mod planner;
 mod requests;

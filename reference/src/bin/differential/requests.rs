@@ -45,9 +45,20 @@ pub fn balance(book: &[u8], node: u8) -> Request {
     Request { node, ..on(Call::Balance, book) }
 }
 
-/// The six calls on a book.
-pub const BOOK_CALLS: [Call; 6] =
-    [Call::Check, Call::Rewrite, Call::Open, Call::Close, Call::Expand, Call::Balance];
+pub fn routes(book: &[u8], source: u8, destination: u8) -> Request {
+    Request { node: source, destination, ..on(Call::Routes, book) }
+}
+
+/// The calls on a book.
+pub const BOOK_CALLS: [Call; 7] = [
+    Call::Check,
+    Call::Rewrite,
+    Call::Open,
+    Call::Close,
+    Call::Expand,
+    Call::Balance,
+    Call::Routes,
+];
 
 /// This call on a book that has, or claims, the N of its header; the other
 /// arguments are thrown.
@@ -61,15 +72,24 @@ pub fn any(dice: &mut Dice, call: Call, book: &[u8], ids: &[u16]) -> Request {
         Call::Close => close(book, any_id(dice, ids, 80)),
         Call::Expand => expand(book, any_node(dice, nodes)),
         Call::Balance => balance(book, any_node(dice, nodes)),
+        Call::Routes => {
+            let (source, destination) = any_ends(dice, nodes);
+            routes(book, source, destination)
+        }
     }
 }
 
 fn any_open(dice: &mut Dice, book: &[u8], nodes: u8, ids: &[u16]) -> Request {
     let id = any_id(dice, ids, 6);
+    let (source, destination) = any_ends(dice, nodes);
+    open(book, id, source, destination, any_period(dice))
+}
+
+/// A source and a destination, now and then the same node.
+fn any_ends(dice: &mut Dice, nodes: u8) -> (u8, u8) {
     let source = any_node(dice, nodes);
     let same = dice.chance(3);
-    let destination = if same { source } else { any_node(dice, nodes) };
-    open(book, id, source, destination, any_period(dice))
+    (source, if same { source } else { any_node(dice, nodes) })
 }
 
 /// Mostly one of the seven.

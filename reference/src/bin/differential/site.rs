@@ -50,12 +50,17 @@ pub fn line(nodes: usize) -> Topology {
     of_links(nodes, (1..nodes).map(|node| (node - 1, node)))
 }
 
-fn ring(nodes: usize) -> Topology {
+pub fn ring(nodes: usize) -> Topology {
     of_links(nodes, (1..nodes).map(|node| (node - 1, node)).chain([(nodes - 1, 0)]))
 }
 
 fn star(nodes: usize) -> Topology {
     of_links(nodes, (1..nodes).map(|node| (0, node)))
+}
+
+/// Nodes 0 and 1, and so many nodes between them, each linked to both.
+pub fn fan(middles: usize) -> Topology {
+    of_links(middles + 2, (2..middles + 2).flat_map(|middle| [(0, middle), (middle, 1)]))
 }
 
 /// Every two nodes are linked.

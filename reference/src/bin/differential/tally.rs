@@ -1,6 +1,8 @@
 //! How often each answer number of each call was reached.
 
+use crate::events::EVENTS;
 use reference::frame::Call;
+use std::collections::BTreeMap;
 use std::fmt::Write;
 
 /// The highest answer number.
@@ -8,7 +10,8 @@ const HIGHEST: usize = 17;
 
 #[derive(Default)]
 pub struct Tally {
-    counts: [[u64; HIGHEST + 1]; 7],
+    counts: [[u64; HIGHEST + 1]; Call::ALL.len()],
+    events: BTreeMap<&'static str, u64>,
     /// Calls of each family, in order of appearance.
     families: Vec<(&'static str, u64)>,
 }
@@ -23,6 +26,7 @@ fn possible(call: Call) -> &'static [u8] {
         Call::Close => &[0, 1, 3, 10, 11, 12, 13, 14, 15, 16],
         Call::Expand => &[0, 4, 10, 11, 12, 13, 14, 15, 16],
         Call::Balance => &[0, 4, 10, 11, 13, 14, 15, 16],
+        Call::Routes => &[0, 4, 5, 10, 11, 12, 13, 14, 15, 16],
     }
 }
 
@@ -35,15 +39,20 @@ impl Tally {
         }
     }
 
+    pub fn add_event(&mut self, name: &'static str) {
+        *self.events.entry(name).or_default() += 1;
+    }
+
     /// All calls so far.
     pub fn total(&self) -> u64 {
         self.counts.iter().flatten().sum()
     }
 
     /// The pairs that were not reached and are possible, or were reached and
-    /// are not.
+    /// are not, and the events that were not reached.
     pub fn faults(&self) -> Vec<String> {
-        let mut faults = Vec::new();
+        let missed = EVENTS.into_iter().filter(|name| !self.events.contains_key(name));
+        let mut faults: Vec<String> = missed.map(|name| format!("never: {name}")).collect();
         for call in Call::ALL {
             for number in 0..=HIGHEST as u8 {
                 let reached = self.count(call, number) > 0;
@@ -77,10 +86,11 @@ impl Tally {
         text
     }
 
-    /// One line for each family.
+    /// One line for each family, and one for each event.
     pub fn families(&self) -> String {
-        let line = |(name, calls): &(&str, u64)| format!("{calls:>8} {name}\n");
-        self.families.iter().map(line).collect()
+        let line = |(name, calls): (&str, u64)| format!("{calls:>8} {name}\n");
+        let events = EVENTS.map(|name| (name, self.events.get(name).copied().unwrap_or(0)));
+        self.families.iter().copied().chain(events).map(line).collect()
     }
 
     fn count(&self, call: Call, number: u8) -> u64 {

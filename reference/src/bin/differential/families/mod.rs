@@ -8,6 +8,7 @@ mod limits;
 mod near_misses;
 mod noise;
 mod pairs;
+mod route_lists;
 mod sequences;
 mod unusual;
 
@@ -37,6 +38,8 @@ pub fn fixed(driver: &mut Driver, dice: &mut Dice) {
     limits::ask(driver, dice);
     driver.family("every two hops and every two periods");
     pairs::ask(driver, dice);
+    driver.family("lists of routes");
+    route_lists::ask(driver);
 }
 
 /// Asks a few calls of a family.

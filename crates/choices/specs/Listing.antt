@@ -1,0 +1,27 @@
+-- What the list says back, and what it writes.
+use mathlib.Core.Path.{_≡_}
+use mathlib.Core.Bool.{false}
+use mathlib.Core.List.{List, [], _∷_}
+use Prim.Native.Nat.{ℕ}
+use lib.ListN.{length}
+use Rattle.rules.specs.Says.{Refusal, _when_, Says}
+use Rattle.rules.specs.Topology.{Topology}
+use Rattle.rules.specs.Image.{versionOf, linksOf}
+use Rattle.rules.specs.Calls.{Unchanged, anyMiddle, ListTooLong, routesRefusals, ListWritten}
+use Rattle.rules.proofs.Reading.{bookIn}
+use Rattle.choices.specs.declared.Choices.{Choices}
+
+-- the refusals say the number; on 0 the list was written, and otherwise nothing
+pub record Lists (refusals : List Refusal) (T : Topology) (middle source destination : ℕ) (out : List ℕ) (r : Choices) (out′ : List ℕ) : Type 0 where
+  pub says : Says refusals (r .number)
+  pub refused : (r .number ≡ 0 → ⊥) → Unchanged out (r .length) out′ × (r .more ≡ false)
+  pub done : r .number ≡ 0 → ListWritten T middle source destination out (r .length) out′ (r .more)
+
+-- 12, or the list over the links
+abbrev pub ListSays : Topology → ℕ → ℕ → ℕ → List ℕ → Choices → List ℕ → Type 0
+ListSays T middle source destination out = Lists ((12 when ListTooLong T middle source destination (length out)) ∷ []) T middle source destination out
+
+-- 4, 5, 12, or the list over all nodes of the image's book
+abbrev pub BookSays : List ℕ → ℕ → ℕ → List ℕ → Choices → List ℕ → Type 0
+BookSays s source destination out =
+    Lists (routesRefusals (anyMiddle (bookIn s)) source destination (length out) (versionOf s) (bookIn s)) (linksOf s) (anyMiddle (bookIn s)) source destination out

@@ -1,0 +1,26 @@
+// The list for two nodes of a book.
+ghost use Rattle.rules.proofs.Reading.{LawfulImage};
+ghost use Rattle.choices.specs.Listing.{BookSays};
+use crate::Choices;
+use image::Book;
+use rules::Node;
+
+// Writes the list over all nodes of the book that the image holds.
+pub fn list_on(image: &[u8], source: Node, destination: Node, out: &mut [u8]) -> Choices
+    requires { ⌜ LawfulImage (now image) ⌝ }
+    ensures { λ r. ⌜ BookSays (now (image .entry)) (source .0) (destination .0) (now (out .entry)) r (now (out .exit)) ⌝ }
+{
+    let book = Book::read(image);
+    let n = book.nodes;
+    if n <= source.0 as usize {
+        return crate::refused(4);
+    }
+    if n <= destination.0 as usize {
+        return crate::refused(4);
+    }
+    if source.0 == destination.0 {
+        return crate::refused(5);
+    }
+    let links = image::sets(image, image::HEADER, n);
+    crate::list(&links[..n], bitset::ALL, source, destination, out)
+}
