@@ -26,7 +26,8 @@ use Rattle.opening.specs.Open.{PutsIn}
 rising-middle : (r : Row) (xs ys : List Row) → RisingByKey (xs ++ ys) → ((x : Row) → x ∈ xs → key x < key r) → ((x : Row) → x ∈ ys → key r < key x) → RisingByKey (xs ++ (r ∷ ys))
 rising-middle r [] ys up low high = (high, up)
 rising-middle r (x ∷ xs) ys up low high = (
-  λ y m. ⊎-elim (λ (k : y ∈ xs). up .0 y (in-earlier y xs ys k)) (λ (k : y ∈ (r ∷ ys)). ⊎-elim (λ (e : y ≡ r). subst (λ (v : Row). key x < key v) (sym e) (low x (inl refl))) (λ (k : y ∈ ys). up .0 y (in-later y xs ys k)) k)
+  λ y m. ⊎-elim (λ (k : y ∈ xs). up .0 y (in-earlier y xs ys k)) (λ (k : y ∈ (r ∷ ys)). ⊎-elim (λ (e : y ≡ r). subst (λ (v : Row). key x < key v) (sym e) (low x (inl refl)))
+      (λ (k : y ∈ ys). up .0 y (in-later y xs ys k)) k)
       (in-either y xs (r ∷ ys) m),
   rising-middle r xs ys (up .1) (λ y m. low y (inr m)) high,
 )
@@ -94,7 +95,8 @@ module _ (s : List ℕ) (at : ℕ) (r : Row) (h : NewestImage s) (v : Vacant s (
     in-refused out l a b = reply-refused (more, plus, omega (arith, length-more)) (λ z. omega arith) a b
 
     pub in-done : {number len : ℕ} (out o₁ o₂ o₃ tail : List ℕ) (e : ℕ) → length s + (rowLength newest + 3 * hops r) ≤ length out → number ≡ 0 → len ≡ length s + (rowLength newest + 3 * hops r)
-        → o₁ ≡ over out 0 (headed s at n k) → o₂ ≡ over o₁ at (encodeRow newest r) → e ≡ at + (rowLength newest + 3 * hops r) → tail ≡ drop at s → o₃ ≡ over o₂ e tail → PutsIn s (r ∷ []) out number len o₃
+        → o₁ ≡ over out 0 (headed s at n k) → o₂ ≡ over o₁ at (encodeRow newest r) → e ≡ at + (rowLength newest + 3 * hops r) → tail ≡ drop at s → o₃ ≡ over o₂ e tail
+        → PutsIn s (r ∷ []) out number len o₃
     in-done out o₁ o₂ o₃ tail e l a b p q z t u =
         reply-next (λ c. omega (arith, c .2, length-more, ap (λ (v : Book). length (encode newest v)) (only (c .0) (c .1))))
         (reply-done (encode newest more) (more, plus, refl) a (b ∙ length-more) (written out o₁ o₂ o₃ tail e p q z t u))

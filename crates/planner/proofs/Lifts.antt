@@ -13,7 +13,8 @@ use Rattle.rules.specs.Periods.{thePlan}
 use Rattle.rules.specs.Book.{Book}
 use Rattle.rules.specs.Image.{imageRefusals, encode, linksStart, versionOf, planOf, nodesOf, linksOf}
 use Rattle.rules.specs.Table.{tableLength, TableOf, BalanceOf}
-use Rattle.rules.specs.Calls.{SaysOf, CallOf, ReplyOf, rewriteRefusals, Request, anyMiddle, MadeImage, requestRefusals, expandRefusals, balanceRefusals, checkRefusals, Check, Rewrite, Serve, Expand, Balance}
+use Rattle.rules.specs.Calls.{SaysOf, CallOf, ReplyOf, rewriteRefusals, Request, anyMiddle, MadeImage, requestRefusals}
+use Rattle.rules.specs.Calls.{expandRefusals, balanceRefusals, checkRefusals, Check, Rewrite, Serve, Expand, Balance}
 use Rattle.rules.proofs.Written.{length-sets-at}
 use Rattle.rules.proofs.Reading.{bookIn, LawfulImage}
 use Rattle.image.specs.Header.{HeaderOf}

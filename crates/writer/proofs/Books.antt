@@ -52,7 +52,8 @@ module _ (b : Book) (xs ys : List Row) (split : b .rows ≡ xs ++ ys) where
         ap (λ (l : List ℕ). take 12 (encode newest b) ++ (n ∷ word h) ++ l) e
 
     -- a row more, in front of the rows that stand from the place on
-    pub row-more : (r : Row) → headed (encode newest b) at (length (b .rows) + 1) (hopsInAll (b .rows) + hops r) ++ encodeRow newest r ++ drop at (encode newest b) ≡ encode newest (withRows b (xs ++ (r ∷ ys)))
+    pub row-more : (r : Row) → headed (encode newest b) at (length (b .rows) + 1) (hopsInAll (b .rows) + hops r) ++ encodeRow newest r ++ drop at (encode newest b) ≡ encode newest
+        (withRows b (xs ++ (r ∷ ys)))
     row-more r =
         let n : length (b .rows) + 1 ≡ length (xs ++ (r ∷ ys)) = omega (arith, ap length split, length-append xs ys, length-append xs (r ∷ ys)) in
         let h : hopsInAll (b .rows) + hops r ≡ hopsInAll (xs ++ (r ∷ ys)) = omega (arith, ap hopsInAll split, total-append hops xs ys, total-append hops xs (r ∷ ys)) in

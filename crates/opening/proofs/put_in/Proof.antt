@@ -61,7 +61,11 @@ add-put-part c =
 
 put-part-requires : tie.Need-put-part-requires
 put-part-requires c κs =
-    let a = c .before .before .before .before .before .before .before .before .before .before .before .before .before .before .before .before .before .before in omega (arith, a .pre .0 .1 .inside, c .before .before .before .before .before .before .before .before .before .before .before .before .if1 .left, c .before .before .before .before .before .before .before .before .put-head .kept, c .before .before .before .before .put-row .kept, length-drop (a .args .at) (a .args .image .now))
+    let written = c .before .before .before .before in
+    let headed = written .before .before .before .before in
+    let fits = headed .before .before .before .before in
+    let a = fits .before .before .before .before .before .before in
+    omega (arith, a .pre .0 .1 .inside, fits .if1 .left, headed .put-head .kept, written .put-row .kept, length-drop (a .args .at) (a .args .image .now))
 
 returns-2 : tie.Need-returns-2
 returns-2 c =
