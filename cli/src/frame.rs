@@ -14,6 +14,8 @@ const BOOK_ROOM: u16 = 4096;
 pub const ENTRY: usize = 3;
 /// Room for the table of 32 slots in each of 100 tiles.
 const TABLE_ROOM: u16 = 9600;
+/// Room for 32 routes of a hop byte and 7 nodes.
+const LIST_ROOM: u16 = 256;
 
 /// The calls that are put, by their number.
 #[derive(Clone, Copy, PartialEq, Eq)]
@@ -25,6 +27,7 @@ enum Call {
     Close = 4,
     Expand = 5,
     Balance = 6,
+    Routes = 7,
     End = 255,
 }
 
@@ -59,7 +62,7 @@ pub struct Request {
 pub struct Answer {
     /// 0, or why it was refused.
     pub number: u8,
-    /// The length and two zeros, or data, used and free.
+    /// The length and two zeros, a list's length, 1 where more exist and a zero, or data, used and free.
     pub counts: [u32; 3],
     /// What was written.
     pub bytes: Vec<u8>,
@@ -116,6 +119,12 @@ pub fn balance(book: &[u8], node: u8) -> Request {
     request
 }
 
+pub fn routes(book: &[u8], source: u8, destination: u8) -> Request {
+    let mut request = blank(Call::Routes, book, LIST_ROOM);
+    request.bytes[3..5].copy_from_slice(&[source, destination]);
+    request
+}
+
 /// The frame that ends the stream.
 pub fn end() -> Request {
     let mut bytes = vec![0; REQUEST_HEAD];
@@ -135,7 +144,8 @@ impl Request {
             Answer { number: head[0], counts: [count(1), count(5), count(9)], bytes: vec![] };
         let length = if self.is(Call::Balance) { 0 } else { answer.counts[0] as usize };
         let told = answer.number == 0 || answer.counts == [0; 3];
-        let others = self.is(Call::Balance) || answer.counts[1..] == [0; 2];
+        let marked = self.is(Call::Routes) && answer.counts[1..] == [1, 0];
+        let others = self.is(Call::Balance) || marked || answer.counts[1..] == [0; 2];
         let known = crate::refusals::words(answer.number).is_some();
         if !told
             || !others

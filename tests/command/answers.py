@@ -1,7 +1,7 @@
 """Words and refusals: each is said in full, by its number, with the node, id or period that is meant."""
 import os
 
-from tool import ROOT, check
+from tool import ROOT, check, work_out
 
 USAGE = {
     "new": "BOOK PLAN",
@@ -10,6 +10,7 @@ USAGE = {
     "open": "BOOK ID SOURCE DESTINATION PERIOD",
     "close": "BOOK ID",
     "quote": "BOOK SOURCE DESTINATION [--json]",
+    "routes": "BOOK SOURCE DESTINATION [--json]",
     "table": "BOOK [NODE] [--json]",
     "balance": "BOOK [NODE] [--json]",
     "replan": "BOOK PLAN NEW",
@@ -35,11 +36,12 @@ def refusals(room):
     refused("3: no stream of this id is in the book (id 65535)", "show", "kiln.book", "--stream", "65535")
     for words, node in [(["open", "kiln.book", "8", "8", "2", "5"], "8"), (["open", "kiln.book", "8", "1", "64", "5"], "64"),
                         (["open", "kiln.book", "8", "99999999999", "1", "5"], "99999999999"), (["open", "kiln.book", "8", "9", "10", "5"], "9"),
-                        (["quote", "kiln.book", "1", "256"], "256"), (["table", "kiln.book", "255"], "255"), (["balance", "kiln.book", "8"], "8"),
+                        (["quote", "kiln.book", "1", "256"], "256"), (["routes", "kiln.book", "1", "8"], "8"), (["routes", "kiln.book", "300", "9"], "300"), (["table", "kiln.book", "255"], "255"), (["balance", "kiln.book", "8"], "8"),
                         (["balance", "kiln.book", "257"], "257"), (["show", "kiln.book", "--node", "8"], "8")]:
         refused("4: the site has no node of this number (node %s)" % node, *words)
     refused("5: source and destination are the same node (node 1)", "open", "kiln.book", "8", "1", "1", "5")
     refused("5: source and destination are the same node (node 1)", "quote", "kiln.book", "1", "1")
+    refused("5: source and destination are the same node (node 1)", "routes", "kiln.book", "1", "1")
     refused("6: a period is 1, 2, 5, 10, 20, 50 or 100 tiles (period 3)", "open", "kiln.book", "8", "1", "2", "3")
     refused("6: a period is 1, 2, 5, 10, 20, 50 or 100 tiles (period 65537)", "open", "kiln.book", "8", "1", "2", "65537")
     room.put("apart.plan", b"slots 4\ntiles up\ncontrol 0 4\nnodes 3\nlink 0 1\n")
@@ -58,6 +60,20 @@ def refusals(room):
     room.says(1, "from node 1 to node 0\n" + none, "quote", "apart.book", "1", "0")
     room.says(1, '{"refused":4,"words":"the site has no node of this number","about":"node 8"}\n', "balance", "kiln.book", "8", "--json")
     check(room.get("kiln.book") == one, "a refusal changed the book")
+
+
+def lists(room):
+    """On 8 nodes all linked to each other more routes exist than are listed; two nodes alone have one."""
+    for nodes, foot in [(8, "the first 32 routes of at most 6 hops; more exist\n"), (2, "1 route of at most 6 hops\n")]:
+        links = "".join("link %d %d\n" % (a, b) for b in range(nodes) for a in range(b))
+        room.put("knot.plan", ("slots 4\ntiles up\ncontrol 0 0\nnodes %d\n" % nodes + links).encode())
+        name = "knot%d.book" % nodes
+        room.says(0, "made: %d nodes, 0 streams of at most 64, 0 hops of at most 512\n" % nodes, "new", name, "knot.plan")
+        book = work_out.Book.read(room.get(name))
+        said = work_out.list_of_routes(book, 0, nodes - 1)
+        check(said.endswith(foot), said)
+        room.says(0, said, "routes", name, "0", str(nodes - 1))
+        room.says(0, work_out.routes_json(book, nodes - 1, 0), "routes", name, str(nodes - 1), "0", "--json")
 
 
 def images(room):
@@ -82,7 +98,7 @@ def images(room):
         line = "refused %s (bad.book)\n" % words
         room.says(1, line, "check", "bad.book")
         command = [["open", "bad.book", "8", "1", "2", "5"], ["close", "bad.book", "1"], ["show", "bad.book"], ["table", "bad.book"],
-                   ["balance", "bad.book", "1"], ["quote", "bad.book", "1", "2"], ["replan", "bad.book", "kiln.plan", "n.book"], ["page", "bad.book"]]
+                   ["balance", "bad.book", "1"], ["quote", "bad.book", "1", "2"], ["routes", "bad.book", "1", "2"], ["replan", "bad.book", "kiln.plan", "n.book"], ["page", "bad.book"]]
         for words in command if place in (2, 11) else command[place % 8:place % 8 + 1]:
             room.says(1, line, *words)
         check(room.get("bad.book") == data, "a book that is none was changed")
@@ -136,6 +152,7 @@ def numbers(room):
 
 def test(room):
     refusals(room)
+    lists(room)
     images(room)
     usage(room)
     numbers(room)

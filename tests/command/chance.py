@@ -57,6 +57,8 @@ def read(room, name, book, dice):
     wants = [(["check", name], "lawful: " + work_out.counts(book)), (["balance", name], work_out.balances(book, every)),
              (["balance", name, "--json"], work_out.balance_json(book, every)), (["table", name, str(node)], work_out.tables(book, [node])),
              (["table", name, "--json"], work_out.table_json(book, every)), (["show", name, "--json"], work_out.show_json(book, book.streams)),
+             (["routes", name, str(source), str(destination)], work_out.list_of_routes(book, source, destination)),
+             (["routes", name, str(source), str(destination), "--json"], work_out.routes_json(book, source, destination)),
              (["show", name, str(start)], work_out.show(book, start)), (["show", name, "--node", str(node)], work_out.show(book, node=node))]
     for words, want in wants:
         said = room.run(*words)

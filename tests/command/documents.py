@@ -51,7 +51,7 @@ def fields(value):
 def json_fields(room):
     document = text("docs/json.md").split("| Field |")[1]
     used = set()
-    for words in [["check"], ["show"], ["table"], ["balance"], ["quote", "3", "0"], ["quote", "3", "9"], ["balance", "99"]]:
+    for words in [["check"], ["show"], ["table"], ["balance"], ["quote", "3", "0"], ["quote", "3", "9"], ["routes", "3", "0"], ["balance", "99"]]:
         out = room.run(words[0], "kiln.book", *words[1:], "--json").out
         check(out.count("\n") == 1 and out.endswith("\n"), "%s --json is not one line" % words)
         used |= fields(json.loads(out))
@@ -112,7 +112,7 @@ def test(room):
     names = [words.split()[1] for words in everything.split("\n") if words.startswith("  lindurask ")]
     usages = {name: room.run(name, "--help").out.split("\n")[0].replace("lindurask ", "", 1) for name in names}
     refusals = re.findall(r"^ +(\d+)  (.*)$", everything, re.M)
-    check(len(usages) == 11 and len(refusals) == 17, "help lists %d commands and %d refusals" % (len(usages), len(refusals)))
+    check(len(usages) == 12 and len(refusals) == 17, "help lists %d commands and %d refusals" % (len(usages), len(refusals)))
     check(all(len(line) <= 80 for line in everything.split("\n")), "help is wider than 80 columns")
     man_page(room, usages, refusals)
     completion(usages)

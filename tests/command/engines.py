@@ -30,6 +30,9 @@ while True:
         image = open(os.path.join(os.path.dirname(sys.argv[0]), "new.image"), "rb").read()
         counts[0], out = len(image), image + out[len(image):]
     if mode == "sleepy" and head[0] == 5: counts[0], out = 300 * data[5], bytes(300 * data[5]) + out[300 * data[5]:]
+    if mode.startswith("list") and head[0] == 7:
+        said = {"listnode": b"\2\3\x0c\0", "listhops": b"\7\3\2\1\4\5\6\7\0", "listnone": b"\0\3", "listcut": b"\3\3\2\1", "listends": b"\3\3\2\1\4"}.get(mode, b"")
+        counts, out = [len(said), 2 if mode == "listmark" else 0, 0], said + out[len(said):]
     if mode == "same" and room: counts[0], out = len(data), data + out[len(data):]
     answer = bytes([number]) + b"".join(n.to_bytes(4, "big") for n in counts) + out
     if mode == "half":
@@ -47,7 +50,7 @@ WRONG = {"number": "says what is no answer", "length": "says what is no answer",
          "half": "ended before it answered", "more": "says more than it was asked, or does not end", "badly": "ended badly: exit status: 3"}
 COMMANDS = [["check", "kiln.book"], ["show", "kiln.book"], ["open", "kiln.book", "8", "1", "2", "5"], ["close", "kiln.book", "5"], ["table", "kiln.book"],
             ["balance", "kiln.book"], ["quote", "kiln.book", "3", "0"], ["new", "n.book", "kiln.plan"], ["replan", "kiln.book", "yard.plan", "n.book"],
-            ["page", "kiln.book"]]
+            ["page", "kiln.book"], ["routes", "kiln.book", "3", "0"]]
 
 
 def hold(room, engine, words, said):
@@ -87,6 +90,9 @@ def nonsense(room, engines):
         for words in COMMANDS[2:4] + COMMANDS[7:9] if mode != "same" else COMMANDS[2:4]:
             got = room.run(*words, env={"LINDURASK_ENGINE": os.fsdecode(fake[mode])})
             check(got.status == 2 and got.out == "" and "the engine" in got.err, "%s with an engine that gives %s: %s" % (words, mode, got.all))
+    # Lists of routes with a node beyond the site, of 7 hops, of none, cut short, with another end, and with a mark of 2.
+    for mode in ["listnode", "listhops", "listnone", "listcut", "listends", "listmark"]:
+        hold(room, program(engines, "engine-" + mode, FAKE.encode()), COMMANDS[10], "says what is no answer")
     # Tables that are not those of the streams in the book make no page.
     hold(room, fake["sleepy"], COMMANDS[9], "says what is no answer")
 

@@ -9,6 +9,7 @@ mod open;
 mod page;
 mod quote;
 mod replan;
+mod routes;
 mod show;
 mod table;
 
@@ -45,13 +46,14 @@ pub struct Command {
 }
 
 /// All commands, in the order in which help lists them.
-pub const COMMANDS: [Command; 11] = [
+pub const COMMANDS: [Command; 12] = [
     new::NEW,
     check::CHECK,
     show::SHOW,
     open::OPEN,
     close::CLOSE,
     quote::QUOTE,
+    routes::ROUTES,
     table::TABLE,
     balance::BALANCE,
     replan::REPLAN,
