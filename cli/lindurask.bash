@@ -1,10 +1,14 @@
-# Completion for bash: commands, options, and files where a book or a plan stands.
+# Completion for bash: commands, options, the last word of open, and files where a book or a plan stands.
 _lindurask() {
     local word=${COMP_WORDS[COMP_CWORD]} before=${COMP_WORDS[COMP_CWORD - 1]} command=${COMP_WORDS[1]-} choices=
     COMPREPLY=()
     local commands='new check show open close quote routes table balance replan page help'
     if [ "$COMP_CWORD" = 1 ]; then
         mapfile -t COMPREPLY < <(compgen -W "$commands --help --version" -- "$word")
+        return
+    fi
+    if [ "$command:$COMP_CWORD" = open:7 ]; then
+        mapfile -t COMPREPLY < <(compgen -W 'second --help' -- "$word")
         return
     fi
     case $command in

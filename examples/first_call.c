@@ -1,7 +1,7 @@
 /*
- * A first book: two nodes, one stream, one balance.
+ * A first book: three nodes, a stream with one route and one with two, one balance.
  *
- * examples/run builds this program with the planner's library and runs it.
+ * examples/run builds this program with the planner's library and runs it; it prints examples/first_call.said.
  */
 #include <inttypes.h>
 #include <stdio.h>
@@ -17,53 +17,68 @@ static void print_image(const char *name, const uint8_t *image, size_t length) {
 
 int main(void) {
     /* Two images: a call reads one and writes the other, and the two never overlap. */
-    uint8_t empty[LINDURASK_LONGEST_IMAGE];
-    uint8_t book[LINDURASK_LONGEST_IMAGE];
-    size_t empty_length, book_length;
+    uint8_t first[LINDURASK_LONGEST_IMAGE];
+    uint8_t other[LINDURASK_LONGEST_IMAGE];
+    size_t first_length, other_length;
 
     /*
-     * The site has nodes 0 and 1, linked to each other. A node's row is 8 bytes, the highest first:
-     * bit 1 in the row of node 0, bit 0 in the row of node 1.
+     * The site has nodes 0, 1 and 2, all linked to each other. A node's row is 8 bytes, the highest first:
+     * bits 1 and 2 in the row of node 0, bits 0 and 2 in that of node 1, bits 0 and 1 in that of node 2.
      */
-    const uint8_t topology[16] = {
-        0, 0, 0, 0, 0, 0, 0, 2,
-        0, 0, 0, 0, 0, 0, 0, 1,
+    const uint8_t topology[24] = {
+        0, 0, 0, 0, 0, 0, 0, 6,
+        0, 0, 0, 0, 0, 0, 0, 5,
+        0, 0, 0, 0, 0, 0, 0, 3,
     };
 
     /*
      * A tile has 4 slots. The plan repeats after 2 tiles: tile 0 is downlink (bit 0 of the kinds), and
      * its first 2 slots are control; tile 1 is uplink, and its first slot is control.
      */
-    uint8_t number = lindurask_new(4, 2, 1, 2, 1, 2, topology, sizeof topology, empty, sizeof empty, &empty_length);
+    uint8_t number = lindurask_new(4, 2, 1, 2, 1, 3, topology, sizeof topology, first, sizeof first, &first_length);
     if (number != 0) {
         printf("no book was made: refused %u\n", number);
         return 1;
     }
-    print_image("The empty book", empty, empty_length);
+    print_image("The empty book", first, first_length);
 
     /*
      * Stream 7 sends from node 1 to node 0 every 2 tiles. The planner finds its route and its slots, and
-     * writes the book with it. The new row: id 0007, period 02, one hop 01, nodes 01 00, offset 0002:
-     * slot 2 is the first that is no control slot.
+     * writes the book with it. The new row: id 0007, route 01, period 02, one hop 01, nodes 01 00, offset
+     * 0002: slot 2 is the first that is no control slot.
      */
-    number = lindurask_open(empty, empty_length, 7, 1, 0, 2, book, sizeof book, &book_length);
+    number = lindurask_open(first, first_length, 7, 1, 0, 2, false, other, sizeof other, &other_length);
     if (number != 0) {
         printf("the stream was not opened: refused %u\n", number);
         return 1;
     }
-    print_image("The book with stream 7", book, book_length);
+    print_image("The book with stream 7", other, other_length);
 
-    /* The cycle is 100 tiles. Two tiles have 5 data slots, so 250; the stream comes 50 times. */
+    /*
+     * Stream 9 sends from node 0 to node 1 every 10 tiles, and has a second route, so that it lives on where
+     * one of the two fails. Its rows: route 01 is the link, and route 02 goes by node 2.
+     */
+    number = lindurask_open(other, other_length, 9, 0, 1, 10, true, first, sizeof first, &first_length);
+    if (number != 0) {
+        printf("the stream was not opened: refused %u\n", number);
+        return 1;
+    }
+    print_image("The book with stream 9 and its two routes", first, first_length);
+
+    /*
+     * The cycle is 100 tiles. Two tiles have 5 data slots, so 250; stream 7 comes 50 times, and stream 9
+     * comes 10 times on either route.
+     */
     uint32_t data, used, free_slots;
-    number = lindurask_balance(book, book_length, 1, &data, &used, &free_slots);
+    number = lindurask_balance(first, first_length, 1, &data, &used, &free_slots);
     if (number != 0) {
         printf("no balance: refused %u\n", number);
         return 1;
     }
     printf("Node 1: %" PRIu32 " data slots, %" PRIu32 " used, %" PRIu32 " free\n", data, used, free_slots);
 
-    /* A refusal has a number, gives length 0 and leaves the output buffer alone: there is no node 2. */
-    number = lindurask_open(book, book_length, 8, 1, 2, 2, empty, sizeof empty, &empty_length);
-    printf("Opening a stream to node 2: refused %u, length %zu\n", number, empty_length);
+    /* A refusal has a number, gives length 0 and leaves the output buffer alone: there is no node 3. */
+    number = lindurask_open(first, first_length, 8, 1, 3, 2, false, other, sizeof other, &other_length);
+    printf("Opening a stream to node 3: refused %u, length %zu\n", number, other_length);
     return 0;
 }

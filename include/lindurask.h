@@ -1,11 +1,14 @@
 /*
  * Lindurask: a slot planner for radio meshes.
  *
- * A book holds a site's tile plan, its topology and its accepted streams. It is kept as an
- * image: plain bytes, big-endian, that can be stored and sent as they are. Every call but
- * lindurask_new takes an image and checks it in full first; a call that changes the book writes
- * the image of the new book into a second buffer and leaves the first as it is. Nothing is kept
- * between calls, so calls may run in several threads at once, on buffers of their own.
+ * A book holds a site's tile plan, its topology and its accepted streams, each on one route or on
+ * two. It is kept as an image: plain bytes, big-endian, that can be stored and sent as they are.
+ * Every call but lindurask_new takes an image and checks it in full first; a call that changes the
+ * book writes the image of the new book into a second buffer and leaves the first as it is. Nothing
+ * is kept between calls, so calls may run in several threads at once, on buffers of their own.
+ *
+ * Images of versions 1 and 2 are read. A new or changed book is written in version 2, in which a
+ * row says which route of its stream it is; lindurask_rewrite keeps the version.
  *
  * Link with target/staticlib/libplanner.a, which `rt staticlib planner` makes (x86-64 Linux).
  *
@@ -22,16 +25,18 @@
  *    5  source is destination
  *    6  period is none of 1, 2, 5, 10, 20, 50, 100
  *    7  no route exists between the nodes, of any number of hops
- *    8  64 streams already, or hops would pass 512
- *    9  no placing exists: no free slots for the stream on its route
+ *    8  rows would pass 64, or hops would pass 512; a stream has a row for each of its routes
+ *    9  no placing exists: no free slots for the stream on its route, or on its second route
+ *       beside the first
  *   10  a field of bytes 5 to 15 of the image, or an argument of a new book, out of its range
  *   11  topology: wrong length (new book), a bit from N up, a self-link, a one-way link
  *   12  output buffer shorter than the answer
  *   13  image: wrong mark or version
  *   14  image: under 16 bytes, or not the length that its header gives
- *   15  image: rows are not lawful, not rising by id, or do not fill it
- *   16  image: two clashing hops of different streams meet
+ *   15  image: rows are not lawful, not rising by id and then route, or do not fill it
+ *   16  image: two clashing hops of different rows meet
  *   17  routes between the nodes exist, but every one has over 15 hops
+ *   18  no second route: none of at most 6 hops that has no middle node in common with the first
  *
  * An image is tested in the order 14 (under 16 bytes), 13, 10, 14, 11, 15, 16; then a call has
  * its own refusals, in the order given with it below.
@@ -61,6 +66,7 @@
 #ifndef LINDURASK_H
 #define LINDURASK_H
 
+#include <stdbool.h>
 #include <stddef.h>
 #include <stdint.h>
 
@@ -68,8 +74,8 @@
 extern "C" {
 #endif
 
-/* The longest image, in bytes: 64 nodes, 64 streams, 512 hops. */
-#define LINDURASK_LONGEST_IMAGE 2384
+/* The longest image, in bytes: 64 nodes, 64 rows, 512 hops, in version 2. */
+#define LINDURASK_LONGEST_IMAGE 2448
 
 /* The longest table, in bytes: 100 tiles of 32 slots, 3 bytes an entry. */
 #define LINDURASK_LONGEST_TABLE 9600
@@ -94,32 +100,37 @@ uint8_t lindurask_new(uint8_t s, uint8_t c, uint16_t kinds, uint8_t d, uint8_t u
 /* Checks an image: 0 if it is that of a lawful book. Writes nothing. Refusals: those of an image. */
 uint8_t lindurask_check(const uint8_t *book, size_t book_len, size_t *length);
 
-/* Writes the image of the same book: the same bytes. Refusals: those of an image, then 12. */
+/* Writes the image of the same book in the same version: the same bytes. Refusals: those of an image, then 12. */
 uint8_t lindurask_rewrite(const uint8_t *book, size_t book_len, uint8_t *out, size_t out_len, size_t *length);
 
 /*
  * Opens a stream of this id (1 to 65535) from the source to the destination, every `period` tiles, and
  * writes the image of the book with it. The route is the shortest, the lowest node list among equals;
- * the slots are the lexicographically first that are free. Refusals: those of an image, then 1, 4, 5,
- * 6, 2, 7, 17, 8, 9, 12.
+ * the slots are the lexicographically first that are free. Where `second` is true the stream has a second
+ * route as well: another than the first, without a middle node in common with it, at most 6 hops, the
+ * shortest and then the lowest node list; its slots are the first that are free beside the first route's.
+ * Both are opened or neither. Refusals: those of an image, then 1, 4, 5, 6, 2, 7, 17, 18, 8, 9, 12.
  */
 uint8_t lindurask_open(const uint8_t *book, size_t book_len, uint16_t id, uint8_t source, uint8_t destination,
-                       uint16_t period, uint8_t *out, size_t out_len, size_t *length);
+                       uint16_t period, bool second, uint8_t *out, size_t out_len, size_t *length);
 
-/* Closes the stream of this id, and writes the image of the book without it. Refusals: those of an image, then 1, 3, 12. */
+/*
+ * Closes the stream of this id with all its routes, and writes the image of the book without it. Refusals:
+ * those of an image, then 1, 3, 12.
+ */
 uint8_t lindurask_close(const uint8_t *book, size_t book_len, uint16_t id, uint8_t *out, size_t out_len, size_t *length);
 
 /*
  * Writes a node's slot table for the whole cycle: 100 x S entries of 3 bytes, an operation and then the
  * stream's id, big-endian, 0 where there is none. The operations: 0 sleep, 1 send from above, 2 receive
- * to buffer, 3 forward from buffer, 4 receive for above, 5 control slot. Refusals: those of an image,
- * then 4, 12.
+ * to buffer, 3 forward from buffer, 4 receive for above, 5 control slot; on a second route 17 to 20 for
+ * 1 to 4. Refusals: those of an image, then 4, 12.
  */
 uint8_t lindurask_expand(const uint8_t *book, size_t book_len, uint8_t node, uint8_t *out, size_t out_len, size_t *length);
 
 /*
- * Gives a node's balance over the cycle: its data slots, those in which it sends or receives, and
- * those in which it sleeps; *used + *free_slots = *data. A refusal sets all three to 0. Refusals: those
+ * Gives a node's balance over the cycle: its data slots, those in which it sends or receives on any route,
+ * and those in which it sleeps; *used + *free_slots = *data. A refusal sets all three to 0. Refusals: those
  * of an image, then 4.
  */
 uint8_t lindurask_balance(const uint8_t *book, size_t book_len, uint8_t node, uint32_t *data, uint32_t *used, uint32_t *free_slots);

@@ -4,8 +4,8 @@
 pub const CYCLE: u16 = 100;
 /// The periods that a stream may have, in tiles.
 pub const PERIODS: [u16; 7] = [1, 2, 5, 10, 20, 50, 100];
-/// The most streams of a book.
-pub const MOST_STREAMS: usize = 64;
+/// The most routes of a book, second ones counted.
+pub const MOST_ROUTES: usize = 64;
 /// The most hops of a book.
 pub const MOST_HOPS: usize = 512;
 /// The most nodes of a site.
@@ -23,7 +23,13 @@ struct Layout {
 }
 
 /// Every version that is read, the newest last.
-const LAYOUTS: [Layout; 1] = [Layout { version: 1, way_bytes: 0, period_bytes: 1 }];
+const LAYOUTS: [Layout; 2] = [
+    Layout { version: 1, way_bytes: 0, period_bytes: 1 },
+    Layout { version: 2, way_bytes: 1, period_bytes: 1 },
+];
+/// The numbers of a stream's routes.
+const FIRST: u8 = 1;
+const SECOND: u8 = 2;
 
 /// The version in which books are written.
 pub const NEWEST: u16 = LAYOUTS[LAYOUTS.len() - 1].version;
@@ -44,19 +50,39 @@ pub struct Book {
     pub up: u8,
     /// For each node the set of its neighbours.
     pub links: Vec<u64>,
-    pub streams: Vec<Stream>,
+    /// The routes of all streams in order of id, a second one right behind its first.
+    pub ways: Vec<Way>,
 }
 
 /// A route of a stream, and when each of its hops takes place.
 #[derive(Clone, Debug, PartialEq, Eq)]
-pub struct Stream {
+pub struct Way {
     pub id: u16,
-    /// Which of its stream's routes this is.
-    pub way: u8,
+    /// Which of its stream's routes this is: 1 or 2.
+    pub number: u8,
     /// Tiles from one turn to the next.
     pub period: u16,
     pub nodes: Vec<u8>,
     pub offsets: Vec<u16>,
+}
+
+/// A stream of a book: its route, and its second one where it has one.
+#[derive(Clone, Copy)]
+pub struct Stream<'a> {
+    /// The place of its first route among all routes of the book.
+    pub place: usize,
+    pub ways: &'a [Way],
+}
+
+/// What the loss of one relay, a node in the middle of a route, is to a stream.
+#[derive(Clone, Copy, Debug, PartialEq, Eq)]
+pub enum Loss {
+    /// There is no relay on any of its routes.
+    NoRelay,
+    /// Whichever it is, a route without it is left.
+    Survived,
+    /// A relay is on every route.
+    Ends,
 }
 
 /// A node's slots in a cycle.
@@ -86,15 +112,16 @@ impl Bytes<'_> {
         self.number(2).map(|n| n as u16)
     }
 
-    /// A row of a stream.
-    fn stream(&mut self, layout: &Layout) -> Option<Stream> {
+    /// A row: one route of a stream.
+    fn way(&mut self, layout: &Layout) -> Option<Way> {
         let id = self.word()?;
-        let way = if layout.way_bytes == 0 { 1 } else { self.number(layout.way_bytes)? as u8 };
+        let number =
+            if layout.way_bytes == 0 { FIRST } else { self.number(layout.way_bytes)? as u8 };
         let period = self.number(layout.period_bytes)? as u16;
         let hops = self.byte()?;
         let nodes = (0..=hops).map(|_| self.byte()).collect::<Option<_>>()?;
         let offsets = (0..hops).map(|_| self.word()).collect::<Option<_>>()?;
-        Some(Stream { id, way, period, nodes, offsets })
+        Some(Way { id, number, period, nodes, offsets })
     }
 }
 
@@ -112,36 +139,52 @@ impl Book {
         let version = head.word()?;
         let layout = LAYOUTS.iter().find(|layout| layout.version == version)?;
         let (slots, tiles, kinds) = (head.byte()?, head.byte()?, head.word()?);
-        let (down, up, nodes, streams) = (head.byte()?, head.byte()?, head.byte()?, head.byte()?);
+        let (down, up, nodes, ways) = (head.byte()?, head.byte()?, head.byte()?, head.byte()?);
         let mut rest = Bytes(&image[HEAD..]);
         let links = (0..nodes).map(|_| rest.number(8)).collect::<Option<_>>()?;
-        let streams = (0..streams).map(|_| rest.stream(layout)).collect::<Option<_>>()?;
-        let book = Book { version, slots, tiles, kinds, down, up, links, streams };
+        let ways = (0..ways).map(|_| rest.way(layout)).collect::<Option<_>>()?;
+        let book = Book { version, slots, tiles, kinds, down, up, links, ways };
         (rest.0.is_empty() && book.is_sound()).then_some(book)
     }
 
     /// What is relied on here holds, whoever called the bytes lawful; the engine asks for more.
     fn is_sound(&self) -> bool {
-        let is_sound = |stream: &Stream| {
-            PERIODS.contains(&stream.period)
-                && stream.hops() > 0
-                && stream.nodes.iter().all(|&node| node < self.nodes())
-                && stream.offsets.is_sorted()
+        let is_sound = |way: &Way| {
+            PERIODS.contains(&way.period)
+                && way.hops() > 0
+                && way.nodes.iter().all(|&node| node < self.nodes())
+                && way.offsets.is_sorted()
         };
         self.slots > 0
             && self.tiles > 0
             && self.down.max(self.up) <= self.slots
             && self.links.len() <= MOST_NODES
-            && self.streams.iter().all(is_sound)
+            && self.ways.iter().all(is_sound)
+            && self.ways.windows(2).all(|two| two[0].id <= two[1].id)
+            && self.streams().all(|stream| stream.is_sound())
     }
 
     pub fn nodes(&self) -> u8 {
         self.links.len() as u8
     }
 
-    /// The hops of all streams.
+    /// The hops of all routes.
     pub fn hops(&self) -> usize {
-        self.streams.iter().map(Stream::hops).sum()
+        self.ways.iter().map(Way::hops).sum()
+    }
+
+    /// The streams in order of id.
+    pub fn streams(&self) -> impl Iterator<Item = Stream<'_>> {
+        let mut place = 0;
+        self.ways.chunk_by(|a, b| a.id == b.id).map(move |ways| {
+            place += ways.len();
+            Stream { place: place - ways.len(), ways }
+        })
+    }
+
+    /// A stream has a second route.
+    pub fn has_second(&self) -> bool {
+        self.ways.iter().any(Way::is_second)
     }
 
     /// The tile of the cycle is downlink.
@@ -187,8 +230,8 @@ impl Book {
     }
 
     /// The stream of this id.
-    pub fn stream(&self, id: u16) -> Option<&Stream> {
-        self.streams.iter().find(|stream| stream.id == id)
+    pub fn stream(&self, id: u16) -> Option<Stream<'_>> {
+        self.streams().find(|stream| stream.first().id == id)
     }
 
     /// The lowest id that no stream has.
@@ -199,15 +242,61 @@ impl Book {
     /// After how many tiles the plan and all streams repeat.
     pub fn repeats_after(&self) -> u16 {
         let repeats = |n: u16| {
-            n % u16::from(self.tiles) == 0 && self.streams.iter().all(|s| n % s.period == 0)
+            n % u16::from(self.tiles) == 0 && self.ways.iter().all(|way| n % way.period == 0)
         };
         (1..CYCLE).find(|&n| repeats(n)).unwrap_or(CYCLE)
     }
 }
 
-impl Stream {
+impl<'a> Stream<'a> {
+    pub fn first(&self) -> &'a Way {
+        &self.ways[0]
+    }
+
+    pub fn second(&self) -> Option<&'a Way> {
+        self.ways.get(1)
+    }
+
+    /// It has one route, or a second one too, of the same period and ends.
+    fn is_sound(&self) -> bool {
+        let shared = |way: &'a Way| (way.period, way.nodes.first(), way.nodes.last());
+        match self.ways {
+            [first] => first.number == FIRST,
+            [first, second] => {
+                (first.number, second.number) == (FIRST, SECOND) && shared(first) == shared(second)
+            }
+            _ => false,
+        }
+    }
+
+    pub fn passes(&self, node: u8) -> bool {
+        self.ways.iter().any(|way| way.nodes.contains(&node))
+    }
+
+    pub fn loss(&self) -> Loss {
+        let on_all = |node: &u8| self.ways.iter().all(|way| way.relays().contains(node));
+        if self.ways.iter().all(|way| way.relays().is_empty()) {
+            Loss::NoRelay
+        } else if self.first().relays().iter().any(on_all) {
+            Loss::Ends
+        } else {
+            Loss::Survived
+        }
+    }
+}
+
+impl Way {
     pub fn hops(&self) -> usize {
         self.offsets.len()
+    }
+
+    pub fn is_second(&self) -> bool {
+        self.number == SECOND
+    }
+
+    /// The nodes between the source and the destination.
+    pub fn relays(&self) -> &[u8] {
+        &self.nodes[1..self.hops()]
     }
 
     /// Slots from the first hop to the last, both counted.
@@ -222,8 +311,25 @@ impl Stream {
     pub fn repeats(&self) -> u16 {
         CYCLE / self.period
     }
+}
 
-    pub fn passes(&self, node: u8) -> bool {
-        self.nodes.contains(&node)
+#[cfg(test)]
+mod tests {
+    use super::*;
+
+    fn way(number: u8, nodes: &[u8]) -> Way {
+        let offsets = (1..nodes.len() as u16).collect();
+        Way { id: 7, number, period: 5, nodes: nodes.to_vec(), offsets }
+    }
+
+    #[test]
+    fn a_stream_survives_where_no_relay_is_on_all_its_routes() {
+        let loss = |ways: &[Way]| Stream { place: 0, ways }.loss();
+        assert_eq!(loss(&[way(1, &[0, 3])]), Loss::NoRelay);
+        assert_eq!(loss(&[way(1, &[0, 1, 3])]), Loss::Ends);
+        assert_eq!(loss(&[way(1, &[0, 1, 3]), way(2, &[0, 2, 3])]), Loss::Survived);
+        assert_eq!(loss(&[way(1, &[0, 3]), way(2, &[0, 2, 3])]), Loss::Survived);
+        assert_eq!(loss(&[way(1, &[0, 1, 3]), way(2, &[0, 3])]), Loss::Survived);
+        assert_eq!(loss(&[way(1, &[0, 1, 3]), way(2, &[0, 2, 1, 3])]), Loss::Ends);
     }
 }

@@ -1,7 +1,7 @@
 //! Frames: what is put to the engine and what it answers, as bytes. All numbers are big-endian.
 
-/// Bytes of a request before its book or topology.
-const REQUEST_HEAD: usize = 19;
+/// Bytes of a request before its book or topology; those from 20 on are for later calls, and 0.
+const REQUEST_HEAD: usize = 44;
 /// Bytes of an answer before its output buffer.
 pub const ANSWER_HEAD: usize = 13;
 /// The longest run of bytes that a request carries.
@@ -50,6 +50,8 @@ pub struct Wish {
     pub source: u8,
     pub destination: u8,
     pub period: u16,
+    /// A second route is asked for.
+    pub second: bool,
 }
 
 /// A call in bytes, and the room that it gives for the answer.
@@ -98,6 +100,7 @@ pub fn open(book: &[u8], wish: Wish) -> Request {
     head[1..3].copy_from_slice(&wish.id.to_be_bytes());
     head[3..5].copy_from_slice(&[wish.source, wish.destination]);
     head[5..7].copy_from_slice(&wish.period.to_be_bytes());
+    head[19] = u8::from(wish.second);
     request
 }
 

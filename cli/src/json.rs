@@ -1,6 +1,6 @@
 //! Answers for programs, in JSON.
 
-use crate::book::{Balance, Book, Stream};
+use crate::book::{Balance, Book, Loss, Stream, Way};
 use crate::trouble::{meaning, Trouble};
 use std::fmt::Display;
 
@@ -31,28 +31,33 @@ pub fn object<'a>(fields: impl IntoIterator<Item = (&'a str, String)>) -> String
     format!("{{{}}}", fields.join(","))
 }
 
-/// How many nodes, streams and hops a book has.
+/// How many nodes, streams, routes and hops a book has.
 pub fn counts(book: &Book) -> Vec<(&'static str, String)> {
     vec![
         ("version", book.version.to_string()),
         ("nodes", book.nodes().to_string()),
-        ("streams", book.streams.len().to_string()),
+        ("streams", book.streams().count().to_string()),
+        ("routes", book.ways.len().to_string()),
         ("hops", book.hops().to_string()),
     ]
 }
 
-/// A stream's route, offsets and latency.
-pub fn way(stream: &Stream) -> Vec<(&'static str, String)> {
+/// The nodes, offsets and latency of a route.
+pub fn way(way: &Way) -> Vec<(&'static str, String)> {
     vec![
-        ("route", array(&stream.nodes)),
-        ("offsets", array(&stream.offsets)),
-        ("latency", stream.latency().to_string()),
+        ("route", array(&way.nodes)),
+        ("offsets", array(&way.offsets)),
+        ("latency", way.latency().to_string()),
     ]
 }
 
-pub fn stream(stream: &Stream) -> String {
-    let head = [("id", stream.id.to_string()), ("period", stream.period.to_string())];
-    object(head.into_iter().chain(way(stream)))
+pub fn stream(stream: Stream) -> String {
+    let first = stream.first();
+    let second = stream.second().map_or("null".to_string(), |second| object(way(second)));
+    let head = [("id", first.id.to_string()), ("period", first.period.to_string())];
+    let survives = (stream.loss() != Loss::Ends).to_string();
+    let rest = [("second", second), ("survives", survives)];
+    object(head.into_iter().chain(way(first)).chain(rest))
 }
 
 pub fn plan(book: &Book) -> String {

@@ -1,9 +1,9 @@
 //! A book that the engine called lawful, with the engine still there to be asked.
 
-use crate::book::{Balance, Book, CYCLE};
+use crate::book::{Balance, Book, Stream, CYCLE};
 use crate::engine::Engine;
 use crate::files;
-use crate::frame::{self, Answer, Request};
+use crate::frame::{self, Answer, Request, Wish};
 use crate::table::{self, Entry};
 use crate::text::plain;
 use crate::trouble::Trouble;
@@ -31,6 +31,12 @@ pub fn unreadable() -> Trouble {
 /// Reads bytes that the engine gave or called lawful.
 pub fn decode(bytes: &[u8]) -> Result<Book, Trouble> {
     Book::decode(bytes).ok_or_else(unreadable)
+}
+
+/// The stream that an open gave, with a second route exactly if one was asked for.
+pub fn opened(book: &Book, wish: Wish) -> Result<Stream<'_>, Trouble> {
+    let stream = book.stream(wish.id).filter(|stream| stream.second().is_some() == wish.second);
+    stream.ok_or_else(|| Trouble::Failed("the engine opened another stream".into()))
 }
 
 /// A refusal is about the book itself and not about what was asked of it.

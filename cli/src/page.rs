@@ -37,7 +37,7 @@ pub fn page(title: &str, book: &Book, balances: &[Balance]) -> String {
         graph::graph(book, &places),
         traffic::listing(book, &traffic::traffic(book))
     );
-    let streams = if book.streams.is_empty() {
+    let streams = if book.ways.is_empty() {
         "<p>No stream is in the book.</p>\n".to_string()
     } else {
         format!(
@@ -82,10 +82,9 @@ fn head(title: &str) -> String {
 
 #[cfg(test)]
 mod tests {
-    use super::samples::{balances, bare, full_site, kiln, kiln_balances};
+    use super::samples::{balances, bare, full_site, kiln, kiln_balances, ring};
     use super::wellformed::{assert_well_formed, tags};
     use super::*;
-    use crate::book::Stream;
 
     /// The most bytes of a page.
     const MOST_BYTES: usize = 1_000_000;
@@ -206,12 +205,13 @@ mod tests {
 
     #[test]
     fn a_second_route_is_named_and_dashed() {
-        let mut book = kiln();
-        let second = Stream { way: 2, ..samples::stream(4, 2, &[2, 3, 1], &[14, 15]) };
-        book.streams.insert(4, second);
-        let page = page_of(&book);
+        let page = page_of(&ring());
         assert_well_formed(&page);
-        assert!(page.contains("<path class=\"way second\"") && page.contains(">4′</span>"));
-        assert_eq!(page.matches("<li class=\"k").count(), 5);
+        assert_eq!(page.matches("<path class=\"way second\"").count(), 2);
+        assert!(page.contains(">7′</span>") && page.contains("streams 7, 7′"));
+        assert_eq!(page.matches("<g class=\"arrow k0 second\"").count(), 3);
+        assert_eq!(page.matches("<li class=\"k").count(), 2);
+        assert_eq!(page.matches("latency 3 slots and 3 slots; survives the loss of").count(), 1);
+        assert!(page.contains("<dt>Streams</dt><dd>2 with 4 routes of at most 64</dd>"));
     }
 }

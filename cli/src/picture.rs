@@ -1,13 +1,13 @@
 //! The picture of a book: a row for each node, its slots tile by tile, and who sends when.
 
-use crate::book::{Book, CYCLE};
+use crate::book::{Book, Way, CYCLE};
 use crate::colour::Colour;
 use crate::table::{Entry, Work};
 use crate::text::{count, WIDTH};
 
 /// Columns before the first tile of a row.
 const MARGIN: usize = 11;
-/// Letters of the alphabet: with more streams a stream has two letters.
+/// Letters of the alphabet: with more routes a route has two letters.
 const LETTERS: usize = 26;
 /// A tile narrower than this has its number only where that ends in 0 or 5.
 const NARROW: usize = 3;
@@ -20,16 +20,16 @@ pub struct Picture<'a> {
     pub colour: Colour,
 }
 
-/// How many letters stand for a stream of the book.
+/// How many letters stand for a route of the book.
 fn letters(book: &Book) -> usize {
-    if book.streams.len() <= LETTERS {
+    if book.ways.len() <= LETTERS {
         1
     } else {
         2
     }
 }
 
-/// The letters of the stream at a place.
+/// The letters of the route at a place.
 pub fn label(book: &Book, place: usize) -> String {
     let letter = |n: usize| char::from(b'A' + (n % LETTERS) as u8);
     match letters(book) {
@@ -75,13 +75,15 @@ impl Picture<'_> {
     /// The mark of a slot.
     fn mark(&self, entry: Entry) -> String {
         let repeat = |mark: &str| mark.repeat(letters(self.book));
-        let place = self.book.streams.iter().position(|stream| stream.id == entry.id);
-        let label = |place: Option<usize>| place.map_or(repeat("?"), |p| label(self.book, p));
+        let is_own = |way: &Way| way.id == entry.id && way.is_second() == entry.is_second();
+        let place = self.book.ways.iter().position(is_own);
+        let label = || place.map_or(repeat("?"), |place| label(self.book, place));
+        let order = || self.book.streams().position(|stream| stream.first().id == entry.id);
         match entry.work() {
             Work::Sleep => repeat("."),
             Work::Control => self.colour.faint(&repeat("#")),
-            Work::Sends => self.colour.stream(place, &label(place)),
-            Work::Receives => self.colour.stream(place, &label(place).to_lowercase()),
+            Work::Sends => self.colour.stream(order(), &label()),
+            Work::Receives => self.colour.stream(order(), &label().to_lowercase()),
         }
     }
 

@@ -1,7 +1,8 @@
-/* The seven calls of include/lindurask.h under other names. */
+/* The eight calls of include/lindurask.h under other names. */
 #ifndef FAST_H
 #define FAST_H
 
+#include <stdbool.h>
 #include <stddef.h>
 #include <stdint.h>
 
@@ -10,9 +11,11 @@ uint8_t fast_new(uint8_t s, uint8_t c, uint16_t kinds, uint8_t d, uint8_t u, uin
 uint8_t fast_check(const uint8_t *book, size_t book_len, size_t *length);
 uint8_t fast_rewrite(const uint8_t *book, size_t book_len, uint8_t *out, size_t out_len, size_t *length);
 uint8_t fast_open(const uint8_t *book, size_t book_len, uint16_t id, uint8_t source, uint8_t destination, uint16_t period,
-                  uint8_t *out, size_t out_len, size_t *length);
+                  bool second, uint8_t *out, size_t out_len, size_t *length);
 uint8_t fast_close(const uint8_t *book, size_t book_len, uint16_t id, uint8_t *out, size_t out_len, size_t *length);
 uint8_t fast_expand(const uint8_t *book, size_t book_len, uint8_t node, uint8_t *out, size_t out_len, size_t *length);
 uint8_t fast_balance(const uint8_t *book, size_t book_len, uint8_t node, uint32_t *data, uint32_t *used, uint32_t *free_slots);
+uint8_t fast_routes(const uint8_t *book, size_t book_len, uint8_t source, uint8_t destination, uint8_t *out, size_t out_len,
+                    size_t *length, uint8_t *more);
 
 #endif

@@ -1,17 +1,18 @@
-//! The eight calls, on bytes.
+//! The calls, on bytes.
 //!
 //! Each gives back a number and a length. A refusal gives length 0 and leaves
 //! the output buffer as it was; success writes only the answer's own bytes.
+//! A new or changed book is written in the newest version.
 
-use crate::book::{Book, MAX_HOPS, MAX_STREAMS};
+use crate::book::Book;
+use crate::change::{self, Open};
 use crate::image;
-use crate::placing::first_placing;
-use crate::plan::{Plan, period_of};
+use crate::plan::Plan;
 use crate::refusal::{DONE, Refusal, refuse_if};
-use crate::route::{planners_route, short_routes};
-use crate::stream::Stream;
+use crate::route::short_routes;
 use crate::table;
 use crate::topology::{NODES, Topology};
+use crate::version::Version;
 
 /// The most routes listed.
 pub const MAX_LISTED: usize = 32;
@@ -28,7 +29,8 @@ pub fn new(
     topology: &[u8],
     out: &mut [u8],
 ) -> (u8, usize) {
-    deliver(new_image(Plan { s, c, kinds, d, u }, n, topology), out)
+    let book = new_book(Plan { s, c, kinds, d, u }, n, topology);
+    deliver(book.map(in_newest_version), out)
 }
 
 /// Says whether a book is lawful.
@@ -41,24 +43,19 @@ pub fn check(book: &[u8]) -> (u8, usize) {
 
 /// Reads a book and writes it again.
 pub fn rewrite(book: &[u8], out: &mut [u8]) -> (u8, usize) {
-    deliver(image::read(book).map(|book| image::write(&book)), out)
+    deliver(image::read(book).map(|(version, book)| image::write(version, &book)), out)
 }
 
 /// Opens a stream.
-pub fn open(
-    book: &[u8],
-    id: u16,
-    source: u8,
-    destination: u8,
-    period: u16,
-    out: &mut [u8],
-) -> (u8, usize) {
-    deliver(opened_image(book, id, source, destination, period), out)
+pub fn open(book: &[u8], asked: Open, out: &mut [u8]) -> (u8, usize) {
+    let opened = read(book).and_then(|book| change::open(&book, asked));
+    deliver(opened.map(in_newest_version), out)
 }
 
 /// Closes a stream.
 pub fn close(book: &[u8], id: u16, out: &mut [u8]) -> (u8, usize) {
-    deliver(closed_image(book, id), out)
+    let closed = read(book).and_then(|book| change::close(&book, id));
+    deliver(closed.map(in_newest_version), out)
 }
 
 /// Expands one node's slot table.
@@ -97,49 +94,25 @@ fn deliver(answer: Result<Vec<u8>, Refusal>, out: &mut [u8]) -> (u8, usize) {
     }
 }
 
-fn new_image(plan: Plan, n: u8, topology: &[u8]) -> Result<Vec<u8>, Refusal> {
+/// The image of a new or changed book.
+fn in_newest_version(book: Book) -> Vec<u8> {
+    image::write(Version::NEWEST, &book)
+}
+
+fn new_book(plan: Plan, n: u8, topology: &[u8]) -> Result<Book, Refusal> {
     refuse_if(!plan.is_in_range() || !NODES.contains(&n), Refusal::OutOfRange)?;
     let topology = Topology::read(n, topology).ok_or(Refusal::UnsoundTopology)?;
-    Ok(image::write(&Book { plan, topology, streams: Vec::new() }))
+    Ok(Book { plan, topology, rows: Vec::new() })
 }
 
-fn opened_image(
-    book: &[u8],
-    id: u16,
-    source: u8,
-    destination: u8,
-    period: u16,
-) -> Result<Vec<u8>, Refusal> {
-    let mut book = image::read(book)?;
-    refuse_if(id == 0, Refusal::IdIsZero)?;
-    refuse_if(source.max(destination) >= book.topology.nodes(), Refusal::NoSuchNode)?;
-    refuse_if(source == destination, Refusal::SourceIsDestination)?;
-    let period = period_of(period).ok_or(Refusal::NoSuchPeriod)?;
-    refuse_if(book.holds(id), Refusal::IdInBook)?;
-    let route = planners_route(&book.topology, source, destination)?;
-    refuse_if(is_full_for(&book, &route), Refusal::BookIsFull)?;
-    let offsets = first_placing(&book, &route, period).ok_or(Refusal::NoPlacing)?;
-    book.add(Stream { id, period, route, offsets });
-    Ok(image::write(&book))
-}
-
-/// 64 streams already, or the hops would pass 512.
-fn is_full_for(book: &Book, route: &[u8]) -> bool {
-    let new_hops = route.len() - 1;
-    book.streams.len() >= MAX_STREAMS || book.hops() + new_hops > MAX_HOPS
-}
-
-fn closed_image(book: &[u8], id: u16) -> Result<Vec<u8>, Refusal> {
-    let mut book = image::read(book)?;
-    refuse_if(id == 0, Refusal::IdIsZero)?;
-    refuse_if(!book.holds(id), Refusal::IdNotInBook)?;
-    book.remove(id);
-    Ok(image::write(&book))
+/// Reads a book of any version.
+fn read(book: &[u8]) -> Result<Book, Refusal> {
+    image::read(book).map(|(_, book)| book)
 }
 
 /// Reads a book for a call about one of its nodes.
 fn read_with_node(book: &[u8], node: u8) -> Result<Book, Refusal> {
-    let book = image::read(book)?;
+    let book = read(book)?;
     refuse_if(node >= book.topology.nodes(), Refusal::NoSuchNode)?;
     Ok(book)
 }

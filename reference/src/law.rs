@@ -1,55 +1,79 @@
 //! What makes the rows of a book lawful.
 
-use crate::book::{Book, MAX_ROUTE_HOPS};
+use crate::book::{Book, MAX_ROUTE_HOPS, MAX_SHORT_HOPS};
 use crate::hop::{PlacedHop, clash, hops_of, meet};
 use crate::plan::{Plan, period_of};
+use crate::route::have_common_middle;
+use crate::row::{FIRST_ROUTE, Row, SECOND_ROUTE};
 use crate::slots::SlotSet;
-use crate::stream::Stream;
 use crate::topology::Topology;
 
-/// The rows are lawful one by one and rise strictly by id.
+/// The rows are lawful one by one, rise strictly by id and then route, and
+/// every second route is lawful beside its first.
 pub fn rows_are_lawful(book: &Book) -> bool {
     let data = book.plan.data_slots();
-    let lawful = |stream| row_is_lawful(stream, &book.plan, &data, &book.topology);
-    rises_strictly(book.streams.iter().map(|stream| stream.id)) && book.streams.iter().all(lawful)
+    let lawful = |row| row_is_lawful(row, &book.plan, &data, &book.topology);
+    rises_strictly(book.rows.iter().map(Row::key))
+        && book.rows.iter().all(lawful)
+        && second_routes_are_lawful(&book.rows)
 }
 
 /// One row by itself is lawful; `data` are the data slots of the plan.
-fn row_is_lawful(stream: &Stream, plan: &Plan, data: &SlotSet, topology: &Topology) -> bool {
-    stream.id != 0
-        && period_of(u16::from(stream.period)).is_some()
-        && (1..=MAX_ROUTE_HOPS).contains(&stream.offsets.len())
-        && route_is_lawful(&stream.route, topology)
-        && offsets_are_lawful(stream, plan, data)
+fn row_is_lawful(row: &Row, plan: &Plan, data: &SlotSet, topology: &Topology) -> bool {
+    row.id != 0
+        && [FIRST_ROUTE, SECOND_ROUTE].contains(&row.route)
+        && period_of(u16::from(row.period)).is_some()
+        && (1..=MAX_ROUTE_HOPS).contains(&row.offsets.len())
+        && nodes_are_lawful(&row.nodes, topology)
+        && offsets_are_lawful(row, plan, data)
 }
 
 /// Nodes distinct, below N and each linked to the next.
-fn route_is_lawful(route: &[u8], topology: &Topology) -> bool {
-    route.iter().all(|&node| node < topology.nodes())
-        && (1..route.len()).all(|place| !route[..place].contains(&route[place]))
-        && hops_of(route).all(|hop| topology.linked(hop.sender, hop.receiver))
+fn nodes_are_lawful(nodes: &[u8], topology: &Topology) -> bool {
+    nodes.iter().all(|&node| node < topology.nodes())
+        && (1..nodes.len()).all(|place| !nodes[..place].contains(&nodes[place]))
+        && hops_of(nodes).all(|hop| topology.linked(hop.sender, hop.receiver))
 }
 
 /// Offsets rise, stay below K×S and take only data slots in all repeats.
-fn offsets_are_lawful(stream: &Stream, plan: &Plan, data: &SlotSet) -> bool {
+fn offsets_are_lawful(row: &Row, plan: &Plan, data: &SlotSet) -> bool {
     let lawful = |&offset: &u16| {
         let offset = usize::from(offset);
-        offset < plan.period_slots(stream.period)
-            && plan.slots_of(offset, stream.period).is_within(data)
+        offset < plan.period_slots(row.period) && plan.slots_of(offset, row.period).is_within(data)
     };
-    rises_strictly(stream.offsets.iter().copied()) && stream.offsets.iter().all(lawful)
+    rises_strictly(row.offsets.iter()) && row.offsets.iter().all(lawful)
 }
 
-/// Each number is above the one before.
-fn rises_strictly(numbers: impl Iterator<Item = u16>) -> bool {
-    let numbers: Vec<u16> = numbers.collect();
-    numbers.windows(2).all(|pair| pair[0] < pair[1])
+/// Each is above the one before.
+fn rises_strictly<T: PartialOrd>(list: impl Iterator<Item = T>) -> bool {
+    let list: Vec<T> = list.collect();
+    list.windows(2).all(|pair| pair[0] < pair[1])
+}
+
+/// Every row 2 stands right after a row 1 that it may stand beside.
+fn second_routes_are_lawful(rows: &[Row]) -> bool {
+    (0..rows.len()).filter(|&place| rows[place].route == SECOND_ROUTE).all(|place| {
+        let before = place.checked_sub(1).map(|before| &rows[before]);
+        before.is_some_and(|first| second_is_lawful(first, &rows[place]))
+    })
+}
+
+/// The row 2 has the id, period and ends of the row 1, at most 6 hops, another
+/// route and no common middle.
+fn second_is_lawful(first: &Row, second: &Row) -> bool {
+    (first.id, first.route) == (second.id, FIRST_ROUTE)
+        && first.period == second.period
+        && first.nodes.first() == second.nodes.first()
+        && first.nodes.last() == second.nodes.last()
+        && second.offsets.len() <= MAX_SHORT_HOPS
+        && first.nodes != second.nodes
+        && !have_common_middle(&first.nodes, &second.nodes)
 }
 
 /// Two clashing hops of different rows meet.
 pub fn clashing_hops_meet(book: &Book) -> bool {
     let rows: Vec<Vec<PlacedHop>> =
-        book.streams.iter().map(|stream| stream.placed_hops(&book.plan)).collect();
+        book.rows.iter().map(|row| row.placed_hops(&book.plan)).collect();
     let at_odds = |one: &PlacedHop, two: &PlacedHop| {
         clash(&book.topology, one.hop, two.hop) && meet(one, two)
     };

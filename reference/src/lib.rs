@@ -6,13 +6,15 @@
 //! struct with a list of rows.
 //!
 //! One subject a file, in document 01's order:
-//! `plan`, `slots` (tiles, slots, periods); `topology`, `node_set`,
-//! `route`, `hop`, `placing` (routes and clashes); `stream`, `book`, `law`, `image` (the
-//! image); `refusal`, `calls` (what each call says back); `table`, `listing`
-//! (a node's table and balance). `frame` carries calls between programs.
+//! `plan`, `slots` (tiles, slots, periods); `node_set`, `topology`, `route`,
+//! `hop`, `placing` (routes and clashes); `row`, `book`, `law`, `version`,
+//! `image` (the image); `refusal`, `change`, `calls` (what each call says
+//! back); `table`, `listing` (a node's table and balance). `frame` and
+//! `request` carry calls between programs.
 
 pub mod book;
 pub mod calls;
+pub mod change;
 pub mod frame;
 pub mod hop;
 pub mod image;
@@ -22,8 +24,10 @@ pub mod node_set;
 pub mod placing;
 pub mod plan;
 pub mod refusal;
+pub mod request;
 pub mod route;
+pub mod row;
 pub mod slots;
-pub mod stream;
 pub mod table;
 pub mod topology;
+pub mod version;

@@ -7,7 +7,7 @@ use crate::table::balance;
 pub fn listing(image: &[u8]) -> String {
     match image::read(image) {
         Err(refusal) => format!("refused {}\n", refusal as u8),
-        Ok(book) => {
+        Ok((_, book)) => {
             let mut lines = String::from("node data used free\n");
             for node in 0..book.topology.nodes() {
                 let balance = balance(&book, node);

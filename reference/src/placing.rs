@@ -1,14 +1,13 @@
 //! Placing: the lexicographically first rising list of offsets that keeps the
-//! rules beside the streams already there.
+//! rules beside the rows already there.
 
 use crate::book::Book;
 use crate::hop::{Hop, clash, hops_of};
 use crate::slots::SlotSet;
 
-/// The first placing of a stream with this route and period; none if there is
-/// no placing.
+/// The first placing of a route with this period; none if there is no placing.
 ///
-/// Whether an offset serves a hop hangs on the book alone, not on the stream's
+/// Whether an offset serves a hop hangs on the book alone, not on the route's
 /// other offsets: those must only rise. So taking for each hop in turn the
 /// lowest serving offset above the one before gives the first list. And if any
 /// list exists, hop by hop its offsets are at or above these, so none is
@@ -34,8 +33,8 @@ pub fn serving_offsets(book: &Book, hop: Hop, period: u8) -> impl Iterator<Item 
 /// The data slots that no clashing hop of the book takes.
 fn free_slots(book: &Book, hop: Hop) -> SlotSet {
     let mut free = book.plan.data_slots();
-    for stream in &book.streams {
-        for placed in stream.placed_hops(&book.plan) {
+    for row in &book.rows {
+        for placed in row.placed_hops(&book.plan) {
             if clash(&book.topology, hop, placed.hop) {
                 free.remove_all(&placed.slots);
             }

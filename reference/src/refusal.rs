@@ -21,7 +21,7 @@ pub enum Refusal {
     NoSuchPeriod = 6,
     /// No route exists.
     NoRoute = 7,
-    /// 64 streams already, or the hops would pass 512.
+    /// The rows would pass 64, or the hops 512.
     BookIsFull = 8,
     /// No placing exists.
     NoPlacing = 9,
@@ -35,13 +35,15 @@ pub enum Refusal {
     WrongMark = 13,
     /// Under 16 bytes, or not the length the header gives.
     WrongLength = 14,
-    /// Not n lawful rows, rising strictly by id, with the stated hops, filling
-    /// the image.
+    /// Not n lawful rows, rising strictly by id and then route, with the stated
+    /// hops, filling the image.
     UnlawfulRows = 15,
     /// Two clashing hops of different rows meet.
     ClashingHopsMeet = 16,
     /// Routes exist, and every one has over 15 hops.
     TooFar = 17,
+    /// No such second route.
+    NoSecondRoute = 18,
 }
 
 /// Refuses if the condition applies.

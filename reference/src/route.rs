@@ -1,4 +1,5 @@
-//! Routes: the planner's, and the list of short ones.
+//! Routes: the planner's first, the second beside it, and the list of short
+//! ones.
 
 use crate::book::{MAX_ROUTE_HOPS, MAX_SHORT_HOPS};
 use crate::node_set::NodeSet;
@@ -53,16 +54,39 @@ fn distances(topology: &Topology, destination: u8) -> Vec<Option<usize>> {
     found
 }
 
+/// The nodes of a route between its ends.
+fn middle(route: &[u8]) -> &[u8] {
+    &route[1..route.len() - 1]
+}
+
+/// Some node is in the middle of both routes.
+pub fn have_common_middle(one: &[u8], two: &[u8]) -> bool {
+    middle(one).iter().any(|node| middle(two).contains(node))
+}
+
+/// The second route beside this first one: another node list, no middle node
+/// in common, at most 6 hops, the shortest and then the lowest node list.
+pub fn second_route(topology: &Topology, first: &[u8]) -> Option<Vec<u8>> {
+    let (source, destination) = (first[0], first[first.len() - 1]);
+    let search = Search { topology, destination, middles: NodeSet::ALL.without(middle(first)) };
+    // As no fewer hops gave another route, those it gives now are the shortest.
+    // Only one route is not another, so two of them are enough.
+    (1..=MAX_SHORT_HOPS)
+        .find_map(|hops| search.routes(source, hops, 2).into_iter().find(|route| route != first))
+}
+
 /// The first `most` routes of at most 6 hops between two different nodes, in
 /// order of node lists.
 pub fn short_routes(topology: &Topology, source: u8, destination: u8, most: usize) -> Vec<Vec<u8>> {
-    Search { topology, destination }.routes(source, MAX_SHORT_HOPS, most)
+    Search { topology, destination, middles: NodeSet::ALL }.routes(source, MAX_SHORT_HOPS, most)
 }
 
 /// A search for routes to one node.
 struct Search<'a> {
     topology: &'a Topology,
     destination: u8,
+    /// The nodes that may stand in the middle.
+    middles: NodeSet,
 }
 
 impl Search<'_> {
@@ -94,7 +118,7 @@ impl Search<'_> {
     /// Some route begins like this one, goes on to `next` and then takes at
     /// most `hops` hops.
     fn leads_on(&self, route: &[u8], next: u8, hops: usize) -> bool {
-        let open = NodeSet::ALL.without(route);
+        let open = self.middles.with(self.destination).without(route);
         let mut reached = NodeSet::EMPTY.with(next).common(open);
         for _ in 0..hops {
             reached = self.topology.with_neighbours(reached).common(open);

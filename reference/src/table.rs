@@ -2,8 +2,10 @@
 
 use crate::book::Book;
 use crate::plan::repeats;
+use crate::row::{Row, SECOND_ROUTE};
 
-/// What a node does in a slot; the value is the operation number.
+/// What a node does in a slot; the value is the operation's number on a first
+/// route.
 #[derive(Clone, Copy, Debug, PartialEq, Eq)]
 #[repr(u8)]
 pub enum Operation {
@@ -19,15 +21,28 @@ pub enum Operation {
 #[derive(Clone, Copy, Debug, PartialEq, Eq)]
 pub struct Entry {
     pub operation: Operation,
+    /// The operation is one of a second route.
+    pub second: bool,
     /// The stream's id, 0 where there is none.
     pub id: u16,
+}
+
+/// What an operation's number gains on a second route.
+const SECOND_ROUTE_GAIN: u8 = 16;
+
+impl Entry {
+    /// The number in the table.
+    pub fn number(self) -> u8 {
+        self.operation as u8 + if self.second { SECOND_ROUTE_GAIN } else { 0 }
+    }
 }
 
 /// The node's table: an entry for each slot of the cycle.
 pub fn table(book: &Book, node: u8) -> Vec<Entry> {
     let mut entries = idle_table(book);
-    for stream in &book.streams {
-        let hops = stream.placed_hops(&book.plan);
+    for row in &book.rows {
+        let hops = row.placed_hops(&book.plan);
+        let second = row.route == SECOND_ROUTE;
         for (place, placed) in hops.iter().enumerate() {
             let first = place == 0;
             let last = place + 1 == hops.len();
@@ -39,19 +54,19 @@ pub fn table(book: &Book, node: u8) -> Vec<Entry> {
                 continue;
             };
             for slot in placed.slots.iter() {
-                entries[slot] = Entry { operation, id: stream.id };
+                entries[slot] = Entry { operation, second, id: row.id };
             }
         }
     }
     entries
 }
 
-/// The table of a node that no stream touches.
+/// The table of a node that no row touches.
 fn idle_table(book: &Book) -> Vec<Entry> {
     let data = book.plan.data_slots();
     let entry = |slot| {
         let operation = if data.contains(slot) { Operation::Sleep } else { Operation::ControlSlot };
-        Entry { operation, id: 0 }
+        Entry { operation, second: false, id: 0 }
     };
     (0..book.plan.cycle_slots()).map(entry).collect()
 }
@@ -70,7 +85,7 @@ fn receive(last: bool) -> Operation {
 pub fn write(entries: &[Entry]) -> Vec<u8> {
     let bytes = |entry: &Entry| {
         let [high, low] = entry.id.to_be_bytes();
-        [entry.operation as u8, high, low]
+        [entry.number(), high, low]
     };
     entries.iter().flat_map(bytes).collect()
 }
@@ -94,8 +109,7 @@ pub fn balance(book: &Book, node: u8) -> Balance {
 
 /// The sum over hops touching the node of 100/K.
 fn used(book: &Book, node: u8) -> u32 {
-    let of_stream = |stream: &crate::stream::Stream| {
-        stream.hops().filter(|hop| hop.touches(node)).count() * repeats(stream.period)
-    };
-    book.streams.iter().map(of_stream).sum::<usize>() as u32
+    let of_row =
+        |row: &Row| row.hops().filter(|hop| hop.touches(node)).count() * repeats(row.period);
+    book.rows.iter().map(of_row).sum::<usize>() as u32
 }

@@ -4,15 +4,18 @@
 mod common;
 
 use common::*;
-use reference::book::{Book, MAX_ROUTE_HOPS};
+use reference::book::{Book, MAX_ROUTE_HOPS, MAX_SHORT_HOPS};
+use reference::calls;
+use reference::change::Open;
 use reference::hop::{Hop, clash, hops_of};
 use reference::image;
 use reference::placing::{first_placing, serving_offsets};
 use reference::plan::{PERIODS, PLAN_TILES, Plan};
 use reference::refusal::Refusal;
-use reference::route::planners_route;
+use reference::route::{have_common_middle, planners_route, second_route, short_routes};
 use reference::table::{Operation, balance, table};
 use reference::topology::Topology;
+use reference::version::Version;
 
 /// A small number generator.
 struct Dice(u64);
@@ -44,7 +47,7 @@ fn small_book(dice: &mut Dice) -> Book {
         }
     }
     let topology = Topology::read(6, &topology(6, &links)).unwrap();
-    let mut book = Book { plan, topology, streams: Vec::new() };
+    let mut book = Book { plan, topology, rows: Vec::new() };
     for id in 1..=dice.below(5) as u16 {
         try_to_open(dice, &mut book, id);
     }
@@ -55,9 +58,10 @@ fn try_to_open(dice: &mut Dice, book: &mut Book, id: u16) {
     let (source, destination) = (dice.below(6) as u8, dice.below(6) as u8);
     let period = PERIODS[dice.below(4) as usize];
     let mut out = vec![0; ROOM];
-    let before = image::write(book);
-    let (number, length) =
-        reference::calls::open(&before, id, source, destination, u16::from(period), &mut out);
+    let before = image::write(Version::NEWEST, book);
+    let second = dice.below(3) == 0;
+    let asked = Open { id, source, destination, period: u16::from(period), second };
+    let (number, length) = calls::open(&before, asked, &mut out);
     if number == 0 {
         *book = read(&out[..length]);
     }
@@ -115,6 +119,52 @@ fn a_route_is_too_far_exactly_if_all_have_over_15_hops() {
     assert!((10..50).contains(&too_far));
 }
 
+/// The routes of at most 6 hops from node 0 to node 5, in order of node lists.
+fn short_by_search(topology: &Topology) -> Vec<Vec<u8>> {
+    let mut found = Vec::new();
+    all_routes(topology, &mut vec![0], 5, &mut found);
+    found.retain(|route| route.len() - 1 <= MAX_SHORT_HOPS);
+    found.sort();
+    found
+}
+
+/// Ten nodes, linked at random.
+fn ten_nodes(dice: &mut Dice) -> Topology {
+    let pairs = (0..10).flat_map(|a| (0..a).map(move |b| (a, b)));
+    let links: Vec<_> = pairs.filter(|_| dice.below(3) == 0).collect();
+    Topology::read(10, &topology(10, &links)).unwrap()
+}
+
+#[test]
+fn the_list_has_the_first_of_all_short_routes() {
+    let mut dice = Dice(7);
+    for _ in 0..60 {
+        let topology = ten_nodes(&mut dice);
+        let mut found = short_by_search(&topology);
+        found.truncate(33);
+        assert_eq!(short_routes(&topology, 0, 5, 33), found);
+    }
+}
+
+#[test]
+fn the_second_route_is_the_first_of_the_shortest_beside_the_first() {
+    let mut dice = Dice(8);
+    let (mut found, mut missed) = (0, 0);
+    while found < 60 || missed < 20 {
+        let topology = ten_nodes(&mut dice);
+        let Ok(first) = planners_route(&topology, 0, 5) else { continue };
+        let mut others = short_by_search(&topology);
+        others.retain(|route| *route != first && !have_common_middle(route, &first));
+        let second = others.into_iter().min_by_key(|route| (route.len(), route.clone()));
+        if second.is_some() {
+            found += 1
+        } else {
+            missed += 1
+        }
+        assert_eq!(second_route(&topology, &first), second);
+    }
+}
+
 /// The first rising list with one number from each set, by trying all in
 /// lexicographic order.
 fn first_by_search(sets: &[Vec<usize>], chosen: &mut Vec<u16>) -> bool {
@@ -166,7 +216,7 @@ fn an_offset_serves_exactly_if_the_row_would_be_lawful() {
             for offset in 0..book.plan.period_slots(5) {
                 let mut with_row = book.clone();
                 with_row.add(row(999, 5, &[hop.sender, hop.receiver], &[offset as u16]));
-                let lawful = image::read(&image::write(&with_row)).is_ok();
+                let lawful = image::read(&image::write(Version::NEWEST, &with_row)).is_ok();
                 assert_eq!(serving.contains(&offset), lawful);
             }
         }
@@ -203,14 +253,10 @@ fn two_hops_meet_exactly_if_offsets_agree_modulo_the_common_divisor() {
     }
 }
 
-/// One request of a list whose order must not matter.
-#[derive(Clone, Copy)]
-struct Open(u16, u8, u8, u16);
-
+/// The number, and the book that comes next.
 fn asked(book: &[u8], open: Open) -> (u8, Vec<u8>) {
-    let Open(id, source, destination, period) = open;
     let mut out = vec![0; ROOM];
-    let (number, length) = reference::calls::open(book, id, source, destination, period, &mut out);
+    let (number, length) = calls::open(book, open, &mut out);
     let next = if number == 0 { out[..length].to_vec() } else { book.to_vec() };
     (number, next)
 }
@@ -223,14 +269,15 @@ fn opens_that_are_apart_give_the_same_in_either_order() {
         let book = small_book(&mut dice);
         let mut any = |id| {
             let period = u16::from(PERIODS[dice.below(4) as usize]);
-            Open(id, dice.below(6) as u8, dice.below(6) as u8, period)
+            let (source, destination) = (dice.below(6) as u8, dice.below(6) as u8);
+            Open { id, source, destination, period, second: dice.below(2) == 0 }
         };
         let (one, two) = (any(100), any(200));
         if !are_apart(&book.topology, one, two) {
             continue;
         }
         tried += 1;
-        let start = image::write(&book);
+        let start = image::write(Version::NEWEST, &book);
         let (first, between) = asked(&start, one);
         let (second, end) = asked(&between, two);
         let (second_alone, other) = asked(&start, two);
@@ -242,13 +289,18 @@ fn opens_that_are_apart_give_the_same_in_either_order() {
 
 /// No hop of one clashes with a hop of the other.
 fn are_apart(topology: &Topology, one: Open, two: Open) -> bool {
-    let hops = |open: Open| -> Vec<Hop> {
-        if open.1 == open.2 {
-            return Vec::new();
-        }
-        let route = planners_route(topology, open.1, open.2).unwrap_or_default();
-        hops_of(&route).collect()
-    };
-    let (ours, theirs) = (hops(one), hops(two));
+    let (ours, theirs) = (hops_asked(topology, one), hops_asked(topology, two));
     ours.iter().all(|&a| theirs.iter().all(|&b| !clash(topology, a, b)))
+}
+
+/// The hops of all routes that an open asks for; none if it is refused one.
+fn hops_asked(topology: &Topology, open: Open) -> Vec<Hop> {
+    if open.source == open.destination {
+        return Vec::new();
+    }
+    let Ok(first) = planners_route(topology, open.source, open.destination) else {
+        return Vec::new();
+    };
+    let second = if open.second { second_route(topology, &first) } else { None };
+    hops_of(&first).chain(hops_of(&second.unwrap_or_default())).collect()
 }

@@ -9,35 +9,50 @@ use reference::listing::listing;
 use reference::plan::Plan;
 use reference::route::planners_route;
 use reference::topology::Topology;
+use reference::version::Version;
 
 #[test]
 fn p1_only_two_slots_serve_three_hops() {
-    assert_eq!(open_refused(&line_a(4), 1, 3, 0, 1), 9);
+    for version in Version::ALL {
+        assert_eq!(open_refused(&stored(version, &line_a(4)), 1, 3, 0, 1), 9);
+    }
 }
 
 #[test]
 fn p2_first_stream() {
     let stream = stream(&p2(), 1);
-    assert_eq!(stream.route, [3, 2, 1, 0]);
+    assert_eq!(stream.nodes, [3, 2, 1, 0]);
     assert_eq!(stream.offsets, [2, 3, 5]);
 }
 
 #[test]
 fn p3_second_stream_shares_slot_2() {
     assert_eq!(stream(&p3(), 1), stream(&p2(), 1));
-    assert_eq!(stream(&p3(), 2).route, [0, 1, 2, 3]);
+    assert_eq!(stream(&p3(), 2).nodes, [0, 1, 2, 3]);
     assert_eq!(stream(&p3(), 2).offsets, [2, 6, 7]);
 }
 
 #[test]
+fn p2_and_p3_on_books_of_every_version() {
+    for version in Version::ALL {
+        assert_eq!(opened(&stored(version, &line_a(4)), 1, 3, 0, 2), p2());
+        assert_eq!(opened(&stored(version, &p2()), 2, 0, 3, 2), p3());
+    }
+}
+
+#[test]
 fn p4_no_slot_is_left() {
-    assert_eq!(open_refused(&p3(), 3, 3, 2, 2), 9);
+    for version in Version::ALL {
+        assert_eq!(open_refused(&stored(version, &p3()), 3, 3, 2, 2), 9);
+    }
 }
 
 #[test]
 fn p5_a_close_makes_room() {
-    let book = opened(&closed(&p3(), 1), 3, 3, 2, 2);
-    assert_eq!(stream(&book, 3).offsets, [2]);
+    for version in Version::ALL {
+        let book = opened(&closed(&stored(version, &p3()), 1), 3, 3, 2, 2);
+        assert_eq!(stream(&book, 3).offsets, [2]);
+    }
 }
 
 #[test]
@@ -66,6 +81,9 @@ fn p8_clashes_in_line_a() {
 #[test]
 fn p9_operations_of_node_2() {
     let table = written(|out| calls::expand(&p2(), 2, out));
+    for version in Version::ALL {
+        assert_eq!(written(|out| calls::expand(&stored(version, &p2()), 2, out)), table);
+    }
     assert_eq!(table.len(), 3 * 400);
     let operations: Vec<u8> = table.chunks(3).map(|entry| entry[0]).collect();
     assert_eq!(operations[..8], [5, 5, 2, 3, 5, 0, 0, 0]);
@@ -76,24 +94,40 @@ fn p9_operations_of_node_2() {
     assert_eq!(ids[..8], [0, 0, 1, 1, 0, 0, 0, 0]);
 }
 
-/// The bytes of P10.
+/// The bytes of P10, in version 1.
 const P10: [u8; 32] = [
     0x53, 0x4C, 0x42, 0x00, 0x01, 0x04, 0x02, 0x00, 0x01, 0x02, 0x01, 0x02, 0x00, 0x00, 0x00, 0x00,
     0, 0, 0, 0, 0, 0, 0, 0x02, 0, 0, 0, 0, 0, 0, 0, 0x01,
 ];
 
+/// P10 with a row more, of one hop.
+fn p11(version: u8, row: &[u8]) -> Vec<u8> {
+    let mut bytes = [&P10, row].concat();
+    (bytes[4], bytes[12], bytes[14]) = (version, 0x01, 0x01);
+    bytes
+}
+
 #[test]
 fn p10_empty_book_of_two_nodes() {
-    assert_eq!(line_a(2), P10);
+    assert_eq!(stored(Version::One, &line_a(2)), P10);
+    assert_eq!(written(|out| calls::rewrite(&P10, out)), P10);
+    let mut version_2 = P10;
+    version_2[4] = 0x02;
+    assert_eq!(line_a(2), version_2);
 }
 
 #[test]
 fn p11_one_row_added() {
-    let mut expected = P10.to_vec();
-    expected[12] = 0x01;
-    expected[14] = 0x01;
-    expected.extend([0x00, 0x07, 0x02, 0x01, 0x01, 0x00, 0x00, 0x02]);
-    assert_eq!(opened(&P10, 7, 1, 0, 2), expected);
+    let version_1 = p11(1, &[0x00, 0x07, 0x02, 0x01, 0x01, 0x00, 0x00, 0x02]);
+    let version_2 = p11(2, &[0x00, 0x07, 0x01, 0x02, 0x01, 0x01, 0x00, 0x00, 0x02]);
+    assert_eq!(opened(&P10, 7, 1, 0, 2), version_2);
+    assert_eq!(opened(&line_a(2), 7, 1, 0, 2), version_2);
+    assert_eq!(stored(Version::One, &version_2), version_1);
+    for book in [version_1, version_2] {
+        assert_eq!(calls::check(&book), (0, 0));
+        assert_eq!(written(|out| calls::rewrite(&book, out)), book);
+        assert_eq!(closed(&book, 7), line_a(2));
+    }
 }
 
 #[test]
@@ -107,7 +141,7 @@ const OPEN_PLAN: (u8, u8, u16, u8, u8) = (4, 1, 0, 0, 0);
 #[test]
 fn run_15_hops_are_accepted_and_16_are_too_far() {
     let book = opened(&new_book(OPEN_PLAN, &line(16)), 1, 0, 15, 100);
-    assert_eq!(stream(&book, 1).route, (0..=15).collect::<Vec<u8>>());
+    assert_eq!(stream(&book, 1).nodes, (0..=15).collect::<Vec<u8>>());
     assert_eq!(stream(&book, 1).offsets, (0..15).collect::<Vec<u16>>());
     assert_eq!(open_refused(&new_book(OPEN_PLAN, &line(17)), 1, 0, 16, 100), 17);
 }
@@ -129,7 +163,9 @@ fn balance_listing_of_p2() {
                     1 250 100 150\n\
                     2 250 100 150\n\
                     3 250 50 200\n";
-    assert_eq!(listing(&p2()), expected);
+    for version in Version::ALL {
+        assert_eq!(listing(&stored(version, &p2())), expected);
+    }
 }
 
 #[test]

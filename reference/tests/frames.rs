@@ -27,10 +27,11 @@ fn a_request_has_every_field_in_its_place() {
         bytes: vec![0xEE; 3],
         room: 0x1011,
         fill: 0x12,
+        second: true,
         ..Request::blank(Call::Open)
     };
-    let expected =
-        [3, 1, 2, 3, 4, 5, 6, 7, 8, 9, 10, 11, 12, 13, 0, 3, 0x10, 0x11, 0x12, 0xEE, 0xEE, 0xEE];
+    let fields = [3, 1, 2, 3, 4, 5, 6, 7, 8, 9, 10, 11, 12, 13, 0, 3, 0x10, 0x11, 0x12, 1];
+    let expected = [&fields[..], &[0; 24], &[0xEE; 3]].concat();
     assert_eq!(bytes_of(&request), expected);
     assert_eq!(Request::read(&mut &expected[..]).unwrap(), Some(request));
 }
@@ -82,4 +83,19 @@ fn an_answer_reads_as_it_was_written() {
     answer.write(&mut bytes).unwrap();
     assert_eq!(Answer::read(&mut &bytes[..], 99).unwrap(), answer);
     assert_eq!(answer.written(), p2());
+}
+
+#[test]
+fn a_list_of_routes_is_answered_with_its_mark() {
+    // 33 nodes between 0 and 1: 32 routes of 4 bytes, and one more.
+    let links: Vec<_> = (2..35).flat_map(|middle| [(0, middle), (middle, 1)]).collect();
+    let book = new_book(PLAN_A, &topology(35, &links));
+    let list = |room| Request {
+        destination: 1,
+        bytes: book.clone(),
+        room,
+        ..Request::blank(Call::Routes)
+    };
+    assert_eq!(list(128).answer().counts, [128, 1, 0]);
+    assert_eq!(served(&[list(127)])[..13], [12, 0, 0, 0, 0, 0, 0, 0, 0, 0, 0, 0, 0]);
 }

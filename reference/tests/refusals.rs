@@ -4,14 +4,14 @@ mod common;
 
 use common::*;
 use reference::calls;
-use reference::image::LONGEST_IMAGE;
+use reference::version::Version;
 
 /// S=32, every slot data.
 const WIDE_PLAN: (u8, u8, u16, u8, u8) = (32, 1, 0, 0, 0);
 
-/// A book with one fault for each image number, number first.
+/// A version 1 book with one fault for each image number, number first.
 fn damaged_books() -> Vec<(u8, Vec<u8>)> {
-    let book = p3();
+    let book = stored(Version::One, &p3());
     let changed = |place: usize, value: u8| {
         let mut bytes = book.clone();
         bytes[place] = value;
@@ -26,7 +26,9 @@ fn damaged_books() -> Vec<(u8, Vec<u8>)> {
         (13, changed(1, 0x4D)),
         (13, changed(2, 0x41)),
         (13, changed(3, 1)),
-        (13, changed(4, 2)),
+        (13, changed(4, 0)),
+        (13, changed(4, Version::NEWEST as u8 + 1)),
+        (14, changed(4, 2)),
         (10, changed(5, 0)),
         (10, changed(5, 33)),
         (10, changed(6, 3)),
@@ -96,10 +98,16 @@ fn every_call_gives_the_image_numbers_first() {
     for (number, book) in damaged_books() {
         assert_eq!(calls::check(&book), (number, 0));
         assert_eq!(refused(0, |out| calls::rewrite(&book, out)), number);
-        assert_eq!(refused(0, |out| calls::open(&book, 0, 255, 255, 3, out)), number);
+        assert_eq!(refused(0, |out| calls::open(&book, plain(0, 255, 255, 3), out)), number);
         assert_eq!(refused(0, |out| calls::close(&book, 0, out)), number);
         assert_eq!(refused(0, |out| calls::expand(&book, 255, out)), number);
         assert_eq!(calls::balance(&book, 255), (number, 0, 0, 0));
+        let list = |out: &mut [u8]| {
+            let (number, length, more) = calls::routes(&book, 255, 255, out);
+            assert!(!more);
+            (number, length)
+        };
+        assert_eq!(refused(0, list), number);
     }
 }
 
@@ -127,29 +135,37 @@ fn image_numbers_come_in_order() {
 fn stated_hops_and_rows_must_fill_the_image() {
     // Three rows fewer and five hops more give the same length.
     let book = with_rows(&line_a(4), vec![row(1, 2, &[0, 1], &[2])]);
-    let mut few_rows = book.clone();
+    let mut few_rows = stored(Version::One, &book);
     few_rows[12] = 0;
     few_rows.extend([0; 1]);
     few_rows[14] = 3;
     assert_eq!(few_rows.len(), 16 + 32 + 9);
     assert_eq!(calls::check(&few_rows), (15, 0));
     let rows = (1..=4).map(|id| row(id, 5, &[0, 1], &[4 * id + 3])).collect();
-    let mut book = with_rows(&new_book((4, 1, 0, 0, 0), &line(4)), rows);
-    assert_eq!(calls::check(&book), (0, 0));
-    (book[12], book[14]) = (1, 9);
-    assert_eq!(calls::check(&book), (15, 0));
+    let book = with_rows(&new_book((4, 1, 0, 0, 0), &line(4)), rows);
+    for (version, hops) in [(Version::One, 4 + 5), (Version::Two, 4 + 6)] {
+        let mut book = stored(version, &book);
+        assert_eq!(calls::check(&book), (0, 0));
+        // Three rows fewer have the bytes of so many hops.
+        (book[12], book[14]) = (1, hops);
+        assert_eq!(calls::check(&book), (15, 0));
+    }
 }
 
 #[test]
 fn check_gives_0() {
-    assert_eq!(calls::check(&p3()), (0, 0));
+    for version in Version::ALL {
+        assert_eq!(calls::check(&stored(version, &p3())), (0, 0));
+    }
 }
 
 #[test]
 fn rewrite_gives_0_and_12() {
-    let book = p3();
-    assert_eq!(written(|out| calls::rewrite(&book, out)), book);
-    assert_eq!(refused(book.len() - 1, |out| calls::rewrite(&book, out)), 12);
+    for version in Version::ALL {
+        let book = stored(version, &p3());
+        assert_eq!(written(|out| calls::rewrite(&book, out)), book);
+        assert_eq!(refused(book.len() - 1, |out| calls::rewrite(&book, out)), 12);
+    }
 }
 
 #[test]
@@ -184,11 +200,11 @@ fn open_gives_17_where_every_route_is_over_15_hops() {
     let far = new_book(WIDE_PLAN, &line(64));
     assert_eq!(open_refused(&far, 1, 0, 63, 100), 17);
     assert_eq!(open_refused(&far, 1, 63, 47, 100), 17);
-    assert_eq!(stream(&opened(&far, 1, 63, 48, 100), 1).route, (48..=63).rev().collect::<Vec<_>>());
+    assert_eq!(stream(&opened(&far, 1, 63, 48, 100), 1).nodes, (48..=63).rev().collect::<Vec<_>>());
     // In a ring of 31 the way round to node 16 has 16 hops one way, 15 the other.
     let links: Vec<_> = (0..31).map(|node| (node, (node + 1) % 31)).collect();
     let ring = new_book(WIDE_PLAN, &topology(31, &links));
-    assert_eq!(stream(&opened(&ring, 1, 0, 16, 100), 1).route[1], 30);
+    assert_eq!(stream(&opened(&ring, 1, 0, 16, 100), 1).nodes[1], 30);
 }
 
 /// `streams` streams of `hops` hops each, on a line of 64.
@@ -199,31 +215,31 @@ fn loaded(streams: u16, hops: u8) -> Vec<u8> {
 
 #[test]
 fn open_gives_8() {
-    // 64 streams, few hops.
+    // 64 rows, few hops.
     let book = loaded(64, 1);
     assert_eq!(open_refused(&book, 65, 0, 1, 100), 8);
     assert_eq!(open_refused(&book, 64, 0, 1, 100), 2);
     // 17 before 8, and 2 before 17.
     assert_eq!(open_refused(&book, 65, 0, 63, 100), 17);
     assert_eq!(open_refused(&book, 64, 0, 63, 100), 2);
-    // 510 hops, few streams: two more fit, three do not.
+    // 510 hops, few rows: two more fit, three do not.
     let book = loaded(34, 15);
     assert_eq!(open_refused(&book, 65, 0, 3, 1), 8);
     let full = opened(&book, 65, 40, 42, 1);
     assert_eq!(open_refused(&full, 66, 40, 41, 1), 8);
     // 8 before 9 before 12.
-    assert_eq!(refused(0, |out| calls::open(&full, 66, 0, 1, 1, out)), 8);
-    assert_eq!(refused(0, |out| calls::open(&book, 66, 0, 1, 1, out)), 9);
+    assert_eq!(refused(0, |out| calls::open(&full, plain(66, 0, 1, 1), out)), 8);
+    assert_eq!(refused(0, |out| calls::open(&book, plain(66, 0, 1, 1), out)), 9);
 }
 
 #[test]
 fn open_gives_9_and_12() {
-    assert_eq!(refused(0, |out| calls::open(&p3(), 3, 3, 2, 2, out)), 9);
+    assert_eq!(refused(0, |out| calls::open(&p3(), plain(3, 3, 2, 2), out)), 9);
     let length = p3().len();
-    let open = |room| refused(room, |out| calls::open(&p2(), 2, 0, 3, 2, out));
+    let open = |room| refused(room, |out| calls::open(&p2(), plain(2, 0, 3, 2), out));
     assert_eq!((open(0), open(length - 1)), (12, 12));
     let mut out = vec![FILL; length];
-    assert_eq!(calls::open(&p2(), 2, 0, 3, 2, &mut out), (0, length));
+    assert_eq!(calls::open(&p2(), plain(2, 0, 3, 2), &mut out), (0, length));
     assert_eq!(out, p3());
 }
 
@@ -255,8 +271,11 @@ fn balance_gives_0_and_4() {
 #[test]
 fn the_longest_book_stands() {
     let book = loaded(64, 8);
-    assert_eq!(book.len(), LONGEST_IMAGE);
-    assert_eq!(calls::check(&book), (0, 0));
-    assert_eq!(open_refused(&book, 65, 40, 41, 100), 8);
-    assert_eq!(refused(LONGEST_IMAGE - 1, |out| calls::rewrite(&book, out)), 12);
+    for (version, longest) in [(Version::One, 2384), (Version::Two, 2448)] {
+        let book = stored(version, &book);
+        assert_eq!((book.len(), version.longest_image()), (longest, longest));
+        assert_eq!(calls::check(&book), (0, 0));
+        assert_eq!(open_refused(&book, 65, 40, 41, 100), 8);
+        assert_eq!(refused(longest - 1, |out| calls::rewrite(&book, out)), 12);
+    }
 }

@@ -7,7 +7,7 @@ USAGE = {
     "new": "BOOK PLAN",
     "check": "BOOK [--json]",
     "show": "BOOK [TILE] [--stream ID] [--node NODE] [--no-lists] [--json]",
-    "open": "BOOK ID SOURCE DESTINATION PERIOD",
+    "open": "BOOK ID SOURCE DESTINATION PERIOD [second]",
     "close": "BOOK ID",
     "quote": "BOOK SOURCE DESTINATION [--json]",
     "routes": "BOOK SOURCE DESTINATION [--json]",
@@ -54,8 +54,24 @@ def refusals(room):
     refused("17: every route has over 15 hops (from node 16 to node 0, period 100)", "open", "long.book", "1", "16", "0", "100")
     refused("17: every route has over 15 hops (from node 16 to node 0)", "quote", "long.book", "16", "0")
     refused("9: no free slots for this stream (from node 0 to node 1, period 100)", "open", "apart.book", "1", "0", "1", "100")
-    refused("8: the book is full: 64 streams or 512 hops (from node 1 to node 2, period 100)", "open", "site.book", "100", "1", "2", "100")
-    refused("8: the book is full: 64 streams or 512 hops (from node 1 to node 2)", "quote", "site.book", "1", "2")
+    refused("8: the book is full: 64 routes or 512 hops (from node 1 to node 2, period 100)", "open", "site.book", "100", "1", "2", "100")
+    refused("8: the book is full: 64 routes or 512 hops (from node 1 to node 2)", "quote", "site.book", "1", "2")
+    # 18 where no other route exists, all over 6 hops, or by a relay of the first; then 8 of both routes.
+    for book, source, destination in [("kiln.book", "1", "2"), ("pond.book", "3", "1"), ("pond.book", "10", "0")]:
+        said = "18: no second route of at most 6 hops by other relays (from node %s to node %s, period 100)" % (source, destination)
+        refused(said, "open", book, "8", source, destination, "100", "second")
+    one_left = work_out.Book.read(room.get("site.book")).without(64)
+    room.put("left.book", one_left.image())
+    refused("8: the book is full: 64 routes or 512 hops (from node 0 to node 1, period 100)", "open", "left.book", "100", "0", "1", "100", "second")
+    room.says(0, work_out.quote(one_left, 0, 1), "quote", "left.book", "0", "1")
+    check("     second route: refused 8: the book is full: 64 routes or 512 hops\n" in work_out.quote(one_left, 0, 1), "a book with room for one route")
+    # One slot a tile on a ring of four: the first route leaves no slots for the second.
+    room.put("square.plan", b"slots 1\ntiles up\ncontrol 0 0\nnodes 4\nlink 0 1\nlink 0 2\nlink 1 3\nlink 2 3\n")
+    room.says(0, "made: 4 nodes, 0 streams of at most 64, 0 hops of at most 512\n", "new", "square.book", "square.plan")
+    refused("9: no free slots for this stream (from node 0 to node 3, period 2)", "open", "square.book", "1", "0", "3", "2", "second")
+    square = work_out.Book.read(room.get("square.book"))
+    room.says(0, work_out.quote(square, 0, 3), "quote", "square.book", "0", "3")
+    check("     second route: refused 9: no free slots for this stream\n" in work_out.quote(square, 0, 3), "a second route without slots")
     none = "".join("period %3d: refused 9: no free slots for this stream\n" % k for k in [1, 2, 5, 10, 20, 50, 100])
     room.says(1, "from node 1 to node 0\n" + none, "quote", "apart.book", "1", "0")
     room.says(1, '{"refused":4,"words":"the site has no node of this number","about":"node 8"}\n', "balance", "kiln.book", "8", "--json")
@@ -79,27 +95,28 @@ def lists(room):
 def images(room):
     """A book that is none, by every number that a book has."""
     good = room.get("kiln.book")
-    row = good.index(bytes([0, 1, 10, 7]))
-    second = good.index(bytes([0, 2, 20, 7]))
+    row = good.index(bytes([0, 1, 1, 10, 7]))
+    second = good.index(bytes([0, 2, 1, 20, 7]))
     # Stream 5 goes 6 to 7 in slot 4; in slot 2 node 7 sends for stream 1.
     clash = good[:-1] + b"\x02"
     cases = [(b"", "14: the book is cut short, or not as long as its head says"), (good[:15], "14: the book is cut short, or not as long as its head says"),
              (good[:-1], "14: the book is cut short, or not as long as its head says"), (good + b"x", "14: the book is cut short, or not as long as its head says"),
              (good + bytes(100000), "14: the book is cut short, or not as long as its head says"),
-             (b"X" + good[1:], "13: this is no book of version 1: its mark or its version is wrong"),
-             (good[:4] + b"\x09" + good[5:], "13: this is no book of version 1: its mark or its version is wrong"),
+             (b"X" + good[1:], "13: this is no book of version 1 or 2: its mark or its version is wrong"),
+             (good[:4] + b"\x09" + good[5:], "13: this is no book of version 1 or 2: its mark or its version is wrong"),
              (good[:5] + b"\x21" + good[6:], "10: a number of the plan or of the book's head is out of its range"),
              (good[:16] + bytes(7) + b"\x03" + good[24:], "11: the links are not sound: a self-link, a one-way link or no such node"),
-             (good[:row + 2] + b"\x03" + good[row + 3:], "15: the rows of the book's streams are not lawful"),
+             (good[:row + 3] + b"\x03" + good[row + 4:], "15: the rows of the book's streams are not lawful"),
+             (good[:row + 2] + b"\x02" + good[row + 3:], "15: the rows of the book's streams are not lawful"),
              (good[:second + 1] + b"\x01" + good[second + 2:], "15: the rows of the book's streams are not lawful"),
-             (clash, "16: hops of two streams clash and meet in a slot")]
+             (clash, "16: hops of two routes clash and meet in a slot")]
     for place, (data, words) in enumerate(cases):
         room.put("bad.book", data)
         line = "refused %s (bad.book)\n" % words
         room.says(1, line, "check", "bad.book")
         command = [["open", "bad.book", "8", "1", "2", "5"], ["close", "bad.book", "1"], ["show", "bad.book"], ["table", "bad.book"],
                    ["balance", "bad.book", "1"], ["quote", "bad.book", "1", "2"], ["routes", "bad.book", "1", "2"], ["replan", "bad.book", "kiln.plan", "n.book"], ["page", "bad.book"]]
-        for words in command if place in (2, 11) else command[place % 8:place % 8 + 1]:
+        for words in command if place in (2, 12) else command[place % 8:place % 8 + 1]:
             room.says(1, line, *words)
         check(room.get("bad.book") == data, "a book that is none was changed")
     check("n.book" not in room.names(), "replan made a book of one that is none")
@@ -128,7 +145,9 @@ def usage(room):
     room.says(2, "usage: lindurask show %s\n" % USAGE["show"], "show", "kiln.book", "--stream")
     check(room.run("help").out == room.run("--help").out == room.run("-h").out == room.run("help", "help").out, "the ways to ask for help differ")
     version = [line.split('"')[1] for line in open(os.path.join(ROOT, "cli/Cargo.toml")) if line.startswith("version")][0]
-    room.says(0, "lindurask %s, books of version 1\n" % version, "--version")
+    room.says(0, "lindurask %s, books of version 2\n" % version, "--version")
+    for word in ["Second", "2", "", "--second", "second second"]:
+        room.says(2, "usage: lindurask open %s\n" % USAGE["open"], "open", "pond.book", "8", "4", "9", "20", word)
 
 
 def numbers(room):

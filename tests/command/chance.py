@@ -1,4 +1,4 @@
-"""Books and plans made by chance: whole answers beside document 01 worked out, and bytes that are no book at all."""
+"""Books and plans made by chance: whole answers beside documents 01 and 02 worked out, and bytes that are no book at all."""
 import os
 import random
 
@@ -27,24 +27,24 @@ def plan(dice):
 
 
 def changed(room, name, book, dice):
-    """Opens and closes by chance; what is said and what the file then holds are worked out."""
+    """Opens, some with a second route, and closes by chance; what is said and what the file then holds are worked out."""
     for _ in range(STEPS):
         id, period = dice.choice([dice.randint(1, 12), dice.randint(1, 65535)]), dice.choice(work_out.PERIODS)
-        own = next((s for s in book.streams if s.id == id), None)
+        own, second = book.stream(id), dice.random() < 0.5
         source, destination = dice.sample(range(book.n), 2)
         if own:
             said = room.run("close", name, str(id))
-            check(said.status == 0 and said.all == work_out.stream("closed ", own) + work_out.gives_back(own), said.all)
+            check(said.status == 0 and said.all == work_out.closed(own), said.all)
             book = book.without(id)
         else:
-            said = room.run("open", name, str(id), str(source), str(destination), str(period))
-            got = book.opened(id, source, destination, period)
+            said = room.run("open", name, str(id), str(source), str(destination), str(period), *["second"] * second)
+            got = book.opened(id, source, destination, period, second)
             if isinstance(got, int):
                 line = "refused %d: %s (from node %d to node %d, period %d)\n" % (got, work_out.WORDS[got], source, destination, period)
                 check(said.status == 1 and said.all == line, said.all + line)
             else:
                 check(said.status == 0 and said.all == work_out.stream("opened ", got), said.all)
-                book = book.with_stream(got)
+                book = book.with_ways(got)
         check(room.get(name) == book.image(), "the file holds another book")
     return book
 
@@ -56,7 +56,7 @@ def read(room, name, book, dice):
     source, destination = dice.sample(range(book.n), 2)
     wants = [(["check", name], "lawful: " + work_out.counts(book)), (["balance", name], work_out.balances(book, every)),
              (["balance", name, "--json"], work_out.balance_json(book, every)), (["table", name, str(node)], work_out.tables(book, [node])),
-             (["table", name, "--json"], work_out.table_json(book, every)), (["show", name, "--json"], work_out.show_json(book, book.streams)),
+             (["table", name, "--json"], work_out.table_json(book, every)), (["show", name, "--json"], work_out.show_json(book, book.streams())),
              (["routes", name, str(source), str(destination)], work_out.list_of_routes(book, source, destination)),
              (["routes", name, str(source), str(destination), "--json"], work_out.routes_json(book, source, destination)),
              (["show", name, str(start)], work_out.show(book, start)), (["show", name, "--node", str(node)], work_out.show(book, node=node))]
@@ -65,7 +65,7 @@ def read(room, name, book, dice):
         check(said.status == 0 and said.all == want, "%s says\n%s\nand not\n%s" % (words, said.all[:2000], want[:2000]))
         check(words[-1] == "--json" or max(map(len, said.out.split("\n"))) <= 80, "%s is wider than 80 columns" % words)
     said = room.run("quote", name, str(source), str(destination))
-    offers = [got for _, got in work_out.offers(book, source, destination)]
+    offers = [got for _, got, _ in work_out.offers(book, source, destination)]
     if offers[0] in (7, 8, 17):
         check(said.status == 1 and said.all.startswith("refused %d: " % offers[0]), said.all)
     else:
@@ -80,6 +80,10 @@ def site(turn):
         room.put("a.plan", text.encode())
         said = room.run("new", "a.book", "a.plan")
         check(said.status == 0 and said.out == "made: " + work_out.counts(book) and room.get("a.book") == book.image(), "new: %s\n%s" % (said.all, text))
+        if turn % 2:
+            # A book of version 1 is changed into the newest.
+            book = book.in_version(1)
+            room.put("a.book", book.image())
         book = changed(room, "a.book", book, dice)
         read(room, "a.book", book, dice)
         other, target = plan(dice)
@@ -92,7 +96,7 @@ def site(turn):
 def hostile(room):
     """Bytes by chance as books, plans and words: no crash, no hang, and no file changes."""
     dice = random.Random(SEED)
-    books = [room.get(name + ".book") for name in ["kiln", "yard", "site"]]
+    books = [room.get(name + ".book") for name in tool.SAMPLES]
 
     def spoilt(data):
         data = bytearray(data)

@@ -15,11 +15,11 @@ def test(room):
     got = at_once(room, [["open", "many.book", str(id), "1", "0", "100"] for id in range(1, 51)])
     check(all(status == 0 for status, _ in got), "fifty clerks at once: %s" % [g for g in got if g[0]])
     room.says(0, "lawful: 8 nodes, 50 streams of at most 64, 50 hops of at most 512\n", "check", "many.book")
-    offsets = sorted(s.offsets[0] for s in tool.work_out.Book.read(room.get("many.book")).streams)
+    offsets = sorted(way.offsets[0] for way in tool.work_out.Book.read(room.get("many.book")).ways)
     alone = tool.work_out.Book.read(room.empty)
     for id in range(1, 51):
-        alone = alone.with_stream(alone.opened(id, 1, 0, 100))
-    check(offsets == sorted(s.offsets[0] for s in alone.streams), "fifty clerks got other slots than one after the other")
+        alone = alone.with_ways(alone.opened(id, 1, 0, 100))
+    check(offsets == sorted(way.offsets[0] for way in alone.ways), "fifty clerks got other slots than one after the other")
     for name in ["a", "b", "c", "d", "e"]:
         room.put(name + ".book", room.empty)
     before = room.names()

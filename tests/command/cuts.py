@@ -18,7 +18,9 @@ class Case:
         self.room, self.name, self.file, self.before, self.words = room, name, file, before, words
         # The engine's answers are kept, and given again at once: where it is emulated it takes long to start.
         kept = os.path.join(room.path, name + ".answers")
-        self.engine = self.program("engine", '. "%s/scripts/runner.sh"; runner "%s/target/bin/engine"; "${run[@]}" | tee "%s"' % (tool.ROOT, tool.ROOT, kept))
+        built = '. "%s/scripts/runner.sh"; runner "%s/target/bin/engine"' % (tool.ROOT, tool.ROOT)
+        named = os.environ.get("LINDURASK_ENGINE")
+        self.engine = self.program("engine", '%s; "${run[@]}" | tee "%s"' % ('run=("%s")' % named if named else built, kept))
         with self.folder("whole") as folder:
             self.status = self.run(folder).returncode
             self.after = self.held(folder)
@@ -172,7 +174,7 @@ def replaced(case, trace):
     with case.folder("replaced") as folder:
         at, held, other = (os.path.join(folder, name) for name in ["at-lock", case.file, "other"])
         old = tool.work_out.Book.read(case.before)
-        new = old.without(old.streams[0].id)
+        new = old.without(old.ways[0].id)
         run = subprocess.Popen([trace, "hold", "flock:0", at, tool.TOOL, *case.words], cwd=folder, stdout=subprocess.DEVNULL)
         while not os.path.exists(at) and run.poll() is None:
             time.sleep(0.001)

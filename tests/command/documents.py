@@ -37,6 +37,8 @@ def completion(usages):
             os.path.join(tool.ROOT, "cli/lindurask.bash"), name)
         got = subprocess.run(["bash", "-c", words], capture_output=True, text=True).stdout.split()
         check(name == "help" or got == want, "the completion of %s: %s" % (name, got))
+    words = "source '%s'; COMP_WORDS=(lindurask open a 1 2 3 5 s); COMP_CWORD=7; _lindurask; echo \"${COMPREPLY[*]}\"" % os.path.join(tool.ROOT, "cli/lindurask.bash")
+    check(subprocess.run(["bash", "-c", words], capture_output=True, text=True).stdout == "second\n", "the completion of open's last word")
     words = "source '%s'; COMP_WORDS=(lindurask ch); COMP_CWORD=1; _lindurask; echo \"${COMPREPLY[*]}\"" % os.path.join(tool.ROOT, "cli/lindurask.bash")
     check(subprocess.run(["bash", "-c", words], capture_output=True, text=True).stdout == "check\n", "the completion of ch")
 
@@ -66,11 +68,14 @@ def documents(room, usages, refusals):
     for number, words in refusals:
         check("\n| %s | %s |" % (number, words) in answers, "docs/answers.md has other words for %s" % number)
     check(room.run("show", "kiln.book").out in readme, "README.md shows another picture of books/kiln.book")
-    dialogue = re.search(r"```\n(\$ ./lindurask new line.book.*?)```", readme, re.S).group(1)
     room.put("line.plan", re.search(r"```\n(slots 4 .*?)```", readme, re.S).group(1).encode())
-    for part in dialogue.split("$ ./lindurask ")[1:]:
+    room.put("my.book", room.get("pond.book"))
+    dialogues = re.findall(r"```\n(\$ ./lindurask .*?)```", readme, re.S)
+    check(len(dialogues) == 2, "README.md has %d dialogues" % len(dialogues))
+    for part in "".join(dialogues).split("$ ./lindurask ")[1:]:
         words, said = part.split("\n", 1)
-        check(room.run(*words.split()).all == said, "README.md: lindurask %s says\n%s" % (words, room.run(*words.split()).all))
+        got = room.run(*words.split()).all
+        check(got == said, "README.md: lindurask %s says\n%s" % (words, got))
     for variable in ["LINDURASK_ENGINE", "NO_COLOR"]:
         check(variable in text("cli/lindurask.1"), "the man page has no %s" % variable)
 
@@ -88,7 +93,7 @@ def links():
 def samples(room):
     os.mkdir(room.at("made"))
     check(subprocess.run([os.path.join(tool.BOOKS, "make"), room.at("made")]).returncode == 0, "books/make failed")
-    for name in ["kiln", "yard", "site"]:
+    for name in tool.SAMPLES:
         check(room.get("made/%s.book" % name) == room.get(name + ".book"), "books/%s.book is not what books/make makes" % name)
 
 
@@ -112,7 +117,7 @@ def test(room):
     names = [words.split()[1] for words in everything.split("\n") if words.startswith("  lindurask ")]
     usages = {name: room.run(name, "--help").out.split("\n")[0].replace("lindurask ", "", 1) for name in names}
     refusals = re.findall(r"^ +(\d+)  (.*)$", everything, re.M)
-    check(len(usages) == 12 and len(refusals) == 17, "help lists %d commands and %d refusals" % (len(usages), len(refusals)))
+    check(len(usages) == 12 and len(refusals) == 18, "help lists %d commands and %d refusals" % (len(usages), len(refusals)))
     check(all(len(line) <= 80 for line in everything.split("\n")), "help is wider than 80 columns")
     man_page(room, usages, refusals)
     completion(usages)

@@ -12,8 +12,8 @@ import os, sys
 mode = sys.argv[0].rsplit("-", 1)[1]
 read, write = sys.stdin.buffer.read, sys.stdout.buffer
 while True:
-    head = read(19)
-    if len(head) < 19 or head[0] == 255:
+    head = read(44)
+    if len(head) < 44 or head[0] == 255:
         break
     data = read(int.from_bytes(head[14:16], "big"))
     room = int.from_bytes(head[16:18], "big")
@@ -26,7 +26,7 @@ while True:
     if mode == "touched" and room: number, out = 9, b"x" + out[1:]
     if mode == "junk" and room: counts[0], out = room, os.urandom(room)
     if mode == "short" and room: counts[0], out = 3, b"SLB" + out[3:]
-    if mode in ("more", "badly") and room:
+    if mode in ("more", "badly", "single") and room:
         image = open(os.path.join(os.path.dirname(sys.argv[0]), "new.image"), "rb").read()
         counts[0], out = len(image), image + out[len(image):]
     if mode == "sleepy" and head[0] == 5: counts[0], out = 300 * data[5], bytes(300 * data[5]) + out[300 * data[5]:]
@@ -81,7 +81,7 @@ def no_engines(room, engines):
 def nonsense(room, engines):
     """What is no answer, or comes beside one; two of these engines give the right book first."""
     old = tool.work_out.Book.read(room.get("kiln.book"))
-    engines.put("new.image", old.with_stream(old.opened(8, 1, 2, 5)).image())
+    engines.put("new.image", old.with_ways(old.opened(8, 1, 2, 5)).image())
     fake = {mode: program(engines, "engine-" + mode, FAKE.encode()) for mode in list(WRONG) + ["spilt", "touched", "junk", "short", "same", "sleepy"]}
     for mode, said in WRONG.items():
         for words in COMMANDS[:1] + COMMANDS[2:3]:
@@ -90,6 +90,10 @@ def nonsense(room, engines):
         for words in COMMANDS[2:4] + COMMANDS[7:9] if mode != "same" else COMMANDS[2:4]:
             got = room.run(*words, env={"LINDURASK_ENGINE": os.fsdecode(fake[mode])})
             check(got.status == 2 and got.out == "" and "the engine" in got.err, "%s with an engine that gives %s: %s" % (words, mode, got.all))
+    # Both routes or none: one route alone is no answer to who asks for a second.
+    single, words = program(engines, "engine-single", FAKE.encode()), COMMANDS[2]
+    got = room.run(*words, "second", env={"LINDURASK_ENGINE": os.fsdecode(single)})
+    check(got.status == 2 and got.all == "lindurask: the engine opened another stream\n", "%s with an engine that opens one route: %s" % (words, got.all))
     # Lists of routes with a node beyond the site, of 7 hops, of none, cut short, with another end, and with a mark of 2.
     for mode in ["listnode", "listhops", "listnone", "listcut", "listends", "listmark"]:
         hold(room, program(engines, "engine-" + mode, FAKE.encode()), COMMANDS[10], "says what is no answer")
@@ -100,11 +104,16 @@ def nonsense(room, engines):
 def called_lawful(room, engines):
     """Bytes that a wrong engine calls lawful do no harm."""
     engine, book = program(engines, "engine-lawful", FAKE.encode()), room.get("kiln.book")
-    row = book.index(bytes([0, 1, 10, 7]))
-    unsound = {"a period of 0": (row + 2, 0), "a period of 3": (row + 2, 3), "a node beyond the site": (row + 4, 8), "offsets that fall": (row + 12, 255),
+    row = book.index(bytes([0, 1, 1, 10, 7]))
+    unsound = {"a period of 0": (row + 3, 0), "a period of 3": (row + 3, 3), "a node beyond the site": (row + 5, 8), "offsets that fall": (row + 13, 255),
+               "a second route without a first": (row + 2, 2), "a third route": (row + 2, 3), "ids that fall": (row, 1),
                "no slots": (5, 0), "no tiles": (6, 0), "more control slots than slots": (9, 9), "more nodes than rows hold": (11, 65)}
     cases = {what: book[:at] + bytes([byte]) + book[at + 1:] for what, (at, byte) in unsound.items()}
-    others = [b"", b"SLB", book[:40], b"SLB\0\1" + bytes(11), b"SLB\0\1" + b"\xff" * 4000, bytes(4096), book[:12] + b"\x40" + book[13:]]
+    pond = room.get("pond.book")
+    second = pond.index(bytes([0, 1, 2, 10, 5]))
+    unsound = {"a second route of another period": (second + 3, 20), "a second route to another end": (second + 10, 1), "two first routes": (second + 2, 1)}
+    cases.update((what, pond[:at] + bytes([byte]) + pond[at + 1:]) for what, (at, byte) in unsound.items())
+    others = [b"", b"SLB", book[:40], b"SLB\0\1" + bytes(11), b"SLB\0\2" + b"\xff" * 4000, bytes(4096), book[:12] + b"\x40" + book[13:]]
     cases.update(("%d bytes" % len(data), data) for data in others)
     for what, data in cases.items():
         room.put("odd.book", data)

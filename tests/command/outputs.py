@@ -18,7 +18,7 @@ def hold(room, file):
         out = said.out
         if len(out) > tool.work_out.MOST_STORED:
             out = "sha256 %s of %d bytes\n" % (hashlib.sha256(out.encode()).hexdigest(), len(out))
-        left = ["%s.book" % name for name in ["made", "kiln", "yard", "site"] if os.path.exists(own.at("%s.book" % name))]
+        left = ["%s.book" % name for name in ["made"] + tool.SAMPLES if os.path.exists(own.at("%s.book" % name))]
         changed = [name for name in left if name == "made.book" or own.get(name) != room.get(name)]
         leaves = "".join("leaves %s: %s\n" % (name, hashlib.sha256(own.get(name)).hexdigest()) for name in changed)
         got = "$ lindurask %s\n%s%sexit status %d\n" % (" ".join(words), out, leaves, said.status)
@@ -28,9 +28,9 @@ def hold(room, file):
 
 def colours(room):
     """On a terminal there is colour, and without it the same text as in a pipe."""
-    def on_terminal(env):
+    def on_terminal(env, book="kiln.book"):
         controller, terminal = pty.openpty()
-        run = subprocess.Popen([tool.TOOL, "show", "kiln.book"], stdout=terminal, cwd=room.path, env=env)
+        run = subprocess.Popen([tool.TOOL, "show", book], stdout=terminal, cwd=room.path, env=env)
         os.close(terminal)
         got = b""
         while True:
@@ -51,6 +51,10 @@ def colours(room):
     check(re.sub(r"\x1b\[[0-9]+m", "", coloured) == plain, "colour changes the text")
     streams = re.findall(r"\x1b\[(\d+)m[A-E]  \x1b", coloured)
     check(len(set(streams)) == 5, "streams share a colour: %s" % streams)
+    coloured = on_terminal(dict(env, TERM="xterm"), "pond.book")
+    routes = [set(re.findall(r"\x1b\[(\d+)m%s *\x1b" % letter, coloured, re.I)) for letter in "ABCDEFGH"]
+    check([len(codes) for codes in routes] == [1] * 8, "a route has no colour, or two: %s" % routes)
+    check([routes[place] == routes[place + 1] for place in range(7)] == [True, False] * 3 + [False], "the two routes of a stream share their colour alone: %s" % routes)
     check("\x1b" not in plain, "colour in a pipe")
     check(on_terminal(dict(env, TERM="xterm", NO_COLOR="1")) == plain, "colour where NO_COLOR is set")
     check(on_terminal(dict(env, TERM="dumb")) == plain, "colour on a dumb terminal")
@@ -65,7 +69,7 @@ def test(room):
     check(sorted(worked_out) == files, "the stored cases are not those that are worked out")
     for file in files:
         check(open(os.path.join(tool.STORED, file)).read() == worked_out.get(file), "%s is not what is worked out" % file)
-    for name in ["kiln", "yard", "site"]:
+    for name in tool.SAMPLES:
         for words in [["show"], ["show", "--no-lists"], ["balance"], ["table"]]:
             wide = max(map(len, room.run(words[0], name + ".book", *words[1:]).out.split("\n")))
             check(wide <= 80, "%s %s has %d columns" % (words, name, wide))

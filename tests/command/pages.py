@@ -61,55 +61,79 @@ class Page(HTMLParser):
             self.heading += data
 
 
-def ranges(ids):
-    """Ids in a row, three and more that follow each other as a range."""
+def name(way):
+    """A stream's id, marked on a second route."""
+    return "%d%s" % (way.id, "′" * (way.number == 2))
+
+
+def called(way):
+    """A route in words."""
+    return "stream %d%s" % (way.id, ", second route" * (way.number == 2))
+
+
+def ranges(ways):
+    """Names in a row, three and more first routes whose ids follow each other as a range."""
     runs = []
-    for id in ids:
-        if runs and runs[-1][-1] + 1 == id:
-            runs[-1].append(id)
+    for way in ways:
+        if runs and way.number == 1 == runs[-1][-1].number and runs[-1][-1].id + 1 == way.id:
+            runs[-1].append(way)
         else:
-            runs.append([id])
-    return ", ".join("%d–%d" % (run[0], run[-1]) if len(run) > 2 else ", ".join(map(str, run)) for run in runs)
+            runs.append([way])
+    return ", ".join("%d–%d" % (run[0].id, run[-1].id) if len(run) > 2 else ", ".join(map(name, run)) for run in runs)
 
 
 def at_work(book, tile):
-    """The ids of the streams with a hop in a tile."""
+    """The routes with a hop in a tile."""
     own = range(tile * book.s, (tile + 1) * book.s)
-    return [s.id for s in book.streams if any(t in own for o in s.offsets for t in book.takes(s.period, o))]
+    return [way for way in book.ways if any(t in own for o in way.offsets for t in book.takes(way.period, o))]
 
 
 def tiles(book):
     """The label of every tile that is drawn: all of a repeat, but no long run without a stream."""
     shown = [(tile, at_work(book, tile)) for tile in range(book.repeats())]
-    for place, (tile, ids) in enumerate(shown):
+    for place, (tile, ways) in enumerate(shown):
         start = next((p for p in range(place, -1, -1) if shown[p][1]), -1) + 1
         end = next((p for p in range(place, len(shown)) if shown[p][1]), len(shown))
-        if ids or end - start <= 10:
+        if ways or end - start <= 10:
             yield "Tile %d, %s, slots %d to %d: %s" % (tile, "downlink" if book.is_down(tile) else "uplink", tile * book.s,
-                                                       (tile + 1) * book.s - 1, "streams " + ranges(ids) if ids else "no stream")
+                                                       (tile + 1) * book.s - 1, "streams " + ranges(ways) if ways else "no stream")
 
 
 def hops(book):
     """What every hop does, in words."""
-    for s in book.streams:
-        for place, ((a, b), offset) in enumerate(zip(s.hops, s.offsets)):
+    for way in book.ways:
+        for place, ((a, b), offset) in enumerate(zip(way.hops, way.offsets)):
             sends = "sends from above" if place == 0 else "forwards from buffer"
-            receives = "receives for above" if place == len(s.hops) - 1 else "receives to buffer"
-            yield "stream %d, offset %d: node %d %s, node %d %s" % (s.id, offset, a, sends, b, receives)
+            receives = "receives for above" if place == len(way.hops) - 1 else "receives to buffer"
+            yield "%s, offset %d: node %d %s, node %d %s" % (called(way), offset, a, sends, b, receives)
 
 
 def arrows(book):
-    """What the arrows beside the links say: one for each stream, or one for more than three."""
-    ways = {}
-    for s in book.streams:
-        for hop, offset in zip(s.hops, s.offsets):
-            ways.setdefault(hop, []).append((s, offset))
-    for (a, b), there in ways.items():
+    """What the arrows beside the links say: one for each route, or one for more than three."""
+    traffic = {}
+    for way in book.ways:
+        for hop, offset in zip(way.hops, way.offsets):
+            traffic.setdefault(hop, []).append((way, offset))
+    for (a, b), there in traffic.items():
         if len(there) > 3:
-            slots = work_out.many(sum(work_out.CYCLE // s.period for s, _ in there), "slot")
-            yield "Node %d to node %d: streams %s; %s" % (a, b, ranges(s.id for s, _ in there), slots)
+            slots = work_out.many(sum(work_out.CYCLE // way.period for way, _ in there), "slot")
+            yield "Node %d to node %d: streams %s; %s" % (a, b, ranges(way for way, _ in there), slots)
         else:
-            yield from ("Node %d to node %d: stream %d, offset %d" % (a, b, s.id, offset) for s, offset in there)
+            yield from ("Node %d to node %d: %s, offset %d" % (a, b, called(way), offset) for way, offset in there)
+
+
+def dashed(what, text, book):
+    """Second routes are dashed, and no other; of a stream with one it is said that it survives."""
+    second = [way for way in book.ways if way.number == 2]
+    check(text.count('class="way second"') == len(second) and text.count('class="way"') == len(book.ways) - len(second), "%s: the dashed routes" % what)
+    arrows = re.findall(r'<g class="arrow k\d+( second)?" [^>]*><title>[^<]*?(, second route)?, offset', text)
+    check(all(bool(dashes) == bool(said) for dashes, said in arrows), "%s: the dashed arrows: %s" % (what, arrows))
+    groups = re.findall(r'<g id="r\d+t\d+" class="k\d+( second)?"><g><title>stream \d+(, second route)?,', text)
+    check(all(bool(dashes) == bool(said) for dashes, said in groups) and len(groups) >= len(book.ways), "%s: the dashed cells: %s" % (what, groups))
+    legends = ["A second route is dashed.", "the id of a second route is marked ′", "receiving on a second route"]
+    check(all((legend in text) == bool(second) for legend in legends), "%s: what is said of second routes" % what)
+    surviving = sum(len(ways) == 2 and work_out.survives(ways) for ways in book.streams())
+    check(text.count("; survives the loss of any one relay</p>") == surviving == len(second), "%s: the streams that survive" % what)
 
 
 def hold(what, text, book, title):
@@ -117,7 +141,7 @@ def hold(what, text, book, title):
     page = Page(text)
     check(page.wrong == [], "%s: the page is not well made: %s" % (what, page.wrong[:5]))
     check(page.heading == title and page.titles[0] == title + " – Lindurask", "%s is headed %s" % (what, page.heading))
-    streams = [[str(s.id), str(s.period), "\u00a0→ ".join(map(str, s.nodes)), " ".join(map(str, s.offsets)), str(s.latency)] for s in book.streams]
+    streams = [[name(way), str(way.period), "\u00a0→ ".join(map(str, way.nodes)), " ".join(map(str, way.offsets)), str(way.latency)] for way in book.ways]
     check(page.rows.get("streams", [None])[1:] == streams, "%s: the table of streams: %s" % (what, page.rows.get("streams")))
     balances = [[str(node), *map(str, book.balance(node)), ""] for node in range(book.n)]
     check(page.rows["balances"][1:] == balances, "%s: the balances: %s" % (what, page.rows["balances"]))
@@ -126,19 +150,20 @@ def hold(what, text, book, title):
     nodes = ["Node %d, linked to %s" % (a, ", ".join(str(b) for b in range(book.n) if book.linked(a, b)) or "no node") for a in range(book.n)]
     want = sorted(nodes + list(arrows(book)) + list(hops(book)))
     check(sorted(page.titles[1:]) == want, "%s: nodes, arrows and hops: %s" % (what, set(page.titles[1:]) ^ set(want)))
-    routes = ["Route of stream %d: nodes %s" % (s.id, ", ".join(map(str, s.nodes))) for s in book.streams]
+    routes = ["Route of " + "; ".join("%s: nodes %s" % (called(way), ", ".join(map(str, way.nodes))) for way in ways) for ways in book.streams()]
     check([label for label in page.labels if label.startswith("Route of ")] == routes, "%s: the routes" % what)
     drawn = [label for label in page.labels if label.startswith("Tile ")]
     check(drawn == list(tiles(book)), "%s: the tiles: %s" % (what, set(drawn) ^ set(tiles(book))))
+    dashed(what, text, book)
 
 
 def samples(room):
     with open(os.path.join(tool.ROOT, "docs/sample/kiln.html")) as sample:
         room.says(0, sample.read(), "page", "kiln.book")
-    for name in ["kiln", "yard", "site"]:
-        said = room.run("page", name + ".book")
-        check(said.status == 0 and said.err == "", "page %s: %s" % (name, said.err))
-        hold(name, said.out, work_out.Book.read(room.get(name + ".book")), name + ".book")
+    for book in tool.SAMPLES:
+        said = room.run("page", book + ".book")
+        check(said.status == 0 and said.err == "", "page %s: %s" % (book, said.err))
+        hold(book, said.out, work_out.Book.read(room.get(book + ".book")), book + ".book")
 
 
 def by_chance(room):
@@ -147,8 +172,8 @@ def by_chance(room):
         dice = random.Random(chance.SEED * 1000 + turn)
         _, book = chance.plan(dice)
         for id in sorted(dice.sample(range(1, 65536), 12)):
-            got = book.opened(id, *dice.sample(range(book.n), 2), dice.choice(work_out.PERIODS))
-            book = book if isinstance(got, int) else book.with_stream(got)
+            got = book.opened(id, *dice.sample(range(book.n), 2), dice.choice(work_out.PERIODS), dice.random() < 0.5)
+            book = book if isinstance(got, int) else book.with_ways(got)
         room.put("chance.book", book.image())
         hold("site %d" % turn, room.run("page", "chance.book").out, book, "chance.book")
 

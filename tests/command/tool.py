@@ -11,6 +11,8 @@ ROOT = os.path.dirname(os.path.dirname(os.path.dirname(os.path.abspath(__file__)
 TOOL = os.environ.get("LINDURASK_TOOL", os.path.join(ROOT, "cli/target/release/lindurask"))
 BOOKS = os.path.join(ROOT, "books")
 STORED = os.path.join(ROOT, "tests/stored/command_line")
+# The sample books.
+SAMPLES = ["kiln", "yard", "site", "pond"]
 passed = failed = 0
 
 
@@ -21,7 +23,7 @@ def loaded(name, path):
     return module
 
 
-# Document 01 worked out by itself.
+# Documents 01 and 02 worked out by themselves.
 work_out = loaded("work_out", os.path.join(STORED, "work_out"))
 
 
@@ -62,7 +64,7 @@ class Room:
     def __enter__(self):
         self.path = tempfile.mkdtemp(dir=memory())
         os.chmod(self.path, 0o755)
-        for name in ["kiln", "yard", "site"]:
+        for name in SAMPLES:
             for end in [".book", ".plan"]:
                 self.put(name + end, open(os.path.join(BOOKS, name + end), "rb").read())
         self.empty = work_out.plan_book("kiln").image()

@@ -1,8 +1,8 @@
 //! Closes a stream.
 
 use super::{Command, Report};
-use crate::book::Stream;
-use crate::describe;
+use crate::book::{Stream, Way};
+use crate::describe::{self, INDENT};
 use crate::engine::Engine;
 use crate::files::Held;
 use crate::frame;
@@ -17,17 +17,24 @@ pub const CLOSE: Command = Command {
     takes: [2, 2],
     choices: &[],
     summary: "close a stream",
-    explains: "Closes the stream, and says what it gives back. No other stream changes.",
+    explains: "\
+Closes the stream with both its routes, and says what each gives back. No other
+stream changes.",
     example: "lindurask close kiln.book 7",
     run,
 };
 
-/// What was closed and what it gives back.
-fn closed(stream: &Stream) -> String {
-    let slots = count(stream.repeats(), "slot");
-    let hops = count(stream.hops(), "hop");
-    describe::stream("closed ", stream)
-        + &format!("     gives back {slots} in a cycle for each of {hops}\n")
+/// A route that was closed, and what it gives back.
+fn closed_route(way: &Way) -> String {
+    let slots = count(way.repeats(), "slot");
+    let hops = count(way.hops(), "hop");
+    let before = if way.is_second() { INDENT } else { "closed " };
+    describe::route(before, way)
+        + &format!("{INDENT}gives back {slots} in a cycle for each of {hops}\n")
+}
+
+fn closed(stream: Stream) -> String {
+    stream.ways.iter().map(closed_route).collect()
 }
 
 fn run(words: &Words) -> Result<Report, Trouble> {

@@ -5,24 +5,30 @@ use crate::describe;
 use crate::engine::Engine;
 use crate::files::Held;
 use crate::frame::{self, Wish};
-use crate::loaded::{accepted, decode, is_of_book};
+use crate::loaded::{accepted, decode, is_of_book, opened};
 use crate::text::plain;
 use crate::trouble::Trouble;
 use crate::words::{Number, Words};
 
 pub const OPEN: Command = Command {
     name: "open",
-    operands: "BOOK ID SOURCE DESTINATION PERIOD",
-    takes: [5, 5],
+    operands: "BOOK ID SOURCE DESTINATION PERIOD [second]",
+    takes: [5, 6],
     choices: &[],
     summary: "open a stream",
     explains: "\
 Opens a stream from node SOURCE to node DESTINATION that sends every PERIOD
 tiles: 1, 2, 5, 10, 20, 50 or 100. It takes the shortest route and the first
-free slots on it. ID is a number from 1 to 65535 that no stream has yet.",
-    example: "lindurask open kiln.book 7 3 0 2",
+free slots on it. ID is a number from 1 to 65535 that no stream has yet.
+With the word second it takes a second route too, of at most 6 hops and with no
+relay of the first: whichever relay is lost, one of the two is left. It takes
+both or none.",
+    example: "lindurask open pond.book 7 4 9 20 second",
     run,
 };
+
+/// The word that asks for a second route.
+const SECOND: &str = "second";
 
 /// What was asked for, as it was typed.
 pub struct Asked {
@@ -30,6 +36,7 @@ pub struct Asked {
     pub source: Number,
     pub destination: Number,
     pub period: Number,
+    pub second: bool,
 }
 
 impl Asked {
@@ -39,6 +46,7 @@ impl Asked {
             source: self.source.node(),
             destination: self.destination.node(),
             period: self.period.period(),
+            second: self.second,
         }
     }
 
@@ -56,12 +64,22 @@ impl Asked {
     }
 }
 
+/// A second route is asked for, by that word and no other.
+fn second(words: &Words) -> Result<bool, Trouble> {
+    match words.operands.get(5) {
+        None => Ok(false),
+        Some(word) if word == SECOND => Ok(true),
+        Some(_) => Err(OPEN.misused()),
+    }
+}
+
 fn run(words: &Words) -> Result<Report, Trouble> {
     let asked = Asked {
         id: words.id(1)?,
         source: words.node(2)?,
         destination: words.node(3)?,
         period: words.period(4)?,
+        second: second(words)?,
     };
     let mut engine = Engine::start()?;
     let held = Held::open(&words.operands[0])?;
@@ -74,8 +92,7 @@ fn run(words: &Words) -> Result<Report, Trouble> {
     let bytes = accepted(answer, about)?.bytes;
     let book = decode(&bytes)?;
     engine.finish()?;
-    let opened = book.stream(asked.id).map(|stream| describe::stream("opened ", stream));
-    let text = opened.ok_or_else(|| Trouble::Failed("the engine opened another stream".into()))?;
+    let text = describe::stream("opened ", opened(&book, asked.wish())?);
     held.replace(&bytes)?;
     Ok(Report { text, changed: true, ..Report::default() })
 }

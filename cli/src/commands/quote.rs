@@ -2,11 +2,11 @@
 
 use super::open::Asked;
 use super::{Command, Report};
-use crate::book::{Stream, PERIODS};
-use crate::describe;
-use crate::frame;
+use crate::book::{Way, PERIODS};
+use crate::describe::{self, INDENT};
+use crate::frame::{self, Answer, Wish};
 use crate::json;
-use crate::loaded::{decode, Loaded};
+use crate::loaded::{decode, opened, Loaded};
 use crate::trouble::{meaning, Trouble};
 use crate::words::{Number, Words, JSON};
 
@@ -18,69 +18,100 @@ pub const QUOTE: Command = Command {
     summary: "say which periods a stream could have now",
     explains: "\
 Says for each period whether a stream from node SOURCE to node DESTINATION can
-be had now, with its route, offsets and latency, or why not. This is what is
+be had now, with its route, offsets and latency, or why not; and which second
+route it would get with the word second of open, or why none. This is what is
 left to sell. The book is not changed. The exit status is 0 where a period can
 be had, and 1 where none can.",
     example: "lindurask quote kiln.book 3 0",
     run,
 };
 
-/// What a stream of a period would get, or the number of its refusal.
-type Offer = (u16, Result<Stream, u8>);
+/// What a stream of a period would get.
+struct Offer {
+    period: u16,
+    first: Got,
+    /// Its second route, if it asked for one.
+    second: Got,
+}
+
+/// A route, or the number of the refusal.
+type Got = Result<Way, u8>;
 
 /// The number by which slots are wanting; every other refusal is the same for all periods.
 const NO_SLOTS: u8 = 9;
 
-fn offers(loaded: &mut Loaded, asked: &dyn Fn(u16) -> Asked) -> Result<Vec<Offer>, Trouble> {
-    let request = |&period: &u16| frame::open(&loaded.bytes, asked(period).wish());
-    let requests: Vec<_> = PERIODS.iter().map(request).collect();
-    let answers = loaded.engine.ask_all(&requests)?;
-    let offer = |(&period, answer): (&u16, frame::Answer)| {
-        if answer.number != 0 {
-            return Ok((period, Err(answer.number)));
-        }
-        let book = decode(&answer.bytes)?;
-        let stream = book.stream(asked(period).id).cloned();
-        let wrong = || Trouble::Failed("the engine opened another stream".into());
-        Ok((period, Ok(stream.ok_or_else(wrong)?)))
-    };
-    PERIODS.iter().zip(answers).map(offer).collect()
+/// The last route of the stream that an open gave, or the number of its refusal.
+fn got(answer: &Answer, wish: Wish) -> Result<Got, Trouble> {
+    if answer.number != 0 {
+        return Ok(Err(answer.number));
+    }
+    let book = decode(&answer.bytes)?;
+    let stream = opened(&book, wish)?;
+    Ok(Ok(stream.second().unwrap_or(stream.first()).clone()))
 }
 
-fn line((period, offer): &Offer) -> String {
-    match offer {
-        Ok(stream) => {
-            format!("period {period:>3}: {}\n{}", describe::latency(stream), describe::way(stream))
+fn offers(loaded: &mut Loaded, asked: &dyn Fn(u16) -> Asked) -> Result<Vec<Offer>, Trouble> {
+    let wishes =
+        |&period: &u16| [false, true].map(|second| Wish { second, ..asked(period).wish() });
+    let wishes: Vec<_> = PERIODS.iter().flat_map(wishes).collect();
+    let requests: Vec<_> = wishes.iter().map(|&wish| frame::open(&loaded.bytes, wish)).collect();
+    let answers = loaded.engine.ask_all(&requests)?;
+    let routes = answers.iter().zip(wishes).map(|(answer, wish)| got(answer, wish));
+    let mut routes = routes.collect::<Result<Vec<_>, _>>()?.into_iter();
+    let mut next = || routes.next().expect("two answers for each period");
+    Ok(PERIODS.map(|period| Offer { period, first: next(), second: next() }).into())
+}
+
+fn refused(number: u8) -> String {
+    format!("refused {number}: {}\n", meaning(number))
+}
+
+fn lines(offer: &Offer) -> String {
+    let period = format!("period {:>3}:", offer.period);
+    match (&offer.first, &offer.second) {
+        (Err(number), _) => format!("{period} {}", refused(*number)),
+        (Ok(first), second) => {
+            let second = match second {
+                Ok(second) => describe::route(INDENT, second),
+                Err(number) => format!("{INDENT}second route: {}", refused(*number)),
+            };
+            format!("{period} {}\n{}{second}", describe::latency(first), describe::way(first))
         }
-        Err(number) => format!("period {period:>3}: refused {number}: {}\n", meaning(*number)),
     }
 }
 
-fn in_json((period, offer): &Offer) -> String {
-    let fields = match offer {
-        Ok(stream) => json::way(stream),
+fn fields(got: &Got) -> Vec<(&'static str, String)> {
+    match got {
+        Ok(way) => json::way(way),
         Err(number) => json::refusal(*number, meaning(*number)),
-    };
-    json::object([("period", period.to_string())].into_iter().chain(fields))
+    }
+}
+
+fn in_json(offer: &Offer) -> String {
+    let second = offer.first.is_ok().then(|| ("second", json::object(fields(&offer.second))));
+    let period = [("period", offer.period.to_string())];
+    json::object(period.into_iter().chain(fields(&offer.first)).chain(second))
 }
 
 fn run(words: &Words) -> Result<Report, Trouble> {
     let (source, destination) = (words.node(1)?, words.node(2)?);
     let mut loaded = Loaded::read(words.path(0))?;
     let id = loaded.book.free_id();
-    let asked = |period: u16| Asked { id, source, destination, period: Number(period.into()) };
+    let asked = |period: u16| {
+        let period = Number(period.into());
+        Asked { id, source, destination, period, second: false }
+    };
     let offers = offers(&mut loaded, &asked)?;
     loaded.engine.finish()?;
-    if let Some((period, Err(number))) =
-        offers.iter().find(|(_, o)| o.as_ref().is_err_and(|&n| n != NO_SLOTS))
-    {
+    let numbers = offers.iter().filter_map(|offer| offer.first.as_ref().err());
+    if let Some(&number) = numbers.into_iter().find(|&&number| number != NO_SLOTS) {
         let about = match number {
-            4 | 5 => asked(*period).about(*number, loaded.book.nodes()),
+            4 | 5 => asked(PERIODS[0]).about(number, loaded.book.nodes()),
             _ => format!("from node {} to node {}", source.0, destination.0),
         };
-        return Err(Trouble::refused(*number, about));
+        return Err(Trouble::refused(number, about));
     }
-    let refused = offers.iter().all(|(_, offer)| offer.is_err());
+    let refused = offers.iter().all(|offer| offer.first.is_err());
     let text = if words.has(&JSON) {
         json::answer([
             ("source", source.0.to_string()),
@@ -89,7 +120,7 @@ fn run(words: &Words) -> Result<Report, Trouble> {
         ])
     } else {
         let head = format!("from node {} to node {}\n", source.0, destination.0);
-        head + &offers.iter().map(line).collect::<String>()
+        head + &offers.iter().map(lines).collect::<String>()
     };
     Ok(Report { text, refused, ..Report::default() })
 }

@@ -3,11 +3,11 @@
 use super::new::{planned, warnings};
 use super::{Command, Report};
 use crate::book::{Book, Stream};
-use crate::describe;
+use crate::describe::{self, INDENT};
 use crate::engine::Engine;
 use crate::files;
 use crate::frame::{self, Wish};
-use crate::loaded::{decode, Loaded};
+use crate::loaded::{decode, opened, Loaded};
 use crate::text::count;
 use crate::trouble::{meaning, Trouble};
 use crate::words::Words;
@@ -20,27 +20,30 @@ pub const REPLAN: Command = Command {
     summary: "open the streams anew in another plan",
     explains: "\
 Makes the book NEW from another plan, with the streams of BOOK opened anew in
-the order of their ids. Prints what each got, and which no longer has a place.
-The exit status is 0 where all have a place, and 1 where one has none; NEW is
-made all the same. BOOK is not changed. PLAN is a file, or - for standard input.",
+the order of their ids, those with a second route with one again. Prints what
+each got, and which no longer has a place. The exit status is 0 where all have a
+place, and 1 where one has none; NEW is made all the same. BOOK is not changed.
+PLAN is a file, or - for standard input.",
     example: "lindurask replan kiln.book wider.plan wider.book",
     run,
 };
 
 /// What a stream of the old book asks of the new one.
-fn wish(stream: &Stream) -> Wish {
-    let ends = (stream.nodes.first(), stream.nodes.last());
+fn wish(stream: Stream) -> Wish {
+    let first = stream.first();
+    let ends = (first.nodes.first(), first.nodes.last());
     let (Some(&source), Some(&destination)) = ends else { unreachable!("a route has nodes") };
-    Wish { id: stream.id, source, destination, period: stream.period }
+    let second = stream.second().is_some();
+    Wish { id: first.id, source, destination, period: first.period, second }
 }
 
 /// A stream of the old book that the new one has no place for.
-fn placeless(stream: &Stream, number: u8) -> String {
-    let period = count(stream.period, "tile");
-    let Wish { source, destination, .. } = wish(stream);
+fn placeless(wish: Wish, number: u8) -> String {
+    let Wish { id, source, destination, period, second } = wish;
+    let period = count(period, "tile");
+    let with = if second { ", two routes" } else { "" };
     format!(
-        "no place for stream {}: period {period}, from node {source} to node {destination}\n     refused {number}: {}\n",
-        stream.id,
+        "no place for stream {id}: period {period}, from node {source} to node {destination}{with}\n{INDENT}refused {number}: {}\n",
         meaning(number),
     )
 }
@@ -52,16 +55,16 @@ fn reopen(
     mut bytes: Vec<u8>,
 ) -> Result<(Vec<u8>, String), Trouble> {
     let mut said = String::new();
-    for stream in &old.streams {
-        let answer = engine.ask(frame::open(&bytes, wish(stream)))?;
+    for stream in old.streams() {
+        let wish = wish(stream);
+        let answer = engine.ask(frame::open(&bytes, wish))?;
         if answer.number != 0 {
-            said += &placeless(stream, answer.number);
+            said += &placeless(wish, answer.number);
             continue;
         }
         bytes = answer.bytes;
         let book = decode(&bytes)?;
-        let wrong = || Trouble::Failed("the engine opened another stream".into());
-        said += &describe::stream("opened ", book.stream(stream.id).ok_or_else(wrong)?);
+        said += &describe::stream("opened ", opened(&book, wish)?);
     }
     Ok((bytes, said))
 }
@@ -73,9 +76,9 @@ fn run(words: &Words) -> Result<Report, Trouble> {
     let book = decode(&bytes)?;
     engine.finish()?;
     files::make(words.path(2), &bytes)?;
-    let kept =
-        format!("{} of {} have a place\n", book.streams.len(), count(old.streams.len(), "stream"));
+    let (placed, all) = (book.streams().count(), old.streams().count());
+    let kept = format!("{placed} of {} have a place\n", count(all, "stream"));
     let text = format!("{said}{kept}made: {}", describe::counts(&book));
-    let refused = book.streams.len() < old.streams.len();
+    let refused = placed < all;
     Ok(Report { text, warnings: warnings(&book), changed: true, refused })
 }

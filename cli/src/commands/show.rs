@@ -1,9 +1,9 @@
 //! Draws a book for a person.
 
 use super::{Command, Report};
-use crate::book::{Balance, Book, CYCLE};
+use crate::book::{Balance, Book, Stream, CYCLE};
 use crate::colour::Colour;
-use crate::describe;
+use crate::describe::{self, INDENT};
 use crate::frame;
 use crate::json;
 use crate::loaded::{accepted, Loaded};
@@ -19,11 +19,13 @@ pub const SHOW: Command = Command {
     choices: &[STREAM, NODE, NO_LISTS, JSON],
     summary: "draw a book: plan, links, streams, slots",
     explains: "\
-Draws the book: its plan, its links, its streams with period, route, offsets
-and latency, and for each node that carries a stream a row of slots. The
-picture starts at tile 0, or at TILE, and stops where it repeats or is full.
-With --stream only that stream and the nodes of its route are shown, with --node
-only that node and the streams through it, with --no-lists only the picture.",
+Draws the book: its plan, its links, its streams with period, routes, offsets
+and latency, and for each node that carries a stream a row of slots. Of each
+stream it says whether it survives the loss of any one relay, a node in the
+middle of a route. The picture starts at tile 0, or at TILE, and stops where it
+repeats or is full; each route has a letter of its own. With --stream only that
+stream and the nodes of its routes are shown, with --node only that node and the
+streams through it, with --no-lists only the picture.",
     example: "lindurask show kiln.book --stream 7",
     run,
 };
@@ -50,12 +52,12 @@ fn part(words: &Words, loaded: &mut Loaded) -> Result<Part, Trouble> {
 }
 
 impl Part {
-    /// The places of the streams that are part of it.
-    fn streams<'a>(&'a self, book: &'a Book) -> impl Iterator<Item = usize> + 'a {
-        (0..book.streams.len()).filter(move |&place| match self {
+    /// The streams that are part of it, each with its place among all.
+    fn streams<'a>(&'a self, book: &'a Book) -> impl Iterator<Item = (usize, Stream<'a>)> {
+        book.streams().enumerate().filter(move |(_, stream)| match self {
             Part::All => true,
-            Part::Stream(id) => book.streams[place].id == *id,
-            Part::Node(node) => book.streams[place].passes(*node),
+            Part::Stream(id) => stream.first().id == *id,
+            Part::Node(node) => stream.passes(*node),
         })
     }
 
@@ -98,12 +100,19 @@ fn links(book: &Book, colour: Colour) -> String {
     format!("\n{}\n{}", colour.title("Links"), or_none(row(" ", pairs)))
 }
 
-fn streams(book: &Book, part: &Part, colour: Colour) -> String {
-    let stream = |place: usize| {
+/// The routes of a stream under their letters, and what the loss of a relay is to it.
+fn stream(book: &Book, order: usize, stream: Stream, colour: Colour) -> String {
+    let before = |place: usize| {
         let letters = format!("{:<3}", label(book, place));
-        let before = format!("  {}", colour.stream(Some(place), &letters));
-        describe::stream(&before, &book.streams[place])
+        format!("  {}", colour.stream(Some(order), &letters))
     };
+    let routes = stream.ways.iter().zip(stream.place..);
+    let routes: String = routes.map(|(way, place)| describe::route(&before(place), way)).collect();
+    format!("{routes}{INDENT}{}\n", describe::loss(stream))
+}
+
+fn streams(book: &Book, part: &Part, colour: Colour) -> String {
+    let stream = |(order, one)| stream(book, order, one, colour);
     format!("\n{}\n{}", colour.title("Streams"), or_none(part.streams(book).map(stream).collect()))
 }
 
@@ -138,7 +147,7 @@ fn idle(part: &Part, balances: &[Balance]) -> String {
 
 fn in_json(book: &Book, part: &Part) -> String {
     let pairs = book.pairs().into_iter().map(|(a, b)| json::array([a, b]));
-    let streams = part.streams(book).map(|place| json::stream(&book.streams[place]));
+    let streams = part.streams(book).map(|(_, stream)| json::stream(stream));
     json::answer([
         ("version", book.version.to_string()),
         ("plan", json::plan(book)),

@@ -23,12 +23,13 @@ pub const TABLE: Command = Command {
 /// What the letters of a table mean.
 const LETTERS: &str = "\
 . sleep, # control, S send from above, R receive to buffer,
-F forward from buffer, A receive for above; then the stream's id
+F forward from buffer, A receive for above; then the stream's id.
+On a second route the letters are small: s, r, f, a.
 ";
 
 /// The digits of the highest id.
 fn digits(book: &Book) -> usize {
-    book.streams.iter().map(|stream| stream.id.to_string().len()).max().unwrap_or(1)
+    book.ways.iter().map(|way| way.id.to_string().len()).max().unwrap_or(1)
 }
 
 fn entry(entry: Entry, width: usize) -> String {

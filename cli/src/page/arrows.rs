@@ -2,7 +2,7 @@
 
 use super::graph::RADIUS;
 use super::hops::hops;
-use super::identity::{colour, name, title};
+use super::identity::{colour, dashes, name, title};
 use super::layout::Point;
 use super::markup::{direction, joined, length};
 use super::traffic::{names, slots_in_use, Traffic};
@@ -70,11 +70,12 @@ fn arrows_of(
         }];
     }
     let single = |&row: &usize| {
-        let stream = &book.streams[row];
+        let way = &book.ways[row];
         let offset =
-            hops(stream).find(|hop| usize::from(hop.from) == from).map_or(0, |hop| hop.offset);
-        let meaning = format!("Node {from} to node {to}: {}, offset {offset}", title(stream));
-        Arrow { class: colour(book, row), label: name(stream), meaning, thickness: ARROW }
+            hops(way).find(|hop| usize::from(hop.from) == from).map_or(0, |hop| hop.offset);
+        let meaning = format!("Node {from} to node {to}: {}, offset {offset}", title(way));
+        let class = colour(book, row) + dashes(way);
+        Arrow { class, label: name(way), meaning, thickness: ARROW }
     };
     rows.iter().map(single).collect()
 }

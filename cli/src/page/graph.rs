@@ -2,6 +2,7 @@
 
 use super::arrows::{arrows, MOST_ARROWS};
 use super::canvas::Canvas;
+use super::identity::MARKED;
 use super::layout::Point;
 use super::markup::{joined, scrolling};
 use super::traffic::{traffic, Traffic};
@@ -31,7 +32,7 @@ pub fn graph(book: &Book, places: &[Point]) -> String {
         arrows(book, &traffic, &canvas.spots),
         (0..places.len()).map(|node| node_drawn(book, &canvas, node)).collect::<String>(),
     );
-    format!("{}{}", scrolling("Graph of the site", "figure", &figure), legend(&traffic))
+    format!("{}{}", scrolling("Graph of the site", "figure", &figure), legend(book, &traffic))
 }
 
 fn node_drawn(book: &Book, canvas: &Canvas, node: usize) -> String {
@@ -45,18 +46,22 @@ fn node_drawn(book: &Book, canvas: &Canvas, node: usize) -> String {
 }
 
 /// What the arrows mean.
-fn legend(traffic: &Traffic) -> String {
+fn legend(book: &Book, traffic: &Traffic) -> String {
     let single = "An arrow beside a link is a stream that goes there, with its id; it lies to the \
                   right of its direction.";
     let shared = format!(
         " An arrow marked × with a number stands for that many streams (more than \
          {MOST_ARROWS}); the more slots they take, the thicker it is. The list below names them."
     );
+    let second = match book.has_second() {
+        true => format!(" A dashed arrow is on a second route; {MARKED}."),
+        false => String::new(),
+    };
     let is_shared = traffic.values().any(|rows| rows.len() > MOST_ARROWS);
     let text = match (traffic.is_empty(), is_shared) {
         (true, _) => "No stream is in the book.".to_string(),
-        (false, true) => format!("{single}{shared}"),
-        (false, false) => single.to_string(),
+        (false, true) => format!("{single}{second}{shared}"),
+        (false, false) => format!("{single}{second}"),
     };
     format!("<p class=\"note\">{text}</p>\n")
 }
@@ -90,13 +95,13 @@ mod tests {
     fn every_hop_has_an_arrow_with_the_id_of_its_stream() {
         let book = kiln();
         let drawn = graph_of(&book);
-        for stream in &book.streams {
-            let label = format!(">{}</text></g></g>", stream.id);
-            assert_eq!(drawn.matches(&label).count(), stream.offsets.len(), "stream {}", stream.id);
-            for hop in hops(stream) {
+        for way in &book.ways {
+            let label = format!(">{}</text></g></g>", way.id);
+            assert_eq!(drawn.matches(&label).count(), way.offsets.len(), "stream {}", way.id);
+            for hop in hops(way) {
                 let (from, to, offset) = (hop.from, hop.to, hop.offset);
                 let meaning =
-                    format!("Node {from} to node {to}: stream {}, offset {offset}<", stream.id);
+                    format!("Node {from} to node {to}: stream {}, offset {offset}<", way.id);
                 assert!(drawn.contains(&meaning), "{meaning}");
             }
         }

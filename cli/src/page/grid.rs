@@ -33,7 +33,7 @@ pub fn grid(book: &Book) -> String {
         "<p>{}{} {READING}</p>\n{}{}{}",
         extent(book),
         omission(&left_out.collect::<Vec<_>>()),
-        legend(),
+        legend(book),
         sketch.parts(),
         scrolling("Slots of the cycle by node", class, &body)
     )
@@ -74,13 +74,17 @@ fn span(tiles: &[u16]) -> String {
 }
 
 /// What the cells mean; each kind differs by more than its colour.
-fn legend() -> String {
-    let kinds = [
+fn legend(book: &Book) -> String {
+    let mut kinds = vec![
         ("control", "", "control: hatched"),
         ("sleep", "", "sleep: empty"),
         ("sends", "7", "sending: full, with the stream’s id"),
         ("receives", "7", "receiving: framed, with the stream’s id"),
     ];
+    if book.has_second() {
+        let meaning = "receiving on a second route: its frame is dashed, its id marked ′";
+        kinds.push(("second receives", "7′", meaning));
+    }
     let item = |(class, id, meaning): &(&str, &str, &str)| {
         format!(
             "<li><svg class=\"sample k0\" viewBox=\"0 0 26 18\" aria-hidden=\"true\">\

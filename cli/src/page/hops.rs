@@ -1,6 +1,6 @@
 //! The hops of a stream, and in which tile and slot an offset lies.
 
-use crate::book::{Book, Stream};
+use crate::book::{Book, Way};
 
 /// One hop of a stream: who sends to whom, in which slot first, and its place on the route.
 pub struct Hop {
@@ -11,8 +11,8 @@ pub struct Hop {
 }
 
 /// The hops of a stream from its source to its destination.
-pub fn hops(stream: &Stream) -> impl Iterator<Item = Hop> + '_ {
-    let ends = stream.nodes.windows(2).zip(&stream.offsets).enumerate();
+pub fn hops(way: &Way) -> impl Iterator<Item = Hop> + '_ {
+    let ends = way.nodes.windows(2).zip(&way.offsets).enumerate();
     ends.map(|(place, (ends, &offset))| Hop { place, from: ends[0], to: ends[1], offset })
 }
 

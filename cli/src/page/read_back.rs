@@ -1,6 +1,6 @@
 //! The grid read back from the page, cell by cell, and compared with document 01 in every slot.
 
-use super::samples::{bare, full_site, kiln, line_book, stream};
+use super::samples::{bare, full_site, kiln, line_book, ring, stream};
 use super::wellformed::{tags, Tag};
 use super::{grid, style};
 use crate::book::{Book, CYCLE};
@@ -125,15 +125,15 @@ fn by_the_document(book: &Book) -> Table {
     let ground = (0..TILES * slots)
         .map(|slot| if is_control(slot) { "control" } else { "sleep" }.to_string());
     let mut table = vec![ground.collect::<Vec<_>>(); book.links.len()];
-    for (row, stream) in book.streams.iter().enumerate() {
-        let (id, colour) = (stream.id, row % style::COLOURS);
-        for (hop, &offset) in stream.offsets.iter().enumerate() {
-            for slot in
-                (usize::from(offset)..TILES * slots).step_by(usize::from(stream.period) * slots)
-            {
-                table[usize::from(stream.nodes[hop])][slot] = format!("sends k{colour} {id}");
-                table[usize::from(stream.nodes[hop + 1])][slot] =
-                    format!("receives k{colour} {id}");
+    for way in &book.ways {
+        let order = book.streams().position(|stream| stream.first().id == way.id).expect("its own");
+        let (dashes, mark) = if way.number == 2 { (" second", "′") } else { ("", "") };
+        let said = format!("k{}{dashes} {}{mark}", order % style::COLOURS, way.id);
+        for (hop, &offset) in way.offsets.iter().enumerate() {
+            let turns = usize::from(offset)..TILES * slots;
+            for slot in turns.step_by(usize::from(way.period) * slots) {
+                table[usize::from(way.nodes[hop])][slot] = format!("sends {said}");
+                table[usize::from(way.nodes[hop + 1])][slot] = format!("receives {said}");
             }
         }
     }
@@ -166,10 +166,15 @@ fn every_slot_of_a_full_site_is_drawn_as_the_book_says() {
     assert_agrees(&full_site_without_clashes());
 }
 
+#[test]
+fn every_slot_of_second_routes_is_drawn_as_the_book_says() {
+    assert_agrees(&ring());
+}
+
 /// The full site with one stream for each row of nodes, so that no slot has two meanings.
 fn full_site_without_clashes() -> Book {
     let mut book = full_site();
-    book.streams.truncate(8);
+    book.ways.truncate(8);
     book
 }
 

@@ -1,10 +1,11 @@
 //! A small picture for each stream: its own route on the whole site.
 
 use super::canvas::{pair, Canvas};
-use super::identity::{colour, is_second, journey, title};
+use super::identity::{colour, dashes, journey, title};
 use super::layout::Point;
 use super::markup::joined;
-use crate::book::{Book, Stream};
+use crate::book::{Book, Stream, Way};
+use crate::describe::loss;
 use crate::text::count;
 
 /// The length of a link of length 1.
@@ -22,14 +23,11 @@ const GROUND: &str = "ground";
 /// The small pictures of all streams, both routes of a stream in one.
 pub fn routes(book: &Book, places: &[Point]) -> String {
     let canvas = Canvas::new(places, UNIT, MARGIN);
-    let cards = book.streams.chunk_by(|a, b| a.id == b.id).scan(0, |row, ways| {
-        let card = card(&canvas, ways, &colour(book, *row));
-        *row += ways.len();
-        Some(card)
-    });
+    let cards = book.streams().map(|stream| card(&canvas, stream, &colour(book, stream.place)));
+    let second = if book.has_second() { " A second route is dashed." } else { "" };
     format!(
         "{}<ul class=\"routes\">\n{}</ul>\n<p class=\"note\">The ring is the source, the disc the \
-         destination; small arrows show the direction.</p>\n",
+         destination; small arrows show the direction.{second}</p>\n",
         ground(book, &canvas),
         cards.collect::<String>()
     )
@@ -45,14 +43,16 @@ fn ground(book: &Book, canvas: &Canvas) -> String {
     )
 }
 
-/// The card of one stream with all its routes.
-fn card(canvas: &Canvas, ways: &[Stream], colour: &str) -> String {
+/// The card of one stream with all its routes; of one with two, what the loss of a relay is to it.
+fn card(canvas: &Canvas, stream: Stream, colour: &str) -> String {
+    let Stream { ways, .. } = stream;
     let drawn = ways.iter().map(|way| route(canvas, way)).collect::<String>();
-    let in_words = |way: &Stream| format!("{}: nodes {}", title(way), joined(&way.nodes, ", "));
-    let first = &ways[0];
+    let in_words = |way: &Way| format!("{}: nodes {}", title(way), joined(&way.nodes, ", "));
+    let first = stream.first();
+    let loss = stream.second().map_or(String::new(), |_| format!("; {}", loss(stream)));
     format!(
         "<li class=\"{colour}\"><h4><span class=\"chip\">{}</span> {}</h4>\
-         <p>{}, every {}, latency {}</p><svg {} role=\"img\" aria-label=\"Route of {}\">\
+         <p>{}, every {}, latency {}{loss}</p><svg {} role=\"img\" aria-label=\"Route of {}\">\
          <use href=\"#{GROUND}\"/>{drawn}</svg></li>\n",
         first.id,
         journey(first),
@@ -65,20 +65,20 @@ fn card(canvas: &Canvas, ways: &[Stream], colour: &str) -> String {
 }
 
 /// A route with its arrows and its two ends; a second route is dashed.
-fn route(canvas: &Canvas, stream: &Stream) -> String {
-    let on_way = stream.nodes.iter().map(|&node| canvas.spots[usize::from(node)]);
+fn route(canvas: &Canvas, way: &Way) -> String {
+    let on_way = way.nodes.iter().map(|&node| canvas.spots[usize::from(node)]);
     let on_way = on_way.collect::<Vec<_>>();
     let line = joined(on_way.iter().map(|&spot| pair(spot)), "L");
     let heads = joined(on_way.windows(2).map(|hop| head(hop[0], hop[1])), "");
-    let dashes = if is_second(stream) { " second" } else { "" };
     let end = |class: &str, node: Option<&u8>| {
         let numbered = node.map(|&node| canvas.numbered(node.into(), END)).unwrap_or_default();
         format!("<g class=\"{class}\">{numbered}</g>")
     };
     format!(
-        "<path class=\"way{dashes}\" d=\"M{line}\"/><path class=\"head\" d=\"{heads}\"/>{}{}",
-        end("source", stream.nodes.first()),
-        end("destination", stream.nodes.last())
+        "<path class=\"way{}\" d=\"M{line}\"/><path class=\"head\" d=\"{heads}\"/>{}{}",
+        dashes(way),
+        end("source", way.nodes.first()),
+        end("destination", way.nodes.last())
     )
 }
 
@@ -103,17 +103,14 @@ mod tests {
         let book = kiln();
         let drawn = routes(&book, &places(&book.links));
         let cards = drawn.split("<li ").skip(1).collect::<Vec<_>>();
-        assert_eq!(cards.len(), book.streams.len());
-        for (card, stream) in cards.iter().zip(&book.streams) {
+        assert_eq!(cards.len(), book.ways.len());
+        for (card, way) in cards.iter().zip(&book.ways) {
             let (_, ends) = card.split_once("<g class=\"source\">").expect("a source");
             let (source, destination) =
                 ends.split_once("<g class=\"destination\">").expect("an end");
-            assert!(source.contains(&format!(">{}</text>", stream.nodes[0])));
-            assert!(
-                destination.contains(&format!(">{}</text>", stream.nodes[stream.offsets.len()]))
-            );
-            let spots =
-                stream.nodes.iter().map(|&node| format!("{} 13", 13 + 26 * u32::from(node)));
+            assert!(source.contains(&format!(">{}</text>", way.nodes[0])));
+            assert!(destination.contains(&format!(">{}</text>", way.nodes[way.offsets.len()])));
+            let spots = way.nodes.iter().map(|&node| format!("{} 13", 13 + 26 * u32::from(node)));
             assert!(card.contains(&format!("class=\"way\" d=\"M{}\"", joined(spots, "L"))));
         }
     }

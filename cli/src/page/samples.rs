@@ -1,6 +1,6 @@
 //! Books for the tests of the page.
 
-use crate::book::{Balance, Book, Stream};
+use crate::book::{Balance, Book, Way};
 
 /// Links from pairs of nodes.
 pub fn links_of(nodes: usize, pairs: &[(usize, usize)]) -> Vec<u64> {
@@ -24,21 +24,21 @@ pub fn square_links(side: usize) -> Vec<u64> {
     links_of(side * side, &across.chain(down).collect::<Vec<_>>())
 }
 
-pub fn stream(id: u16, period: u16, nodes: &[u8], offsets: &[u16]) -> Stream {
-    Stream { id, way: 1, period, nodes: nodes.to_vec(), offsets: offsets.to_vec() }
+pub fn stream(id: u16, period: u16, nodes: &[u8], offsets: &[u16]) -> Way {
+    Way { id, number: 1, period, nodes: nodes.to_vec(), offsets: offsets.to_vec() }
 }
 
 /// A line under plan A of document 01, with eight slots a tile.
-pub fn line_book(nodes: usize, streams: Vec<Stream>) -> Book {
+pub fn line_book(nodes: usize, streams: Vec<Way>) -> Book {
     Book {
-        version: 1,
+        version: 2,
         slots: 8,
         tiles: 2,
         kinds: 1,
         down: 2,
         up: 1,
         links: line_links(nodes),
-        streams,
+        ways: streams,
     }
 }
 
@@ -52,6 +52,19 @@ pub fn kiln() -> Book {
         stream(5, 2, &[6, 7], &[4]),
     ];
     line_book(8, streams)
+}
+
+/// A ring of six nodes and two streams: one goes round both ways, the last of all ids by a chord too.
+pub fn ring() -> Book {
+    let ring = [(0, 1), (1, 2), (2, 3), (3, 4), (4, 5), (5, 0), (1, 4)];
+    let second = |way: Way| Way { number: 2, ..way };
+    let ways = vec![
+        stream(7, 5, &[0, 1, 2, 3], &[2, 3, 4]),
+        second(stream(7, 5, &[0, 5, 4, 3], &[3, 4, 5])),
+        stream(65535, 10, &[1, 4], &[9]),
+        second(stream(65535, 10, &[1, 2, 3, 4], &[10, 11, 12])),
+    ];
+    Book { links: links_of(6, &ring), ..line_book(6, ways) }
 }
 
 /// The balances of the line of kilns: each hop counts at both its nodes, as often as its period.
@@ -75,28 +88,28 @@ pub fn full_site() -> Book {
     };
     let streams = (0..64).map(one).collect();
     Book {
-        version: 1,
+        version: 2,
         slots: 32,
         tiles: 10,
         kinds: 0x21,
         down: 3,
         up: 1,
         links: square_links(8),
-        streams,
+        ways: streams,
     }
 }
 
 /// A book without streams and without data slots, whose nodes no link joins.
 pub fn bare() -> Book {
     Book {
-        version: 1,
+        version: 2,
         slots: 1,
         tiles: 1,
         kinds: 1,
         down: 1,
         up: 0,
         links: vec![0; 2],
-        streams: Vec::new(),
+        ways: Vec::new(),
     }
 }
 

@@ -1,14 +1,16 @@
 //! The book in a few figures: its size and its tile plan.
 
 use super::markup::joined;
-use crate::book::{Book, CYCLE, MOST_HOPS, MOST_STREAMS};
+use crate::book::{Book, CYCLE, MOST_HOPS, MOST_ROUTES};
+use crate::describe::with_routes;
 use crate::text::count;
 
 /// What the book holds, and its tile plan.
 pub fn summary(book: &Book) -> String {
     let size =
         format!("{}, {}", count(book.links.len(), "node"), count(book.pairs().len(), "link"));
-    let sold = format!("{} of at most {MOST_STREAMS}", book.streams.len());
+    let streams = book.streams().count();
+    let sold = format!("{streams}{} of at most {MOST_ROUTES}", with_routes(book));
     let used = format!("{} of at most {MOST_HOPS}", book.hops());
     let tiles = u16::from(book.tiles);
     let cycle = format!("{CYCLE} tiles of {}", count(book.slots, "slot"));

@@ -1,9 +1,9 @@
 //! Which streams go over which link, in which direction.
 
 use super::hops::hops;
-use super::identity::{is_second, name};
+use super::identity::name;
 use super::markup::joined;
-use crate::book::{Book, Stream};
+use crate::book::{Book, Way};
 use crate::text::count;
 use std::collections::BTreeMap;
 
@@ -12,8 +12,8 @@ pub type Traffic = BTreeMap<(usize, usize), Vec<usize>>;
 
 pub fn traffic(book: &Book) -> Traffic {
     let mut traffic = Traffic::new();
-    for (row, stream) in book.streams.iter().enumerate() {
-        for hop in hops(stream) {
+    for (row, way) in book.ways.iter().enumerate() {
+        for hop in hops(way) {
             traffic.entry((hop.from.into(), hop.to.into())).or_default().push(row);
         }
     }
@@ -22,16 +22,16 @@ pub fn traffic(book: &Book) -> Traffic {
 
 /// The slots of a cycle that these rows take on one link.
 pub fn slots_in_use(book: &Book, rows: &[usize]) -> usize {
-    rows.iter().map(|&row| usize::from(book.streams[row].repeats())).sum()
+    rows.iter().map(|&row| usize::from(book.ways[row].repeats())).sum()
 }
 
 /// The names of these rows' streams, ids that follow each other as a range.
 pub fn names(book: &Book, rows: &[usize]) -> String {
-    let streams = rows.iter().map(|&row| &book.streams[row]).collect::<Vec<_>>();
-    let follows = |a: &&Stream, b: &&Stream| a.id + 1 == b.id && !is_second(a) && !is_second(b);
-    let range = |run: &[&Stream]| match run {
+    let streams = rows.iter().map(|&row| &book.ways[row]).collect::<Vec<_>>();
+    let follows = |a: &&Way, b: &&Way| !a.is_second() && !b.is_second() && a.id + 1 == b.id;
+    let range = |run: &[&Way]| match run {
         [first, _, .., last] => format!("{}–{}", name(first), name(last)),
-        few => joined(few.iter().map(|stream| name(stream)), ", "),
+        few => joined(few.iter().map(|way| name(way)), ", "),
     };
     joined(streams.chunk_by(follows).map(range), ", ")
 }

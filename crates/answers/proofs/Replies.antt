@@ -1,11 +1,10 @@
 -- The reply of a list of refusals, refusal by refusal.
 use mathlib.Core.Path.{_≡_, refl, sym, _∙_}
-use mathlib.Core.Logic.{_⊎_, inl, inr}
+use mathlib.Core.Logic.{inl, inr}
 use mathlib.Core.List.{List, [], _∷_, _++_}
 use Prim.Native.Nat.{ℕ}
 use lib.ListN.{length, drop}
 use Rattle.rules.specs.Says.{Refusal, _when_, Says}
-use Rattle.rules.specs.Calls.{Wrote, Unchanged}
 use Rattle.rules.proofs.Says.{None, Alike, same-says, says-first, says-then}
 use Rattle.answers.specs.Reply.{Reply}
 

@@ -93,7 +93,8 @@ module _ {T : Topology} (middle : ℕ) {s z allowed outside barred : ℕ} (asked
           short = omega (arith, r .most);
           walk = record { linked = r .between .path .linked; ends = ends };
           distinct = r .between .path .distinct;
-          avoids = λ x h i. ⊎-elim (λ (j : Has outside x). o .only x j .1 (a .all x (stands x ends h))) (λ (f : x ≡ s). r .between .path .distinct .0 x h (r .between .starts ∙ sym f)) (b .only x i);
+          avoids = λ x h i. ⊎-elim (λ (j : Has outside x). o .only x j .1 (a .all x (stands x ends h)))
+              (λ (f : x ≡ s). r .between .path .distinct .0 x h (r .between .starts ∙ sym f)) (b .only x i);
         }),
       )
     where

@@ -97,7 +97,8 @@ module _ {s : List ℕ} (h : LawfulImage s) {book : head.Book} (read : HeaderOf 
               apart = apart;
             }
 
-        pub listed : {out out′ : List ℕ} {r : Choices} → ListSays (topology (take (book .nodes) rows)) (allNodes 64) source destination out r out′ → BookSays s source destination out r out′
+        pub listed : {out out′ : List ℕ} {r : Choices} → ListSays (topology (take (book .nodes) rows)) (allNodes 64) source destination out r out′
+            → BookSays s source destination out r out′
         listed {out} {out′} {r} w =
             lists-next both-known (lists-next apart
             (lists-any 64 (nodes (linksOf s)) (linksOf s) few (omega arith) (subst (λ (T : Topology). ListSays T (allNodes 64) source destination out r out′) same w)))

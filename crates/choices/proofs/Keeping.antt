@@ -69,7 +69,8 @@ adds-route route t b o₁ o₂ r some most l p q = record {
     size : length o₂ ≡ listRoom
     size = ap length q ∙ length-over o₁ (t .length + 1) route (omega (arith, one, r .length-most, r .size)) ∙ one ∙ r .size
 
-    kept : (d : List ℕ) (rs : List (List ℕ)) → Kept d rs t b → Kept d (rs ++ (route ∷ [])) (record { count = t .count + 1; length = t .length + 1 + length route; more = false }) o₂
+    kept : (d : List ℕ) (rs : List (List ℕ)) → Kept d rs t b
+        → Kept d (rs ++ (route ∷ [])) (record { count = t .count + 1; length = t .length + 1 + length route; more = false }) o₂
     kept d rs k = record {
       count-is = omega (arith, n, few);
       more-is = record { yes = λ e. never e; back = λ h. absurd (omega (arith, n, few)) };
@@ -121,7 +122,8 @@ finds-stopped f t b r e w = record { walks = w .0; exactly = w .1; adds = adds-s
 pub finds-one : {P : List ℕ → Type 0} (f : List ℕ) {t t′ : Tally} {b b′ : List ℕ} → Exactly P ([] ∷ []) → Adds (f ∷ []) t b t′ b′ → Finds P f t b t′ b′
 finds-one f {t} {t′} {b} {b′} e a = record { walks = [] ∷ []; exactly = e; adds = subst (λ (x : List ℕ). Adds (x ∷ []) t b t′ b′) (sym (append-nil f)) a }
 
-pub finds-same : {P Q : List ℕ → Type 0} {f : List ℕ} {t t′ : Tally} {b b′ : List ℕ} → ((ws : List (List ℕ)) → Exactly P ws → Exactly Q ws) → Finds P f t b t′ b′ → Finds Q f t b t′ b′
+pub finds-same : {P Q : List ℕ → Type 0} {f : List ℕ} {t t′ : Tally} {b b′ : List ℕ} → ((ws : List (List ℕ)) → Exactly P ws → Exactly Q ws) → Finds P f t b t′ b′
+    → Finds Q f t b t′ b′
 finds-same g x = record { walks = x .walks; exactly = g (x .walks) (x .exactly); adds = x .adds }
 
 -- one node further, and then the others
@@ -131,7 +133,10 @@ pub finds-both : {P Q R : List ℕ → Type 0} (f g : List ℕ) (m : ℕ) {t t�
 finds-both f g m {t} {t₁} {t₂} {b} {b₁} {b₂} e join x y = record {
   walks = behind (m ∷ []) (x .walks) ++ y .walks;
   exactly = join (x .walks) (y .walks) (x .exactly) (y .exactly);
-  adds = record { room = y .adds .room; kept = λ d rs k. subst (λ (v : List (List ℕ)). Kept d v t₂ b₂) (line rs) (y .adds .kept d (rs ++ behind g (x .walks)) (x .adds .kept d rs k)) };
+  adds = record {
+    room = y .adds .room;
+    kept = λ d rs k. subst (λ (v : List (List ℕ)). Kept d v t₂ b₂) (line rs) (y .adds .kept d (rs ++ behind g (x .walks)) (x .adds .kept d rs k));
+  };
 }
   where
     line : (rs : List (List ℕ)) → (rs ++ behind g (x .walks)) ++ behind f (y .walks) ≡ rs ++ behind f (behind (m ∷ []) (x .walks) ++ y .walks)

@@ -45,8 +45,9 @@ module _ {T : Topology} {z : ℕ} (barred most : ℕ) (g : Ground T z) where
       near : Near T z barred (n + 1) fewer
       near a [] k w f = d .all a (u .all a (inl (h .near a [] (omega arith) w f)), f a (inl refl))
       near a (m ∷ p) k w f =
+          let on = h .near m p (omega arith) (record { linked = w .linked .1; ends = w .ends }) (λ x i. f x (inr i)) in
           d .all a (
-            u .all a (inr (s .all a (m, h .near m p (omega arith) (record { linked = w .linked .1; ends = w .ends }) (λ x i. f x (inr i)), joined-back T (g .sound) a m (w .linked .0) .1))),
+            u .all a (inr (s .all a (m, on, joined-back T (g .sound) a m (w .linked .0) .1))),
             f a (inl refl),
           )
 

@@ -83,7 +83,8 @@ module _ (T : Topology) (z : ℕ) where
     exactly-onward e = exactly-same back onward e
 
   -- a node that is barred from here on is none that follows
-  pub exactly-barred : {n barred barred′ b : ℕ} {ws : List (List ℕ)} → SetOf (λ (k : ℕ). Has barred k ⊎ (k ≡ b)) barred′ → Exactly (Leads T z n barred′ b) ws → Exactly (Leads T z n barred b) ws
+  pub exactly-barred : {n barred barred′ b : ℕ} {ws : List (List ℕ)} → SetOf (λ (k : ℕ). Has barred k ⊎ (k ≡ b)) barred′ → Exactly (Leads T z n barred′ b) ws
+      → Exactly (Leads T z n barred b) ws
   exactly-barred {n} {barred} {barred′} {b} s e = exactly-same to from e
     where
       to : (p : List ℕ) → Leads T z n barred′ b p → Leads T z n barred b p

@@ -8,9 +8,8 @@ use Rattle.rules.specs.Words.{bit, Has}
 use Rattle.rules.specs.Topology.{Topology, nodes, Joined, Touches, Hop, Clash}
 use Rattle.bitset.specs.Sets.{SetOf}
 use Rattle.bitset.proofs.Bits.{within, zero-none}
-use Rattle.clash.specs.Reach.{Between, End, nodeAt, setAt, Clashes, ReachOf}
+use Rattle.clash.specs.Reach.{Between, End, nodeAt, Clashes, ReachOf}
 use Rattle.clash.specs.Reach.End.{sender, receiver}
-use Rattle.clash.specs.declared.Reach.{Reach}
 
 -- A HOP CLASHES BY ITS SENDER OR BY ITS RECEIVER
 pub clash-end : (T : Topology) (h k : Hop) → Clash T h k → (end : End) × Clashes T h end (nodeAt end k)

@@ -1,6 +1,5 @@
 -- The reach of a hop: the nodes that clash with it as senders, and those that do as receivers.
 use mathlib.Core.Logic.{_⊎_}
-use mathlib.Core.List.{List}
 use Prim.Native.Nat.{ℕ, _<_, _≤_}
 use Rattle.rules.specs.Topology.{Topology, nodes, SoundTopology, Joined, Hop, Touches}
 use Rattle.rules.specs.declared.Node.{Node}

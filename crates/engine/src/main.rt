@@ -1,7 +1,10 @@
 // Answers framed calls: reads them on standard input, and writes the answers on standard output.
+mod frames;
+
 ghost use mathlib.Core.Path.{_≡_};
 ghost use Prim.Native.Nat.{_+_, _≤_};
 ghost use lib.ListN.{length};
+ghost use Rattle.engine.specs.Lengths.{headLength, replyLength, mostRoom};
 ghost use Rattle.engine.specs.Streams.{Within, Refilled};
 use libc::STDIN_FILENO;
 use libc::STDOUT_FILENO;
@@ -84,7 +87,7 @@ fn make_room(answers: &[u8], held: usize, need: usize) -> usize
 
 // Answers the call of the frame, behind the answers that are held; says how many bytes are held then.
 fn answer(frame: &[u8], answers: &mut [u8], held: usize) -> usize
-    requires { ⌜ (19 ≤ length (now frame)) × (held ≤ length (now answers)) × (16397 ≤ length (now answers)) ⌝ }
+    requires { ⌜ (headLength ≤ length (now frame)) × (held ≤ length (now answers)) × (replyLength + mostRoom ≤ length (now answers)) ⌝ }
     ensures { λ r. ⌜ r ≤ length (now (answers .entry)) ⌝ }
 {
     let room = frames::room(frame);
@@ -111,7 +114,7 @@ fn ended(s: Streams) -> Streams
 
 // Reads and answers one call.
 fn turn(input: &mut [u8], answers: &mut [u8], s: Streams) -> Streams
-    requires { ⌜ Within (now input) (now answers) s × (16397 ≤ length (now answers)) ⌝ }
+    requires { ⌜ Within (now input) (now answers) s × (replyLength + mostRoom ≤ length (now answers)) ⌝ }
     ensures { λ r. ⌜ Within (now (input .entry)) (now (answers .entry)) r ⌝ }
 {
     let head = supply(input, answers, s, frames::HEAD);
@@ -142,7 +145,7 @@ fn turn(input: &mut [u8], answers: &mut [u8], s: Streams) -> Streams
 
 // Answers all calls; says how many bytes of answers are still to be written.
 fn serve(input: &mut [u8], answers: &mut [u8]) -> usize
-    requires { ⌜ 16397 ≤ length (now answers) ⌝ }
+    requires { ⌜ replyLength + mostRoom ≤ length (now answers) ⌝ }
     ensures { λ r. ⌜ r ≤ length (now (answers .entry)) ⌝ }
 {
     let mut streams = Streams {

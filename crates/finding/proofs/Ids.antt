@@ -1,19 +1,20 @@
--- The search for an id among rows that rise by id.
-use mathlib.Core.Path.{_≡_, refl, sym, ap, _∙_, subst}
+-- The search for an id among rows that rise by id, and then by way.
+use mathlib.Core.Path.{_≡_, sym, _∙_, subst}
 use mathlib.Core.Logic.{_⊎_, inl, inr, ⊎-elim}
 use mathlib.Core.List.{List, [], _∷_, _++_}
-use Prim.Native.Nat.{ℕ, zero, suc, _+_, _-_, _<_, _≤_}
+use Prim.Native.Nat.{ℕ, _-_, _<_, _≤_}
 use native.Mathlib.Omega.{arith}
-use lib.ListN.{length, drop}
+use lib.ListN.{length}
 use Rattle.rules.specs.Words.{_∈_, With}
 use Rattle.rules.specs.Words.With.{here, there}
-use Rattle.rules.specs.Book.{Row, RisingByKey, Known}
-use Rattle.rules.specs.Image.{rowsStart, versionOf, streamsOf, inTurn, encodeRow}
+use Rattle.rules.specs.Book.{Row, RisingByKey, LawfulRow, Known}
+use Rattle.rules.specs.Image.{rowsStart, streamsOf, siteOf}
+use Rattle.rules.proofs.Lists.{in-append, in-right}
 use Rattle.rules.proofs.Reading.{bookIn, LawfulImage}
 use Rattle.image.specs.Header.{HeaderOf}
 use Rattle.image.specs.declared.Book as head
 use Rattle.image.specs.Places.{rowAt, nextAt, rowsFrom, Stands}
-use Rattle.image.proofs.Stands.{in-later, stored-length, stands-start, stands-split, stands-row, stands-next, stands-end}
+use Rattle.image.proofs.Stands.{stored-length, stands-start, stands-split, stands-row, stands-next}
 use Rattle.image.proofs.Walks.{rows-start}
 use Rattle.finding.specs.Spot.{Vacant, Taken}
 
@@ -27,14 +28,27 @@ passed-start {s} {id = id} {at} {left} w h e f =
     subst (λ (n : ℕ). Passed s id at n) (sym (f ∙ h .streams))
     (subst (λ (n : ℕ). Passed s id n (streamsOf s)) (sym (rows-start h e)) record { stands = stands-start w; lower = λ r m. absurd m })
 
+-- rows that rise do so from any of them on
 later : (xs ys : List Row) → RisingByKey (xs ++ ys) → RisingByKey ys
 later [] ys up = up
 later (x ∷ xs) ys up = later xs ys (up .1)
 
-pub in-either : (x : Row) (xs ys : List Row) → x ∈ xs ++ ys → (x ∈ xs) ⊎ (x ∈ ys)
-in-either x [] ys m = inr m
-in-either x (y ∷ xs) ys (inl e) = inl (inl e)
-in-either x (y ∷ xs) ys (inr m) = ⊎-elim (λ k. inl (inr k)) (λ k. inr k) (in-either x xs ys m)
+-- the rows from a place on
+module _ {s : List ℕ} {at left : ℕ} (more : 0 < left) (w : Stands s at left) where
+  -- they rise,
+  pub rest-rises : RisingByKey (rowAt s at ∷ rowsFrom s (left - 1) (nextAt s at))
+  rest-rises = subst RisingByKey (stands-split more w) (later (w .before) (w .rest) (subst RisingByKey (w .all) (w .stored .lawful .rising)))
+
+  -- are lawful,
+  pub rest-lawful : (r : Row) → r ∈ (rowAt s at ∷ rowsFrom s (left - 1) (nextAt s at)) → LawfulRow (siteOf s) r
+  rest-lawful r m =
+      w .stored .lawful .rows r
+      (subst (λ (rows : List Row). r ∈ rows) (sym (w .all)) (in-right r (w .before) (w .rest) (subst (λ (rows : List Row). r ∈ rows) (sym (stands-split more w)) m)))
+
+  -- and have higher ids where the first of them has
+  pub rest-higher : {id : ℕ} → id < rowAt s at .id → (r : Row) → r ∈ (rowAt s at ∷ rowsFrom s (left - 1) (nextAt s at)) → id < r .id
+  rest-higher {id} l r (inl e) = subst (λ (x : Row). id < x .id) (sym e) l
+  rest-higher l r (inr m) = omega (arith, rest-rises .0 r m, rest-lawful r (inr m) .way-most)
 
 module _ {s : List ℕ} {id at left : ℕ} (more : 0 < left) (p : Passed s id at left) where
   pub passed-next : {to : ℕ} → to ≡ nextAt s at → rowAt s at .id < id → Passed s id to (left - 1)
@@ -42,13 +56,8 @@ module _ {s : List ℕ} {id at left : ℕ} (more : 0 < left) (p : Passed s id at
     stands = stands-next more (p .stands);
     lower = λ r m. ⊎-elim (λ k. p .lower r k)
         (λ (k : r ∈ (rowAt s at ∷ [])). ⊎-elim (λ (e : r ≡ rowAt s at). subst (λ (x : Row). x .id < id) (sym e) l) (λ (x : ⊥). absurd x) k)
-        (in-either r (p .stands .before) (rowAt s at ∷ []) m);
+        (in-append r (p .stands .before) (rowAt s at ∷ []) m);
   }
-
-  rest-rises : RisingByKey (rowAt s at ∷ rowsFrom s (left - 1) (nextAt s at))
-  rest-rises =
-      subst RisingByKey (stands-split more (p .stands))
-      (later (p .stands .before) (p .stands .rest) (subst RisingByKey (p .stands .all) (p .stands .stored .lawful .rising)))
 
   pub vacant-here : id < rowAt s at .id → Vacant s id at
   vacant-here l = record {
@@ -58,23 +67,11 @@ module _ {s : List ℕ} {id at left : ℕ} (more : 0 < left) (p : Passed s id at
     inside = p .stands .inside;
     bytes = p .stands .bytes;
     lower = p .lower;
-    higher = λ r m. above r (subst (λ (rows : List Row). r ∈ rows) (stands-split more (p .stands)) m);
+    higher = λ r m. rest-higher more (p .stands) l r (subst (λ (rows : List Row). r ∈ rows) (stands-split more (p .stands)) m);
   }
-    where
-      above : (r : Row) → r ∈ (rowAt s at ∷ rowsFrom s (left - 1) (nextAt s at)) → id < r .id
-      above r (inl e) = subst (λ (x : Row). id < x .id) (sym e) l
-      above r (inr m) = omega (arith, rest-rises .0 r m)
 
   pub taken-here : rowAt s at .id ≡ id → Taken s id at
-  taken-here e = record {
-    before = p .stands .before;
-    rest = rowsFrom s (left - 1) (nextAt s at);
-    all = p .stands .all ∙ ap (λ (rows : List Row). p .stands .before ++ rows) (stands-split more (p .stands));
-    inside = p .stands .inside;
-    bytes = p .stands .bytes ∙ ap (inTurn (encodeRow (versionOf s))) (stands-split more (p .stands));
-    named = e;
-    whole = stands-row more (p .stands) .whole;
-  }
+  taken-here e = record { left = left; more = more; stands = p .stands; lower = p .lower; named = e }
 
 pub vacant-end : {s : List ℕ} {id at left : ℕ} → left ≤ 0 → Passed s id at left → Vacant s id at
 vacant-end {s} {id} {at} {left} none p = record {
@@ -99,14 +96,10 @@ stored-long h = omega (arith, stored-length h)
 pub vacant-unknown : {s : List ℕ} {id at : ℕ} → Vacant s id at → Known (bookIn s) id → ⊥
 vacant-unknown {s} {id} v k =
     ⊎-elim (λ (m : k .row ∈ v .before). omega (arith, v .lower (k .row) m, k .named)) (λ (m : k .row ∈ v .rest). omega (arith, v .higher (k .row) m, k .named))
-    (in-either (k .row) (v .before) (v .rest) (subst (λ (rows : List Row). k .row ∈ rows) (v .all) (k .there)))
+    (in-append (k .row) (v .before) (v .rest) (subst (λ (rows : List Row). k .row ∈ rows) (v .all) (k .there)))
 
 pub taken-known : {s : List ℕ} {id at : ℕ} → Taken s id at → Known (bookIn s) id
-taken-known {s} {id} {at} t = record {
-  row = rowAt s at;
-  there = subst (λ (rows : List Row). rowAt s at ∈ rows) (sym (t .all)) (in-later (rowAt s at) (t .before) (rowAt s at ∷ t .rest) (inl refl));
-  named = t .named;
-}
+taken-known {s} {at = at} t = record { row = rowAt s at; there = stands-row (t .more) (t .stands) .there; named = t .named }
 
 -- a row put in between others
 pub with-middle : (r : Row) (xs ys : List Row) → With r (xs ++ ys) (xs ++ (r ∷ ys))

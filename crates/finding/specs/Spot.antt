@@ -1,13 +1,13 @@
 -- Where the row of an id stands among the rows of a lawful image, or would stand.
 use mathlib.Core.Path.{_≡_}
-use mathlib.Core.List.{List, _∷_, _++_}
+use mathlib.Core.List.{List, _++_}
 use Prim.Native.Nat.{ℕ, _<_, _≤_}
 use lib.ListN.{length, drop}
 use Rattle.rules.specs.Words.{_∈_}
 use Rattle.rules.specs.Book.{Row}
 use Rattle.rules.specs.Image.{inTurn, encodeRow, versionOf}
 use Rattle.rules.proofs.Reading.{rowsIn}
-use Rattle.image.specs.Places.{rowAt, Whole}
+use Rattle.image.specs.Places.{rowAt, Stands}
 use Rattle.finding.specs.declared.Spot.{Spot}
 use Rattle.finding.specs.declared.Spot.the-variants.{Between, Here}
 
@@ -21,15 +21,13 @@ pub record Vacant (s : List ℕ) (id at : ℕ) : Type 0 where
   pub lower : (r : Row) → r ∈ before → r .id < id
   pub higher : (r : Row) → r ∈ rest → id < r .id
 
--- the row at the place has the id
+-- a row stands at the place, and it is the first with the id: those before it have lower ones
 pub record Taken (s : List ℕ) (id at : ℕ) : Type 0 where
-  pub before : List Row
-  pub rest : List Row
-  pub all : rowsIn s ≡ before ++ (rowAt s at ∷ rest)
-  pub inside : at ≤ length s
-  pub bytes : drop at s ≡ inTurn (encodeRow (versionOf s)) (rowAt s at ∷ rest)
+  pub left : ℕ
+  pub more : 0 < left
+  pub stands : Stands s at left
+  pub lower : (r : Row) → r ∈ stands .before → r .id < id
   pub named : rowAt s at .id ≡ id
-  pub whole : Whole s at
 
 abbrev pub SpotOf : List ℕ → ℕ → Spot → Type 0
 SpotOf s id (Between at) = Vacant s id at

@@ -1,16 +1,16 @@
-// Finds the row of an id on the image of a lawful book.
+// Finds the rows of an id on the image of a lawful book.
 ghost use Rattle.rules.proofs.Reading.{LawfulImage};
 ghost use Rattle.finding.specs.Spot.{SpotOf};
 use image::Book;
 use reader::Cut;
 
-// Where the row of an id stands, or between which rows it would.
+// Where the first row of an id stands, or between which rows it would.
 pub enum Spot {
     Between(usize),
     Here(usize),
 }
 
-// Seeks the row of the id.
+// Seeks the first row of the id.
 pub fn find(image: &[u8], id: u16) -> Spot
     requires { ⌜ LawfulImage (now image) ⌝ }
     ensures { λ r. ⌜ SpotOf (now (image .entry)) id r ⌝ }

@@ -4,7 +4,7 @@ use native.Mathlib.Omega.{arith}
 use lib.ListN.{getD}
 use Rattle.rules.specs.Words.{_∈_}
 use Rattle.rules.specs.Topology.{nodes}
-use Rattle.rules.specs.Book.{Site, Row, hops, rowOffset, OnData, LawfulRow}
+use Rattle.rules.specs.Book.{Site, Row, hops, rowOffset, LawfulRow}
 use Rattle.rules.proofs.Lists.{at-in}
 
 module _ {site : Site} {r : Row} (w : LawfulRow site r) where
@@ -18,7 +18,3 @@ module _ {site : Site} {r : Row} (w : LawfulRow site r) where
   -- its offsets are below K * S
   pub offset-within : (i : ℕ) → i < hops r → rowOffset r i < r .period * site .plan .slots
   offset-within i l = w .offsets .within (rowOffset r i) (offset-there i l)
-
-  -- and on data slots
-  pub offset-on-data : (i : ℕ) → i < hops r → OnData (site .plan) (r .period) (rowOffset r i)
-  offset-on-data i l = w .on-data (rowOffset r i) (offset-there i l)

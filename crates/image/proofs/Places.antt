@@ -1,81 +1,87 @@
 -- What stands at a place, by the bytes of the image.
 use mathlib.Core.Path.{_≡_, refl, sym, ap, ap₂, _∙_}
-use mathlib.Core.Bool.{false}
+use mathlib.Core.Bool.{Bool, false, cond}
 use mathlib.Core.List.{List, _∷_}
 use Prim.Native.Nat.{ℕ, zero, suc, _+_, _*_, _<_, _≤_, _-_}
 use native.Mathlib.Omega.{arith}
+use borrow.Author.Tests.{le-leb, lt-leb}
 use lib.Dec.{leb}
-use lib.ListN.{length, getD, drop, length-take, length-drop}
-use lib.Seq.{getD-take, getD-drop, drop-drop}
+use lib.ListN.{length, getD, drop}
+use lib.Seq.{getD-drop, drop-drop}
 use Rattle.rules.specs.Book.{Row, hops, rowOffset}
-use Rattle.rules.specs.Image.{wordAt, word64At, versionOf, rowsPlace, streamsOf}
+use Rattle.rules.specs.Image.{hasWays, periodPlace, hopsPlace, rowLength, wordAt, word64At, versionOf, rowsPlace, streamsOf}
 use Rattle.rules.specs.Words.{Tests}
 use Rattle.rules.proofs.Tests.{never, alike, tests-le}
-use Rattle.rules.proofs.Encoding.{wordsAt, Sized}
+use Rattle.rules.proofs.Encoding.{hopsIn, Sized}
+use Rattle.rules.proofs.Fronts.{front-id, front-way, front-period, front-hops, front-node, front-offset, front-sized}
 use Rattle.rules.proofs.Reading.{readRows, rowsIn}
 use Rattle.image.specs.Places.{rowAt, nextAt, rowsFrom, Whole}
 
-word-drop : (k : ℕ) (s : List ℕ) (i j : ℕ) → k + i ≡ j → wordAt (drop k s) i ≡ wordAt s j
-word-drop k s i j e =
-    let f : k + (i + 1) ≡ j + 1 = omega arith in
-    let a : getD (drop k s) i 0 ≡ getD s j 0 = getD-drop k s i 0 ∙ ap (λ (n : ℕ). getD s n 0) e in
-    let b : getD (drop k s) (i + 1) 0 ≡ getD s (j + 1) 0 = getD-drop k s (i + 1) 0 ∙ ap (λ (n : ℕ). getD s n 0) f in
-    ap₂ (λ (x y : ℕ). x * 256 + y) a b
+-- in the versions before 2 a row has no way
+pub place-without : (v : ℕ) → v < 2 → hopsPlace v ≡ 3
+place-without v l = ap (λ (t : Bool). 2 + cond t 1 0 + 1) (lt-leb 2 v l)
 
-words-at : (n : ℕ) (s : List ℕ) (i : ℕ) → i < n → getD (wordsAt n s) i 0 ≡ wordAt s (2 * i)
-words-at zero s i l = absurd (omega arith)
-words-at (suc n) s zero l = refl
-words-at (suc n) s (suc i) l = words-at n (drop 2 s) i (omega arith) ∙ word-drop 2 s (2 * i) (2 * suc i) (omega arith)
+pub place-with : (v : ℕ) → 2 ≤ v → hopsPlace v ≡ 4
+place-with v l = ap (λ (t : Bool). 2 + cond t 1 0 + 1) (le-leb 2 v l)
 
 module _ (s : List ℕ) (at : ℕ) where
   pub row-id : rowAt s at .id ≡ wordAt s at
   unfolding rowAt
-  row-id = word-drop at s 0 at (omega arith)
+  row-id = front-id (versionOf s) s at
 
-  pub row-period : rowAt s at .period ≡ getD s (at + 2) 0
+  row-way : rowAt s at .way ≡ cond (hasWays (versionOf s)) (getD s (at + 2) 0) 1
   unfolding rowAt
-  row-period = getD-drop at s 2 0
+  row-way = front-way (versionOf s) s at
+
+  pub way-without : versionOf s < 2 → rowAt s at .way ≡ 1
+  way-without l = row-way ∙ ap (λ (t : Bool). cond t (getD s (at + 2) 0) 1) (lt-leb 2 (versionOf s) l)
+
+  pub way-with : 2 ≤ versionOf s → rowAt s at .way ≡ getD s (at + 2) 0
+  way-with l = row-way ∙ ap (λ (t : Bool). cond t (getD s (at + 2) 0) 1) (le-leb 2 (versionOf s) l)
+
+  pub row-period : rowAt s at .period ≡ getD s (at + periodPlace (versionOf s)) 0
+  unfolding rowAt
+  row-period = front-period (versionOf s) s at
+
+  pub next-stated : (p h : ℕ) → p ≡ hopsPlace (versionOf s) → h ≡ getD s (at + p) 0 → at + (p + 2 + 3 * h) ≡ nextAt s at
+  unfolding nextAt
+  next-stated p h e f =
+      ap₂ (λ (x y : ℕ). at + (x + 2 + 3 * y)) e (f ∙ ap (λ (n : ℕ). getD s (at + n) 0) e)
 
   module _ (w : Whole s at) where
-    size : getD (drop at s) 3 0 ≡ getD s (at + 3) 0
-    size = getD-drop at s 3 0
-
-    enough : at + (5 + 3 * getD s (at + 3) 0) ≤ length s
+    enough : at + (rowLength (versionOf s) + 3 * getD s (at + hopsPlace (versionOf s)) 0) ≤ length s
     unfolding nextAt
     enough = w .fits
 
-    pub row-hops : hops (rowAt s at) ≡ getD s (at + 3) 0
+    pub row-hops : hops (rowAt s at) ≡ getD s (at + hopsPlace (versionOf s)) 0
     unfolding rowAt
-    row-hops = simp (length-take, length-drop) (omega (arith, size, enough))
+    row-hops = front-hops (versionOf s) s at enough
 
-    pub row-node : (i : ℕ) → i ≤ hops (rowAt s at) → getD (rowAt s at .route) i 0 ≡ getD s (at + 4 + i) 0
+    pub row-node : (i : ℕ) → i ≤ hops (rowAt s at) → getD (rowAt s at .route) i 0 ≡ getD s (at + (hopsPlace (versionOf s) + 1) + i) 0
     unfolding rowAt
-    row-node i l =
-        let k : i < getD (drop at s) 3 0 + 1 = omega (arith, row-hops, size) in
-        let e : at + (4 + i) ≡ at + 4 + i = omega arith in
-        getD-take (getD (drop at s) 3 0 + 1) (drop 4 (drop at s)) i 0 k ∙ getD-drop 4 (drop at s) i 0
-        ∙ getD-drop at s (4 + i) 0 ∙ ap (λ (n : ℕ). getD s n 0) e
+    row-node = front-node (versionOf s) s at enough
 
-    pub row-offset : (i : ℕ) → i < hops (rowAt s at) → rowOffset (rowAt s at) i ≡ wordAt s (at + 5 + hops (rowAt s at) + 2 * i)
+    pub row-offset : (i : ℕ) → i < hops (rowAt s at) → rowOffset (rowAt s at) i ≡ wordAt s (at + rowLength (versionOf s) + hops (rowAt s at) + 2 * i)
     unfolding rowAt
-    row-offset i l =
-        let h : ℕ = getD (drop at s) 3 0 in
-        let k : i < h = omega (arith, row-hops, size) in
-        let e : at + (4 + (h + 1 + 2 * i)) ≡ at + 5 + hops (rowAt s at) + 2 * i = omega (arith, row-hops, size) in
-        words-at h (drop (h + 1) (drop 4 (drop at s))) i k ∙ word-drop (h + 1) (drop 4 (drop at s)) (2 * i) (h + 1 + 2 * i) refl
-        ∙ word-drop 4 (drop at s) (h + 1 + 2 * i) (4 + (h + 1 + 2 * i)) refl ∙ word-drop at s (4 + (h + 1 + 2 * i)) (at + 5 + hops (rowAt s at) + 2 * i) e
+    row-offset = front-offset (versionOf s) s at enough
 
-    pub next-hops : nextAt s at ≡ at + (5 + 3 * hops (rowAt s at))
+    pub next-hops : nextAt s at ≡ at + (rowLength (versionOf s) + 3 * hops (rowAt s at))
     unfolding nextAt
     next-hops = omega (arith, row-hops)
+
+    -- a whole row has as many offsets as hops, and one node more
+    pub whole-sized : Sized (versionOf s) (rowAt s at)
+    unfolding rowAt
+    whole-sized = front-sized (versionOf s) s at enough
 
 -- the rows from a place on are those that are read there
 pub rows-from : (s : List ℕ) (n at : ℕ) → rowsFrom s n at ≡ readRows (versionOf s) n (drop at s)
 unfolding rowAt nextAt
 rows-from s zero at = refl
 rows-from s (suc n) at =
-    let e : drop (nextAt s at) s ≡ drop (5 + 3 * getD (drop at s) 3 0) (drop at s) =
-    ap (λ (h : ℕ). drop (at + (5 + 3 * h)) s) (sym (getD-drop at s 3 0)) ∙ sym (drop-drop (5 + 3 * getD (drop at s) 3 0) at s) in
+    let v : ℕ = versionOf s in
+    let e : drop (nextAt s at) s ≡ drop (rowLength v + 3 * hopsIn v (drop at s)) (drop at s) =
+    ap (λ (h : ℕ). drop (at + (rowLength v + 3 * h)) s) (sym (getD-drop at s (hopsPlace v) 0)) ∙ sym (drop-drop (rowLength v + 3 * hopsIn v (drop at s)) at s) in
     ap (λ (rows : List Row). rowAt s at ∷ rows) (rows-from s n (nextAt s at) ∙ ap (readRows (versionOf s) n) e)
 
 pub rows-in : (s : List ℕ) → rowsIn s ≡ rowsFrom s (streamsOf s) (rowsPlace s)
@@ -95,22 +101,12 @@ halves s at =
 
 -- a place where a whole row is
 module _ (s : List ℕ) (at : ℕ) (inside : at ≤ length s) where
-  pub no-front : length s - at < 5 → Tests false (Whole s at)
+  pub no-front : length s - at < rowLength (versionOf s) → Tests false (Whole s at)
   no-front l = record { yes = λ e. never e; back = λ w. absurd (omega (arith, w .front)) }
 
-  pub tests-whole : (h : ℕ) → h ≡ getD s (at + 3) 0 → 5 ≤ length s - at → Tests (leb (5 + 3 * h) (length s - at)) (Whole s at)
+  pub tests-whole : (p h : ℕ) → p ≡ hopsPlace (versionOf s) → h ≡ getD s (at + p) 0 → p + 2 ≤ length s - at
+      → Tests (leb (p + 2 + 3 * h) (length s - at)) (Whole s at)
   unfolding nextAt
-  tests-whole h e l =
-      alike (tests-le (5 + 3 * h) (length s - at)) (λ f. record { front = omega arith; fits = omega arith }) (λ w. omega (arith, w .fits))
-
-length-words-at : (n : ℕ) (s : List ℕ) → length (wordsAt n s) ≡ n
-length-words-at zero s = refl
-length-words-at (suc n) s = ap suc (length-words-at n (drop 2 s))
-
--- a whole row has as many offsets as hops, and one node more
-pub whole-sized : (s : List ℕ) (at : ℕ) → Whole s at → Sized (versionOf s) (rowAt s at)
-unfolding rowAt
-whole-sized s at w = record {
-  nodes = simp (length-take, length-drop) (omega (arith, size s at w, enough s at w));
-  offsets = length-words-at (getD (drop at s) 3 0) (drop (getD (drop at s) 3 0 + 1) (drop 4 (drop at s))) ∙ size s at w ∙ sym (row-hops s at w);
-}
+  tests-whole p h g e l =
+      let f : h ≡ getD s (at + hopsPlace (versionOf s)) 0 = e ∙ ap (λ (n : ℕ). getD s (at + n) 0) g in
+      alike (tests-le (p + 2 + 3 * h) (length s - at)) (λ k. record { front = omega arith; fits = omega arith }) (λ w. omega (arith, w .fits))

@@ -9,16 +9,13 @@ use lib.ListN.{length, getD, drop, length-append, length-drop}
 use lib.Seq.{getD-drop, drop-drop}
 use Rattle.rules.specs.Words.{_∈_}
 use Rattle.rules.specs.Book.{Row, hops, hopsInAll}
-use Rattle.rules.specs.Image.{linksStart, imageLength, inTurn, encodeRow, versionOf, nodesOf, streamsOf, rowsPlace, RowsOf}
-use Rattle.rules.proofs.Encoding.{frontRow, Sized, AllSized, row-back, length-row, left-over, lawful-sized, rows-of, length-encode}
+use Rattle.rules.specs.Image.{RowFits, linksStart, hopsPlace, rowLength, imageLength, inTurn, encodeRow, versionOf, nodesOf, streamsOf, rowsPlace, RowsOf}
+use Rattle.rules.proofs.Encoding.{hopsIn, frontRow, Sized, AllSized, AllFit, row-back, hops-in, length-row, left-over, lawful-sized, rows-of, length-encode}
+use Rattle.rules.proofs.Lists.{in-right}
 use Rattle.rules.proofs.Written.{length-sets-at}
 use Rattle.rules.proofs.Reading.{rowsIn, bookIn, LawfulImage}
 use Rattle.image.specs.Places.{rowAt, nextAt, rowsFrom, Whole, Stands, RowHere}
 use Rattle.image.proofs.Places.{length-rows-from}
-
-pub in-later : {A : Type 0} (x : A) (xs ys : List A) → x ∈ ys → x ∈ xs ++ ys
-in-later x [] ys m = m
-in-later x (y ∷ xs) ys m = inr (in-later x xs ys m)
 
 -- what is read of a stored image are its rows
 pub stored-rows : {s : List ℕ} → LawfulImage s → RowsOf s (rowsIn s)
@@ -31,20 +28,21 @@ stored-length {s} h =
     ∙ ap (λ (N : ℕ). imageLength (versionOf s) N (length (rowsIn s)) (hopsInAll (rowsIn s))) (length-sets-at s (linksStart (versionOf s)) (nodesOf s))
 
 -- A ROW WHERE IT WAS WRITTEN
-module _ (s : List ℕ) (at : ℕ) (r : Row) (t : List ℕ) (w : Sized (versionOf s) r) (e : drop at s ≡ encodeRow (versionOf s) r ++ t) where
+module _ (s : List ℕ) (at : ℕ) (r : Row) (t : List ℕ) (w : Sized (versionOf s) r) (f : RowFits (versionOf s) r) (e : drop at s ≡ encodeRow (versionOf s) r ++ t) where
   pub read-row : rowAt s at ≡ r
   unfolding rowAt
-  read-row = ap (frontRow (versionOf s)) e ∙ row-back (versionOf s) r t w
+  read-row = ap (frontRow (versionOf s)) e ∙ row-back (versionOf s) r t w f
 
-  stated : getD s (at + 3) 0 ≡ hops r
-  stated = sym (getD-drop at s 3 0) ∙ ap (λ (l : List ℕ). getD l 3 0) e
+  stated : getD s (at + hopsPlace (versionOf s)) 0 ≡ hops r
+  stated = sym (getD-drop at s (hopsPlace (versionOf s)) 0) ∙ ap (hopsIn (versionOf s)) e ∙ hops-in (versionOf s) r t w
 
   pub next-bytes : drop (nextAt s at) s ≡ t
   unfolding nextAt
   next-bytes =
-      ap (λ (h : ℕ). drop (at + (5 + 3 * h)) s) stated ∙ sym (drop-drop (5 + 3 * hops r) at s) ∙ ap (drop (5 + 3 * hops r)) e ∙ left-over (versionOf s) r t w
+      let k : ℕ = rowLength (versionOf s) + 3 * hops r in
+      ap (λ (h : ℕ). drop (at + (rowLength (versionOf s) + 3 * h)) s) stated ∙ sym (drop-drop k at s) ∙ ap (drop k) e ∙ left-over (versionOf s) r t w
 
-  long : length s - at ≡ 5 + 3 * hops r + length t
+  long : length s - at ≡ rowLength (versionOf s) + 3 * hops r + length t
   long = sym (length-drop at s) ∙ ap length e ∙ length-append (encodeRow (versionOf s) r) t ∙ ap (λ (n : ℕ). n + length t) (length-row (versionOf s) r t w)
 
   pub whole-row : Whole s at
@@ -52,12 +50,14 @@ module _ (s : List ℕ) (at : ℕ) (r : Row) (t : List ℕ) (w : Sized (versionO
   whole-row = record { front = omega (arith, long); fits = omega (arith, long, stated) }
 
 -- rows where they were written are those from the place on
-written-rows : (s : List ℕ) (rows : List Row) (at : ℕ) → AllSized (versionOf s) rows → drop at s ≡ inTurn (encodeRow (versionOf s)) rows → rows ≡ rowsFrom s (length rows) at
-written-rows s [] at w e = refl
-written-rows s (r ∷ rows) at w e =
+written-rows : (s : List ℕ) (rows : List Row) (at : ℕ) → AllSized (versionOf s) rows → AllFit (versionOf s) rows → drop at s ≡ inTurn (encodeRow (versionOf s)) rows
+    → rows ≡ rowsFrom s (length rows) at
+written-rows s [] at w f e = refl
+written-rows s (r ∷ rows) at w f e =
     let u = w r (inl refl) in
     let t = inTurn (encodeRow (versionOf s)) rows in
-    ap₂ _∷_ (sym (read-row s at r t u e)) (written-rows s rows (nextAt s at) (λ x m. w x (inr m)) (next-bytes s at r t u e))
+    let g = f r (inl refl) in
+    ap₂ _∷_ (sym (read-row s at r t u g e)) (written-rows s rows (nextAt s at) (λ x m. w x (inr m)) (λ x m. f x (inr m)) (next-bytes s at r t u g e))
 
 -- THE WALK
 module _ {s : List ℕ} where
@@ -72,13 +72,19 @@ module _ {s : List ℕ} where
     bytes = stored-rows h .fill;
   }
 
+  rest-in : {at left : ℕ} (w : Stands s at left) (r : Row) → r ∈ w .rest → r ∈ rowsIn s
+  rest-in w r m = subst (λ (rows : List Row). r ∈ rows) (sym (w .all)) (in-right r (w .before) (w .rest) m)
+
   sized : {at left : ℕ} (w : Stands s at left) → AllSized (versionOf s) (w .rest)
-  sized w r m = lawful-sized (w .stored .lawful .rows r (subst (λ (rows : List Row). r ∈ rows) (sym (w .all)) (in-later r (w .before) (w .rest) m)))
+  sized w r m = lawful-sized (w .stored .lawful .rows r (rest-in w r m))
+
+  fit : {at left : ℕ} (w : Stands s at left) → AllFit (versionOf s) (w .rest)
+  fit w r m = w .stored .fits .rows r (rest-in w r m)
 
   -- the rows that are left are those from the place on
   pub stands-rest : {at left : ℕ} (w : Stands s at left) → w .rest ≡ rowsFrom s left at
   stands-rest {at} {left} w =
-      written-rows s (w .rest) at (sized w) (w .bytes) ∙ ap (λ (n : ℕ). rowsFrom s n at) (w .count)
+      written-rows s (w .rest) at (sized w) (fit w) (w .bytes) ∙ ap (λ (n : ℕ). rowsFrom s n at) (w .count)
 
   -- the row at the place, where rows are left
   module _ {at left : ℕ} (more : 0 < left) (w : Stands s at left) where
@@ -95,16 +101,19 @@ module _ {s : List ℕ} where
     here : rowAt s at ∈ rowsIn s
     here =
         subst (λ (rows : List Row). rowAt s at ∈ rows) (sym (w .all ∙ ap (λ (rows : List Row). w .before ++ rows) stands-split))
-        (in-later (rowAt s at) (w .before) (rowAt s at ∷ rowsFrom s (left - 1) (nextAt s at)) (inl refl))
+        (in-right (rowAt s at) (w .before) (rowAt s at ∷ rowsFrom s (left - 1) (nextAt s at)) (inl refl))
 
     pub stands-sized : Sized (versionOf s) (rowAt s at)
     stands-sized = lawful-sized (w .stored .lawful .rows (rowAt s at) here)
+
+    pub stands-fit : RowFits (versionOf s) (rowAt s at)
+    stands-fit = w .stored .fits .rows (rowAt s at) here
 
     pub stands-row : RowHere s at
     stands-row = record {
       there = here;
       lawful = w .stored .lawful .rows (rowAt s at) here;
-      whole = whole-row s at (rowAt s at) (inTurn (encodeRow (versionOf s)) (rowsFrom s (left - 1) (nextAt s at))) stands-sized stands-bytes;
+      whole = whole-row s at (rowAt s at) (inTurn (encodeRow (versionOf s)) (rowsFrom s (left - 1) (nextAt s at))) stands-sized stands-fit stands-bytes;
     }
 
     -- and the walk goes on behind it
@@ -116,7 +125,7 @@ module _ {s : List ℕ} where
       all = w .all ∙ ap (λ (rows : List Row). w .before ++ rows) stands-split ∙ sym (append-assoc (w .before) (rowAt s at ∷ []) (rowsFrom s (left - 1) (nextAt s at)));
       count = length-rows-from s (left - 1) (nextAt s at);
       inside = stands-row .whole .fits;
-      bytes = next-bytes s at (rowAt s at) (inTurn (encodeRow (versionOf s)) (rowsFrom s (left - 1) (nextAt s at))) stands-sized stands-bytes;
+      bytes = next-bytes s at (rowAt s at) (inTurn (encodeRow (versionOf s)) (rowsFrom s (left - 1) (nextAt s at))) stands-sized stands-fit stands-bytes;
     }
 
   -- where none is left the image ends

@@ -4,7 +4,7 @@ use mathlib.Core.List.{List, [], _∷_, _++_}
 use Prim.Native.Nat.{ℕ, zero, suc, _+_, _*_, _<_, _-_}
 use native.Mathlib.Numerals.{add-one}
 use native.Mathlib.Omega.{arith}
-use lib.ListN.{length, getD, take, drop, set, replicate, take-append-drop, length-set}
+use lib.ListN.{length, take, drop, set, replicate, length-set}
 use lib.Seq.{drop-cons, take-suc-set, drop-set-lt}
 use Rattle.rules.specs.Image.{word64At, setsAt}
 use Rattle.image.specs.Places.{Sets}
@@ -39,18 +39,3 @@ module _ (s : List ℕ) (at : ℕ) where
 
   pub decoded-done : (n i : ℕ) (sets : List ℕ) → i ≡ n → Decoded s at i sets → Sets s at n sets
   decoded-done n i sets e d = subst (λ (m : ℕ). Sets s at m sets) e (record { rows = d .rows; rest = d .rest })
-
--- the array has the row of each node, and 0 beyond them
-pub sets-at : {s : List ℕ} {at n : ℕ} {sets : List ℕ} → Sets s at n sets → (a : ℕ) → getD sets a 0 ≡ getD (setsAt s at n) a 0
-sets-at {s} {at} {n} {sets} h a =
-    ap (λ (l : List ℕ). getD l a 0) (sym (take-append-drop n sets)) ∙ ap₂ (λ (l m : List ℕ). getD (l ++ m) a 0) (h .rows) (h .rest) ∙ zeros (setsAt s at n) a
-  where
-    none : (k a : ℕ) → getD {A = ℕ} (replicate k 0) a 0 ≡ 0
-    none zero a = refl
-    none (suc k) zero = refl
-    none (suc k) (suc a) = none k a
-
-    zeros : (l : List ℕ) (a : ℕ) → getD (l ++ replicate (64 - n) 0) a 0 ≡ getD l a 0
-    zeros [] a = none (64 - n) a
-    zeros (x ∷ l) zero = refl
-    zeros (x ∷ l) (suc a) = zeros l a

@@ -4,7 +4,7 @@ ghost use Prim.Native.Nat.{_+_, _*_, _<_, _≤_};
 ghost use lib.ListN.{length, getD, take};
 ghost use Rattle.rules.specs.Words.{Tests, TwoBytes};
 ghost use Rattle.rules.specs.Book.{hops, rowOffset};
-ghost use Rattle.rules.specs.Image.{headerLength, rowsStart, imageLength, mark, Version, versionOf, wordAt, word64At};
+ghost use Rattle.rules.specs.Image.{headerLength, rowsStart, periodPlace, hopsPlace, rowLength, imageLength, mark, Version, versionOf, wordAt, word64At};
 ghost use Rattle.image.specs.Places.{rowAt, nextAt, Whole, Sets};
 ghost use Rattle.image.specs.Header.{HeaderOf};
 use rules::Node;
@@ -19,7 +19,10 @@ pub const HEADER: usize = 16;
 pub const MARK: [u8; 3] = *b"SLB";
 
 // The newest version, in which new and changed books are written.
-pub const NEWEST: u16 = 1;
+pub const NEWEST: u16 = 2;
+
+// The first version whose rows hold their ways.
+const WAYS: u16 = 2;
 
 // The bytes of a topology row,
 pub const SET: usize = 8;
@@ -27,14 +30,8 @@ pub const SET: usize = 8;
 // of a hop in a row: a node and an offset,
 pub const HOP: usize = 3;
 
-// of a row before its hop count,
-const HOPS_PLACE: usize = 3;
-
-// before its nodes,
-const NODES_PLACE: usize = 4;
-
-// and beside its hops.
-pub const ROW: usize = 5;
+// and of the least row beside its hops.
+const LEAST_ROW: usize = 5;
 
 // What an image's header says of its book.
 pub struct Book {
@@ -99,6 +96,36 @@ pub fn word64_at(image: &[u8], at: usize) -> u64
     wide64(word32_at(image, at)) * 4294967296 + wide64(word32_at(image, at + 4))
 }
 
+// In a row of a version, the bytes before the hop count.
+fn hops_place(version: u16) -> usize
+    ensures { λ r. ⌜ (r ≡ hopsPlace version) × (r ≤ 4) ⌝ }
+{
+    if version < WAYS { 3 } else { 4 }
+}
+
+// The bytes of a row of a version beside its hops.
+pub fn row_length(version: u16) -> usize
+    ensures { λ r. ⌜ (r ≡ rowLength version) × (r ≤ 6) ⌝ }
+{
+    hops_place(version) + 2
+}
+
+// In a row of the image, the bytes before the hop count.
+fn hops_place_in(image: &[u8]) -> usize
+    requires { ⌜ 5 ≤ length (now image) ⌝ }
+    ensures { λ r. ⌜ (r ≡ hopsPlace (versionOf (now (image .entry)))) × (r ≤ 4) ⌝ }
+{
+    hops_place(word_at(image, 3))
+}
+
+// In a row of the image, the bytes before the period: its id, and its way where the version holds it.
+pub fn period_place_in(image: &[u8]) -> usize
+    requires { ⌜ 5 ≤ length (now image) ⌝ }
+    ensures { λ r. ⌜ (r ≡ periodPlace (versionOf (now (image .entry)))) × (r ≤ 3) ⌝ }
+{
+    hops_place_in(image) - 1
+}
+
 // The n rows of a topology from a place on, and zeros after them.
 pub fn sets(image: &[u8], at: usize, n: usize) -> [u64; 64]
     requires { ⌜ (n ≤ 64) × (at + 8 * n ≤ length (now image)) ⌝ }
@@ -122,6 +149,9 @@ impl Book {
 
     // and 15 hops a route.
     pub const ROUTE_HOPS: usize = 15;
+
+    // Its longest image in the newest version.
+    pub const LONGEST: usize = 2448;
 
     // What the header of an image says.
     pub fn read(image: &[u8]) -> Book
@@ -158,7 +188,7 @@ impl Book {
         requires { ⌜ (self .nodes < 256) × (self .streams < 256) × TwoBytes (self .hops) ⌝ }
         ensures { λ r. ⌜ r ≡ imageLength (self .version) (self .nodes) (self .streams) (self .hops) ⌝ }
     {
-        self.rows_start() + ROW * self.streams + HOP * self.hops
+        self.rows_start() + row_length(self.version) * self.streams + HOP * self.hops
     }
 }
 
@@ -192,10 +222,14 @@ pub fn is_whole(image: &[u8], at: usize) -> bool
     ensures { λ r. ⌜ Tests r (Whole (now (image .entry)) at) ⌝ }
 {
     let left = image.len() - at;
-    if left < ROW {
+    if left < LEAST_ROW {
         return false;
     }
-    ROW + HOP * count(image[at + HOPS_PLACE]) <= left
+    let place = hops_place_in(image);
+    if left < place + 2 {
+        return false;
+    }
+    place + 2 + HOP * count(image[at + place]) <= left
 }
 
 // The row's id.
@@ -206,12 +240,24 @@ pub fn id_at(image: &[u8], at: usize) -> u16
     word_at(image, at)
 }
 
+// Its way: in a version that holds none it is the first.
+pub fn way_at(image: &[u8], at: usize) -> u8
+    requires { ⌜ Whole (now image) at ⌝ }
+    ensures { λ r. ⌜ (r ≡ rowAt (now (image .entry)) at .way) × (r < 256) ⌝ }
+{
+    if word_at(image, 3) < WAYS {
+        1
+    } else {
+        image[at + 2]
+    }
+}
+
 // Its period.
 pub fn period_at(image: &[u8], at: usize) -> Tile
     requires { ⌜ Whole (now image) at ⌝ }
     ensures { λ r. ⌜ (r .0 ≡ rowAt (now (image .entry)) at .period) × (r .0 < 256) ⌝ }
 {
-    Tile(wide16(image[at + 2]))
+    Tile(wide16(image[at + period_place_in(image)]))
 }
 
 // How many hops it has.
@@ -219,7 +265,7 @@ pub fn hops_at(image: &[u8], at: usize) -> usize
     requires { ⌜ Whole (now image) at ⌝ }
     ensures { λ r. ⌜ (r ≡ hops (rowAt (now (image .entry)) at)) × (r < 256) ⌝ }
 {
-    count(image[at + HOPS_PLACE])
+    count(image[at + hops_place_in(image)])
 }
 
 // Node i of its route.
@@ -227,7 +273,8 @@ pub fn node_at(image: &[u8], at: usize, i: usize) -> Node
     requires { ⌜ Whole (now image) at × (i ≤ hops (rowAt (now image) at)) ⌝ }
     ensures { λ r. ⌜ (r .0 ≡ getD (rowAt (now (image .entry)) at .route) i 0) × (r .0 < 256) ⌝ }
 {
-    Node(image[at + NODES_PLACE + i])
+    let nodes = hops_place_in(image) + 1;
+    Node(image[at + nodes + i])
 }
 
 // The offset of its hop i.
@@ -236,7 +283,8 @@ pub fn offset_at(image: &[u8], at: usize, i: usize) -> Slot
     ensures { λ r. ⌜ (r .0 ≡ rowOffset (rowAt (now (image .entry)) at) i) × TwoBytes (r .0) ⌝ }
 {
     let h = hops_at(image, at);
-    Slot(word_at(image, at + ROW + h + 2 * i))
+    let beside = hops_place_in(image) + 2;
+    Slot(word_at(image, at + beside + h + 2 * i))
 }
 
 // The place after it.
@@ -244,5 +292,6 @@ pub fn next(image: &[u8], at: usize) -> usize
     requires { ⌜ Whole (now image) at ⌝ }
     ensures { λ r. ⌜ (r ≡ nextAt (now (image .entry)) at) × (r ≤ length (now (image .entry))) ⌝ }
 {
-    at + (ROW + HOP * count(image[at + HOPS_PLACE]))
+    let place = hops_place_in(image);
+    at + (place + 2 + HOP * count(image[at + place]))
 }

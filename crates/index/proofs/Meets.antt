@@ -76,13 +76,19 @@ module _ {site : Site} {rows : List Row} {words : List ℕ} (w : IndexOf (site .
       }
 
 -- a hop meets no hop of its own row, so it may be looked up with those marked already
-pub own-apart : {S : ℕ} {r : Row} {i : ℕ} {before words : List ℕ} {C : End → ℕ → Type 0} {t : Bool} → Offsets S (r .period) (hops r) (r .offsets) → i < hops r → Adds (HopsTake S r i) before words
+pub own-apart : {S : ℕ} {r : Row} {i : ℕ} {before words : List ℕ} {C : End → ℕ → Type 0} {t : Bool} → Offsets S (r .period) (hops r) (r .offsets) → i < hops r
+    → Adds (HopsTake S r i) before words
     → Tests t (MeetsIn C S words (r .period) (rowOffset r i)) → Tests t (MeetsIn C S before (r .period) (rowOffset r i))
 own-apart {S} {r} {i} {before} {words} o l a t = alike t
     (λ m. let b = m .busy in record {
       slot = m .slot;
       takes = m .takes;
-      busy = record { end = b .end; node = b .node; sought = b .sought; there = ⊎-elim (λ k. k) (λ k. absurd (own (m .slot) (m .takes) k)) (a .only (b .end) (m .slot) (b .node) (b .there)) };
+      busy = record {
+        end = b .end;
+        node = b .node;
+        sought = b .sought;
+        there = ⊎-elim (λ k. k) (λ k. absurd (own (m .slot) (m .takes) k)) (a .only (b .end) (m .slot) (b .node) (b .there));
+      };
     })
     (λ m. let b = m .busy in record {
       slot = m .slot;

@@ -1,13 +1,13 @@
 -- What is found in the slots that a hop takes, one turn after the other.
-use mathlib.Core.Path.{_≡_, refl, sym, _∙_, subst}
+use mathlib.Core.Path.{_≡_, refl, subst}
 use mathlib.Core.Logic.{_⊎_, inl, inr, ⊎-elim}
-use mathlib.Core.Bool.{Bool, not}
+use mathlib.Core.Bool.{not}
 use mathlib.Core.List.{List}
-use Prim.Native.Nat.{ℕ, _+_, _*_, _<_, _^_}
+use Prim.Native.Nat.{ℕ, _+_, _*_, _<_}
 use native.Mathlib.Omega.{arith}
 use lib.Dec.{eqb}
 use lib.ListN.{getD}
-use Rattle.rules.specs.Words.{Has, NoBitFrom, Tests}
+use Rattle.rules.specs.Words.{Has, Tests}
 use Rattle.rules.proofs.Tests.{alike, tests-eq, tests-not}
 use Rattle.bitset.specs.Sets.{SetOf}
 use Rattle.bitset.proofs.Bits.{zero-none}
@@ -69,36 +69,44 @@ pub finds-within : {C : End → ℕ → Type 0} {words : List ℕ} {o n : ℕ} (
 finds-within r l f =
     record { slot = f .slot; takes = record { turn = f .takes .turn; within = omega (arith, f .takes .within); at = f .takes .at }; busy = f .busy }
 
--- LOOKING AT ALL: a set that has a node exactly if P holds
-pub record Saw (P : Type 0) (met : ℕ) : Type 0 where
-  pub fits : NoBitFrom 64 met
-  pub yes : (k : ℕ) → Has met k → P
-  pub back : P → (k : ℕ) × Has met k
+-- LOOKING AT ALL: in one of the slots of the first n turns the node is at work, at this end
+pub record WorksFirst (words : List ℕ) (span o n : ℕ) (end : End) (node : ℕ) : Type 0 where
+  pub slot : ℕ
+  pub takes : TakesFirst span o n slot
+  pub there : AtWork words end slot node
 
-pub saw-none : {C : End → ℕ → Type 0} (words : List ℕ) (span o : ℕ) → Saw (FindsFirst C words span o 0) 0
-saw-none words span o = record { fits = omega arith; yes = λ k m. absurd (zero-none k m); back = λ f. absurd (finds-none f) }
+pub works-none : (words : List ℕ) (span o : ℕ) (end : End) → SetOf (WorksFirst words span o 0 end) 0
+works-none words span o end = record { fits = omega arith; only = λ k m. absurd (zero-none k m); all = λ k w. omega (arith, w .takes .within) }
 
 -- the next turn's slot is looked at in words that are there as they were
-pub saw-more : {before : List ℕ} (words : List ℕ) {reach : Reach} {span o turns turn slot common met next : ℕ} → Turning span o turns turn slot → turn < turns
-    → SetOf (Common (getD words (2 * slot) 0) (getD words (2 * slot + 1) 0) reach) common → SetOf (λ (k : ℕ). Has met k ⊎ Has common k) next
-    → ((end : End) (node : ℕ) → AtWork words end slot node → AtWork before end slot node) → ((end : End) (node : ℕ) → AtWork before end slot node → AtWork words end slot node)
-    → Saw (FindsFirst (InReach reach) before span o turn) met → Saw (FindsFirst (InReach reach) before span o (turn + 1)) next
-saw-more {before} words {reach} {slot = slot} {met = met} {next} g l s u old kept w = record {
+pub works-more : {before : List ℕ} (words : List ℕ) {span o turns turn slot : ℕ} (end : End) {had next : ℕ} → Turning span o turns turn slot → turn < turns
+    → SetOf (λ (k : ℕ). Has had k ⊎ AtWork words end slot k) next
+    → ((node : ℕ) → AtWork words end slot node → AtWork before end slot node) → ((node : ℕ) → AtWork before end slot node → AtWork words end slot node)
+    → SetOf (WorksFirst before span o turn end) had → SetOf (WorksFirst before span o (turn + 1) end) next
+works-more {before} words {slot = slot} end g l u old kept w = record {
   fits = u .fits;
-  yes = λ k m. ⊎-elim (λ q. finds-more g l (inl (w .yes k q))) (λ q. finds-more g l (inr (moved (common-busy s k q)))) (u .only k m);
-  back = λ f. ⊎-elim (λ q. let k = w .back q in (k .0, u .all (k .0) (inl (k .1)))) (λ b. let k = busy-common s (back b) in (k .0, u .all (k .0) (inr (k .1)))) (finds-split g l f);
+  only = λ k m. ⊎-elim (λ q. let f = w .only k q in record { slot = f .slot; takes = more g l (f .slot) (inl (f .takes)); there = f .there })
+      (λ q. record { slot = slot; takes = more g l slot (inr refl); there = old k q }) (u .only k m);
+  all = λ k f. u .all k (⊎-elim (λ t. inl (w .all k (record { slot = f .slot; takes = t; there = f .there })))
+      (λ e. inr (kept k (subst (λ (x : ℕ). AtWork before end x k) e (f .there)))) (split g l (f .slot) (f .takes)));
 }
+
+-- of all that was seen, what is in reach was found
+pub works-tests : {before : List ℕ} {reach : Reach} {span o turn turns sent received common : ℕ} → turn ≡ turns
+    → SetOf (WorksFirst before span o turn sender) sent → SetOf (WorksFirst before span o turn receiver) received
+    → SetOf (Common sent received reach) common → Tests (not (eqb common 0)) (FindsFirst (InReach reach) before span o turns)
+works-tests {before} {reach} {span} {o} {turn} {sent = sent} {received} {common} e s r c =
+    subst (λ (n : ℕ). Tests (not (eqb common 0)) (FindsFirst (InReach reach) before span o n)) e
+    (alike (tests-not (tests-eq common 0)) (λ f. let k = some-member common (c .fits) f in found (k .0) (c .only (k .0) (k .1)))
+    (λ f z. zero-none (f .busy .node) (subst (λ (x : ℕ). Has x (f .busy .node)) z (c .all (f .busy .node) (seen f)))))
   where
-    moved : Busy (InReach reach) words slot → Busy (InReach reach) before slot
-    moved b = record { end = b .end; node = b .node; sought = b .sought; there = old (b .end) (b .node) (b .there) }
+    found : (k : ℕ) → Common sent received reach k → FindsFirst (InReach reach) before span o turn
+    found k (sends m p) = let w = s .only k m in record { slot = w .slot; takes = w .takes; busy = record { end = sender; node = k; sought = p; there = w .there } }
+    found k (receives m p) = let w = r .only k m in record { slot = w .slot; takes = w .takes; busy = record { end = receiver; node = k; sought = p; there = w .there } }
 
-    back : Busy (InReach reach) before slot → Busy (InReach reach) words slot
-    back b = record { end = b .end; node = b .node; sought = b .sought; there = kept (b .end) (b .node) (b .there) }
+    by-end : (end : End) {k : ℕ} → InReach reach end k → WorksFirst before span o turn end k → Common sent received reach k
+    by-end sender {k} p w = sends (s .all k w) p
+    by-end receiver {k} p w = receives (r .all k w) p
 
-pub saw-done : {C : End → ℕ → Type 0} {words : List ℕ} {span o turn turns met : ℕ} → turn ≡ turns → Saw (FindsFirst C words span o turn) met → Saw (FindsFirst C words span o turns) met
-saw-done {C} {words} {span} {o} {met = met} e w = subst (λ (n : ℕ). Saw (FindsFirst C words span o n) met) e w
-
-pub saw-tests : {P : Type 0} {met : ℕ} → Saw P met → Tests (not (eqb met 0)) P
-saw-tests {met = met} w =
-    alike (tests-not (tests-eq met 0)) (λ f. let k = some-member met (w .fits) f in w .yes (k .0) (k .1))
-    (λ p z. let k = w .back p in zero-none (k .0) (subst (λ (x : ℕ). Has x (k .0)) z (k .1)))
+    seen : (f : FindsFirst (InReach reach) before span o turn) → Common sent received reach (f .busy .node)
+    seen f = by-end (f .busy .end) (f .busy .sought) (record { slot = f .slot; takes = f .takes; there = f .busy .there })

@@ -60,20 +60,22 @@ pub fn mark(
     let turns = repeats.turns;
     let i = from.0 as usize;
     let j = to.0 as usize;
-    let mut met: u64 = 0;
+    let mut sent: u64 = 0;
+    let mut received: u64 = 0;
     let mut slot = offset.0 as usize;
     let mut turn = 0;
     while turn < turns {
         let at = 2 * slot;
         let senders = index[at];
         let receivers = index[at + 1];
-        met = bitset::union(met, in_reach(senders, receivers, reach));
+        sent = bitset::union(sent, senders);
+        received = bitset::union(received, receivers);
         index[at] = bitset::insert(senders, i);
         index[at + 1] = bitset::insert(receivers, j);
         slot += span;
         turn += 1;
     }
-    met != 0
+    in_reach(sent, received, reach) != 0
 }
 
 // Whether a node in reach is at work in a slot that such a hop takes.

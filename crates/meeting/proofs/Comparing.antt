@@ -6,7 +6,7 @@ use mathlib.Core.List.{List, [], _∷_}
 use Prim.Native.Nat.{ℕ, zero, suc, _<_, _≤_, _-_}
 use native.Mathlib.Numerals.{unary-clauses}
 use native.Mathlib.Omega.{arith}
-use lib.ListN.{replicate, length}
+use lib.ListN.{replicate}
 use Rattle.rules.specs.Words.{_∈_}
 use Rattle.rules.specs.Book.{Row, key, hops, RisingByKey, LawfulRow, RowsMeet, ClashingHopsMeet}
 use Rattle.rules.specs.Image.{planOf, streamsOf, siteOf, rowsPlace, RowsOf}

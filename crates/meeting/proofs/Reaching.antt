@@ -1,19 +1,17 @@
 -- A hop of a row: its nodes, its slots, its reach.
-use mathlib.Core.Path.{_≡_, refl, sym, ap, _∙_, subst}
+use mathlib.Core.Path.{_≡_, sym, ap, _∙_, subst}
 use mathlib.Core.Bool.{Bool}
 use mathlib.Core.List.{List}
-use Prim.Native.Nat.{ℕ, suc, _+_, _<_, _≤_}
+use Prim.Native.Nat.{ℕ, suc, _+_, _<_}
 use native.Mathlib.Numerals.{add-one}
 use native.Mathlib.Omega.{arith}
 use lib.ListN.{getD}
-use Rattle.rules.specs.Words.{Tests}
 use Rattle.rules.specs.Tiles.{Plan, PlanInRange, periodAt}
-use Rattle.rules.specs.Topology.{Topology, nodes, Hop}
+use Rattle.rules.specs.Topology.{Topology, Hop}
 use Rattle.rules.specs.Book.{hops, rowHop, rowOffset}
 use Rattle.rules.specs.Periods.{thePlan, InList}
-use Rattle.rules.specs.Image.{linksStart, versionOf, planOf, nodesOf, linksOf, hearingOf}
+use Rattle.rules.specs.Image.{planOf, hearingOf}
 use Rattle.rules.specs.declared.Node.{Node}
-use Rattle.rules.proofs.Written.{length-sets-at}
 use Rattle.bitset.specs.Rows.{topology}
 use Rattle.clash.specs.Reach.{hop, Between, ReachOf}
 use Rattle.clash.specs.declared.Reach.{Reach}
@@ -26,13 +24,15 @@ use Rattle.image.specs.Places.{rowAt}
 use Rattle.image.specs.declared.Book.{Book}
 use Rattle.image.proofs.Hops.{node-known, offset-within}
 use Rattle.rows.specs.Walk.{RowStands}
+use Rattle.rows.proofs.Walks.{nodes-few}
 use Rattle.meeting.specs.Meeting.{RowPlaced, HearingRead, HopMarked, HopsRead}
 
 -- WHAT WAS READ
 pub plan-here : {s : List ℕ} {b : Book} {hearing : List ℕ} → HopsRead s b hearing → PlanInRange (thePlan (b .plan))
 plan-here w = subst PlanInRange (sym (w .header .plan)) (w .framed .fields .plan)
 
-pub row-placed : {s : List ℕ} {b : Book} {hearing : List ℕ} {at K p : ℕ} {repeats : Repeats} → HopsRead s b hearing → RowStands s at → InList p × (periodAt p ≡ K) → K ≡ rowAt s at .period
+pub row-placed : {s : List ℕ} {b : Book} {hearing : List ℕ} {at K p : ℕ} {repeats : Repeats} → HopsRead s b hearing → RowStands s at → InList p × (periodAt p ≡ K)
+    → K ≡ rowAt s at .period
     → RepeatsOf (b .plan .slots .0) (periodAt p) repeats → RowPlaced s at repeats
 row-placed {s} {p = p} {repeats} w stands place e v = record {
   framed = w .framed;
@@ -43,21 +43,15 @@ row-placed {s} {p = p} {repeats} w stands place e v = record {
 
 -- A HOP OF THE ROW
 module _ {s : List ℕ} {at : ℕ} {repeats : Repeats} (w : RowPlaced s at repeats) where
-  -- there are at most 64 nodes
-  nodes-few : nodes (linksOf s) ≤ 64
-  nodes-few = omega (arith, length-sets-at s (linksStart (versionOf s)) (nodesOf s), w .framed .fields .nodes)
-
-  pub node-small : (i : ℕ) → i ≤ hops (rowAt s at) → getD (rowAt s at .route) i 0 < 64
-  node-small i l = omega (arith, node-known (w .row .lawful) i l, nodes-few)
-
   pub hop-in-index : {i o : ℕ} → i < hops (rowAt s at) → o ≡ rowOffset (rowAt s at) i → InIndex repeats o
   hop-in-index {i} l e = in-index (w .repeats-are) (w .framed .fields .plan .most) (w .row .lawful .period) (rw e (offset-within (w .row .lawful) i l))
 
-  module _ {hearing : List ℕ} (v : HearingRead s hearing) (i : ℕ) {from to : Node} (e : from .0 ≡ getD (rowAt s at .route) i 0) (f : to .0 ≡ getD (rowAt s at .route) (i + 1) 0) where
+  module _ {hearing : List ℕ} (v : HearingRead s hearing) (i : ℕ) {from to : Node} (e : from .0 ≡ getD (rowAt s at .route) i 0)
+      (f : to .0 ≡ getD (rowAt s at .route) (i + 1) 0) where
     pub between-here : i < hops (rowAt s at) → Between (topology hearing) (hop from to)
     between-here l = subst (λ (T : Topology). Between T (hop from to)) (sym (ap topology (v .rows-are))) (record {
       sound = v .sound .hearing-sound;
-      most = omega (arith, v .sound .even, nodes-few);
+      most = omega (arith, v .sound .even, nodes-few (w .framed));
       from = omega (arith, v .sound .even, node-known (w .row .lawful) i (omega arith));
       to = omega (arith, v .sound .even, node-known (w .row .lawful) (i + 1) (omega arith));
     })
@@ -70,8 +64,10 @@ module _ {s : List ℕ} {at : ℕ} {repeats : Repeats} (w : RowPlaced s at repea
       reach-is : ReachOf (hearingOf s) (rowHop (rowAt s at) i) reach
       reach-is = subst (λ (T : Topology). ReachOf T (rowHop (rowAt s at) i) reach) (ap topology (v .rows-are)) (subst (λ (h : Hop). ReachOf (topology hearing) h reach) hop-is u)
 
-      pub hop-marked : {o : ℕ} {before after : List ℕ} {t : Bool} → o ≡ rowOffset (rowAt s at) i → Marks repeats o (hop from to) reach before after t → HopMarked s at i repeats before after t
+      pub hop-marked : {o : ℕ} {before after : List ℕ} {t : Bool} → o ≡ rowOffset (rowAt s at) i → Marks repeats o (hop from to) reach before after t
+          → HopMarked s at i repeats before after t
       hop-marked {before = before} {after} {t} g m =
           let k : Marks repeats (rowOffset (rowAt s at) i) (rowHop (rowAt s at) i) reach before after t =
-          subst (λ (h : Hop). Marks repeats (rowOffset (rowAt s at) i) h reach before after t) hop-is (subst (λ (p : ℕ). Marks repeats p (hop from to) reach before after t) g m) in
+          subst (λ (h : Hop). Marks repeats (rowOffset (rowAt s at) i) h reach before after t) hop-is
+          (subst (λ (p : ℕ). Marks repeats p (hop from to) reach before after t) g m) in
           record { adds = k .adds; met = tests-meets reach-is (w .repeats-are) (k .met) }

@@ -1,53 +1,91 @@
 -- What a request answers on a book, and makes of it, is what the rules say.
-use mathlib.Core.Path.{_≡_, refl, _∙_, subst}
+use mathlib.Core.Path.{_≡_, refl, sym, ap, _∙_, subst}
 use mathlib.Core.Logic.{_⊎_, inl, inr, ⊎-elim}
-use mathlib.Core.Bool.{Bool}
+use mathlib.Core.Bool.{Bool, true, false, cond, _&&_}
 use mathlib.Core.List.{List, [], _∷_}
 use mathlib.Core.Option.{Option, some, none}
-use Prim.Native.Nat.{ℕ, _+_, _<_}
+use Prim.Native.Nat.{ℕ, suc, _+_, _<_, _≤_}
 use native.Mathlib.Omega.{arith}
 use lib.Dec.{ltb}
 use lib.ListN.{length}
-use Rattle.rules.specs.Words.{Pairwise, total, Tests}
+use Rattle.rules.specs.Words.{_∈_, Pairwise, total, Tests}
 use Rattle.rules.specs.Says.{Says}
 use Rattle.rules.specs.Tiles.{periods}
-use Rattle.rules.specs.Topology.{Topology, nodes, Route, NoRoute, TooFar, hopCount}
-use Rattle.rules.specs.Book.{Row, Book, key, RisingByKey, Known, hopsInAll, mostStreams, mostHops}
-use Rattle.rules.specs.Placing.{FirstPlacing, NoPlacing, Asked, Planned, Full, beside, NewRows, NoPlacings}
-use Rattle.rules.specs.Placing.Planned.{one}
+use Rattle.rules.specs.Topology.{Topology, nodes, SoundTopology, Route, NoRoute, TooFar, hopCount, SecondPath, SecondRoute}
+use Rattle.rules.specs.Book.{Row, Book, key, LawfulBook, Known, hopsInAll, mostStreams, mostHops}
+use Rattle.rules.specs.Placing.{FirstPlacing, NoPlacing, Asked, Planned, NoSecond, Full, beside, NewRows, NoPlacings}
+use Rattle.rules.specs.Placing.Planned.{one, two}
 use Rattle.rules.specs.Image.{newest, encode}
 use Rattle.rules.specs.Calls.{OfRoutes, Opened, Closed, Request, Made, NoRoom, openRefusals, requestRefusals}
 use Rattle.rules.specs.Calls.Request.{Open, Close}
-use Rattle.rules.proofs.Tests.{alike, tests-or, tests-not, tests-eq, tests-le, tests-lt}
+use Rattle.rules.proofs.Tests.{never, alike, tests-and, tests-or, tests-not, tests-eq, tests-le, tests-lt}
 use Rattle.rules.proofs.Says.{None, says-none}
-use Rattle.rules.proofs.Choice.{planned-unique, new-unique, made-unique}
-use Rattle.rules.proofs.Added.{new-route}
+use Rattle.rules.proofs.Choice.{best-unique, planned-unique, new-unique, made-unique}
 use Rattle.rules.proofs.Reading.{withRows}
-use Rattle.model.specs.Search.{linksOf, routeOf, placingOf, andThen}
-use Rattle.model.specs.Answer.{passes, isNone, insertAll, remove, routesOf, rowOn, newRows, rowsAdded, isFull, made, noRoom, requestTests, requestNumber}
+use Rattle.model.specs.Search.{linksOf, routeOf, secondOf, placingOf, andThen}
+use Rattle.model.specs.Answer.{passes, isNone, insertAll, remove, routesOf, noSecond, rowOn, newRows, rowsAdded, isFull, made, noRoom, requestTests, requestNumber}
 use Rattle.model.proofs.Tests.{tests-in, tests-known}
 use Rattle.model.proofs.Searches.{Found}
 use Rattle.model.proofs.Placings.{placing-found}
 use Rattle.model.proofs.Routes.{links-found, links-some, route-found, route-only}
+use Rattle.model.proofs.Seconds.{beside-found}
 use Rattle.model.proofs.Firsts.{Agree, first-says, tests-none, tests-passes}
 use Rattle.model.proofs.Rows.{insert-all, all-rising, taken, taken-id, remove-in, remove-rising, remove-all}
 
 -- ROUTES
 module _ (T : Topology) (middle : ℕ) (q : Asked) where
   -- all routes are too far, or there is none
+  abbrev pub NotRouted : Type 0
+  NotRouted = TooFar T middle (q .source) (q .destination) ⊎ NoRoute T middle (q .source) (q .destination)
+
+  -- or no second where one is asked for
   abbrev pub NotPlanned : Type 0
-  NotPlanned = TooFar T middle (q .source) (q .destination) ⊎ NoRoute T middle (q .source) (q .destination)
+  NotPlanned = NotRouted ⊎ NoSecond T middle q
 
   pub planned-route : {ps : List (List ℕ)} → Planned T middle q ps → NotPlanned → ⊥
-  planned-route (one g) n = route-only T middle (q .source) (q .destination) g n
+  planned-route (one n g) (inl f) = route-only T middle (q .source) (q .destination) g f
+  planned-route (one n g) (inr f) = never (sym n ∙ f .asked)
+  planned-route (two y g h) (inl f) = route-only T middle (q .source) (q .destination) g f
+  planned-route (two {p′ = p′} y g h) (inr f) =
+      f .none p′ (subst (λ (p : List ℕ). SecondPath T middle (q .source) (q .destination) p p′) (best-unique g (f .planned)) (h .is))
 
-  pub routes-found : Found (Planned T middle q) NotPlanned (routesOf T middle q)
-  routes-found = go (routeOf T middle (q .source) (q .destination)) (route-found T middle (q .source) (q .destination))
-    where
-      go : (o : Option (List ℕ)) → Found (Route T middle (q .source) (q .destination)) NotPlanned o
-          → Found (Planned T middle q) NotPlanned (andThen o (λ (p : List ℕ). some (p ∷ [])))
-      go none g = g
-      go (some p) g = one g
+  module _ (sound : SoundTopology T) where
+    second-found : (p : List ℕ) → Route T middle (q .source) (q .destination) p → Found (SecondRoute T middle (q .source) (q .destination) p)
+        ((p′ : List ℕ) → SecondPath T middle (q .source) (q .destination) p p′ → ⊥) (secondOf T middle (q .source) (q .destination) p)
+    second-found p g = beside-found T middle (q .source) (q .destination) sound p g
+
+    pub routes-found : Found (Planned T middle q) NotPlanned (routesOf T middle q)
+    routes-found = go (routeOf T middle (q .source) (q .destination)) (route-found T middle (q .source) (q .destination))
+      where
+        at : (p : List ℕ) → q .second ≡ true → Route T middle (q .source) (q .destination) p → (o : Option (List ℕ))
+            → Found (SecondRoute T middle (q .source) (q .destination) p) ((p′ : List ℕ) → SecondPath T middle (q .source) (q .destination) p p′ → ⊥) o
+            → Found (Planned T middle q) NotPlanned (andThen o (λ (p′ : List ℕ). some (p ∷ p′ ∷ [])))
+        at p e g none f = inr record { asked = e; first = p; planned = g; none = f }
+        at p e g (some p′) f = two e g f
+
+        on : (p : List ℕ) → Route T middle (q .source) (q .destination) p → (t : Bool) → q .second ≡ t
+            → Found (Planned T middle q) NotPlanned
+            (cond t (andThen (secondOf T middle (q .source) (q .destination) p) (λ (p′ : List ℕ). some (p ∷ p′ ∷ []))) (some (p ∷ [])))
+        on p g true e = at p e g (secondOf T middle (q .source) (q .destination) p) (second-found p g)
+        on p g false e = one e g
+
+        go : (o : Option (List ℕ)) → Found (Route T middle (q .source) (q .destination)) NotRouted o
+            → Found (Planned T middle q) NotPlanned (andThen o (λ (p : List ℕ). cond (q .second)
+            (andThen (secondOf T middle (q .source) (q .destination) p) (λ (p′ : List ℕ). some (p ∷ p′ ∷ []))) (some (p ∷ []))))
+        go none g = inl g
+        go (some p) g = on p g (q .second) refl
+
+    -- the test of 18
+    tests-no-second : Tests (noSecond T middle q) (NoSecond T middle q)
+    tests-no-second =
+        alike
+        (tests-passes (λ p r. route-only T middle (q .source) (q .destination) r) (λ p p′ g k. best-unique g k)
+        (λ (p : List ℕ). (q .second ≡ true) × ((p′ : List ℕ) → SecondPath T middle (q .source) (q .destination) p p′ → ⊥))
+        (λ (p : List ℕ). q .second && isNone (secondOf T middle (q .source) (q .destination) p))
+        (λ p g. tests-and record { yes = λ e. e; back = λ e. e } (tests-none (λ p′ s n. n p′ (s .is)) (secondOf T middle (q .source) (q .destination) p) (second-found p g)))
+        (routeOf T middle (q .source) (q .destination)) (route-found T middle (q .source) (q .destination)))
+        (λ p. record { asked = p .2 .0; first = p .0; planned = p .1; none = p .2 .1 })
+        (λ n. (n .first, n .planned, (n .asked, n .none)))
 
 -- the tests of 7, and of 17 where 7 does not apply
 tests-no-route : (T : Topology) (middle a z : ℕ) → Tests (isNone (linksOf T middle a z)) (NoRoute T middle a z)
@@ -60,44 +98,73 @@ tests-too-far T middle a z f =
 
 -- NEW ROWS
 module _ (q : Asked) where
-  pub rows-found : (b : Book) (ps : List (List ℕ)) → Found (NewRows b q ps) (NoPlacings b q ps) (newRows b q ps)
-  rows-found b [] = tt
-  rows-found b (p ∷ ps) = go (placingOf b (q .period) p) (placing-found b (q .period) p) (λ os. rows-found (beside (rowOn q p os) b) ps)
+  -- the rows of the routes, from a way on, beside a book
+  abbrev Placed : Book → ℕ → List (List ℕ) → Option (List Row) → Type 0
+  Placed b way ps = Found (NewRows b q way ps) (NoPlacings b q way ps)
+
+  pub rows-found : (b : Book) (way : ℕ) (ps : List (List ℕ)) → Placed b way ps (newRows b q way ps)
+  rows-found b way [] = tt
+  rows-found b way (p ∷ ps) = go (placingOf b (q .period) p) (placing-found b (q .period) p) (λ os. rows-found (with os) (suc way) ps)
     where
-      on : (os : List ℕ) → FirstPlacing b (q .period) p os → (o : Option (List Row))
-          → Found (NewRows (beside (rowOn q p os) b) q ps) (NoPlacings (beside (rowOn q p os) b) q ps) o
-          → Found (NewRows b q (p ∷ ps)) (NoPlacings b q (p ∷ ps)) (andThen o (λ (rs : List Row). some (rowOn q p os ∷ rs)))
-      on os f none g = inr (rowOn q p os, record { named = refl; every = refl; on = refl; placed = f }, g)
-      on os f (some rs) g = (record { named = refl; every = refl; on = refl; placed = f }, g)
+      with : List ℕ → Book
+      with os = beside (rowOn q way p os) b
+
+      on : (os : List ℕ) → FirstPlacing b (q .period) p os → (o : Option (List Row)) → Placed (with os) (suc way) ps o
+          → Placed b way (p ∷ ps) (andThen o (λ (rs : List Row). some (rowOn q way p os ∷ rs)))
+      on os f none g = inr (rowOn q way p os, record { named = refl; nth = refl; every = refl; on = refl; placed = f }, g)
+      on os f (some rs) g = (record { named = refl; nth = refl; every = refl; on = refl; placed = f }, g)
 
       go : (o : Option (List ℕ)) → Found (FirstPlacing b (q .period) p) (NoPlacing b (q .period) p) o
-          → ((os : List ℕ) → Found (NewRows (beside (rowOn q p os) b) q ps) (NoPlacings (beside (rowOn q p os) b) q ps) (newRows (beside (rowOn q p os) b) q ps))
-          → Found (NewRows b q (p ∷ ps)) (NoPlacings b q (p ∷ ps))
-          (andThen o (λ (os : List ℕ). andThen (newRows (beside (rowOn q p os) b) q ps) (λ (rs : List Row). some (rowOn q p os ∷ rs))))
+          → ((os : List ℕ) → Placed (with os) (suc way) ps (newRows (with os) q (suc way) ps))
+          → Placed b way (p ∷ ps) (andThen o (λ (os : List ℕ). andThen (newRows (with os) q (suc way) ps) (λ (rs : List Row). some (rowOn q way p os ∷ rs))))
       go none f g = inl f
-      go (some os) f g = on os f (newRows (beside (rowOn q p os) b) q ps) (g os)
+      go (some os) f g = on os f (newRows (with os) q (suc way) ps) (g os)
 
-  pub rows-or-none : (b : Book) (ps : List (List ℕ)) (rs : List Row) → NewRows b q ps rs → NoPlacings b q ps → ⊥
-  rows-or-none b [] rs g n = n
-  rows-or-none b (p ∷ ps) [] g n = g
-  rows-or-none b (p ∷ ps) (r ∷ rs) g (inl n) = n (r .offsets) (g .0 .placed .placing)
-  rows-or-none b (p ∷ ps) (r ∷ rs) g (inr n) =
-      rows-or-none (beside r b) ps rs (g .1) (subst (λ (x : Row). NoPlacings (beside x b) q ps) (new-unique (n .1) (g .0)) (n .2))
+  pub rows-or-none : (b : Book) (way : ℕ) (ps : List (List ℕ)) (rs : List Row) → NewRows b q way ps rs → NoPlacings b q way ps → ⊥
+  rows-or-none b way [] rs g n = n
+  rows-or-none b way (p ∷ ps) [] g n = g
+  rows-or-none b way (p ∷ ps) (r ∷ rs) g (inl n) = n (r .offsets) (g .0 .placed .placing)
+  rows-or-none b way (p ∷ ps) (r ∷ rs) g (inr n) =
+      rows-or-none (beside r b) (suc way) ps rs (g .1) (subst (λ (x : Row). NoPlacings (beside x b) q (suc way) ps) (new-unique (n .1) (g .0)) (n .2))
 
-  -- the rows of one open have keys of their own
-  pub new-keys : {T : Topology} {middle : ℕ} {ps : List (List ℕ)} (b : Book) (rs : List Row) → Planned T middle q ps → NewRows b q ps rs
-      → Pairwise (λ (r x : Row). key r ≡ key x → ⊥) rs
-  new-keys b [] (one g) h = absurd h
-  new-keys b (r ∷ []) (one g) h = (λ x m. absurd m, tt)
-  new-keys b (r ∷ x ∷ rs) (one g) h = absurd (h .1)
+  -- the rows have the id and, one after the other, the ways
+  pub new-ways : (b : Book) (way : ℕ) (ps : List (List ℕ)) (rs : List Row) → NewRows b q way ps rs
+      → (r : Row) → r ∈ rs → (r .id ≡ q .id) × (way ≤ r .way) × (r .way < way + length ps)
+  new-ways b way [] [] n r m = absurd m
+  new-ways b way [] (x ∷ rs) n r m = absurd n
+  new-ways b way (p ∷ ps) [] n r m = absurd n
+  new-ways b way (p ∷ ps) (x ∷ rs) n r (inl e) =
+      let w : r .way ≡ way = ap (λ (v : Row). v .way) e ∙ n .0 .nth in
+      (ap (λ (v : Row). v .id) e ∙ n .0 .named, omega arith, omega arith)
+  new-ways b way (p ∷ ps) (x ∷ rs) n r (inr m) =
+      let h = new-ways (beside x b) (suc way) ps rs (n .1) r m in
+      (h .0, omega (arith, h .1), omega (arith, h .2))
+
+  -- so they have keys of their own
+  new-keys : (b : Book) (way : ℕ) (ps : List (List ℕ)) (rs : List Row) → NewRows b q way ps rs → Pairwise (λ (r x : Row). key r ≡ key x → ⊥) rs
+  new-keys b way [] [] n = tt
+  new-keys b way [] (r ∷ rs) n = absurd n
+  new-keys b way (p ∷ ps) [] n = absurd n
+  new-keys b way (p ∷ ps) (r ∷ rs) n = (
+    λ x m e. let h = new-ways (beside r b) (suc way) ps rs (n .1) x m in omega (arith, h .0, h .1, n .0 .named, n .0 .nth),
+    new-keys (beside r b) (suc way) ps rs (n .1),
+  )
+
+-- an open is given at most two routes
+planned-most : {T : Topology} {middle : ℕ} {q : Asked} {ps : List (List ℕ)} → Planned T middle q ps → length ps ≤ 2
+planned-most (one n g) = omega arith
+planned-most (two y g h) = omega arith
 
 -- A REQUEST ON A BOOK
-module _ (middle : ℕ) (b : Book) (up : RisingByKey (b .rows)) where
+module _ (middle : ℕ) (b : Book) (w : LawfulBook b) where
+  sound : SoundTopology (b .site .links)
+  sound = w .site .topologies .links-sound
+
   abbrev Fresh : Request → Type 0
   Fresh (Open q) = Known b (q .id) → ⊥
   Fresh (Close id) = Unit {0}
 
-  opened : (q : Asked) (new : List Row) → (Known b (q .id) → ⊥) → OfRoutes middle q b (λ (ps : List (List ℕ)). NewRows b q ps new)
+  opened : (q : Asked) (new : List Row) → (Known b (q .id) → ⊥) → OfRoutes middle q b (λ (ps : List (List ℕ)). NewRows b q 1 ps new)
       → Opened middle b q (withRows b (insertAll new (b .rows)))
   opened q new fresh h = record {
     routes = h .0;
@@ -107,35 +174,39 @@ module _ (middle : ℕ) (b : Book) (up : RisingByKey (b .rows)) where
     plus = record {
       site = refl;
       rows = insert-all new (b .rows);
-      rising = all-rising new (b .rows) up (new-keys q b new (h .1) (h .2))
-          (λ r x m k e. fresh record { row = x; there = k; named = e ∙ new-route q b (h .0) new (h .2) r m .new .named });
+      rising = all-rising new (b .rows) (w .rising) (new-keys q b 1 (h .0) new (h .2)) (λ r x m k e. fresh record { row = x; there = k; named = same r x m k e });
     };
   }
+    where
+      same : (r x : Row) → r ∈ new → x ∈ b .rows → key x ≡ key r → x .id ≡ q .id
+      same r x m k e =
+          let g = new-ways q b 1 (h .0) new (h .2) r m in
+          omega (arith, g .0, g .2, planned-most (h .1), w .rows x k .way-most)
 
   closed : (id : ℕ) → Closed b id (withRows b (remove id (b .rows)))
   closed id = record {
     gone = taken id (b .rows);
     of-id = taken-id id (b .rows);
     none-left = λ r m. remove-in id (b .rows) r m .1;
-    rising = remove-rising id (b .rows) up;
-    plus = record { site = refl; rows = remove-all id (b .rows); rising = up };
+    rising = remove-rising id (b .rows) (w .rising);
+    plus = record { site = refl; rows = remove-all id (b .rows); rising = w .rising };
   }
 
   abbrev Added : Asked → List Row → Type 0
-  Added q new = OfRoutes middle q b (λ (ps : List (List ℕ)). NewRows b q ps new)
+  Added q new = OfRoutes middle q b (λ (ps : List (List ℕ)). NewRows b q 1 ps new)
 
   pub added-found : (q : Asked) → Found (Added q) ((new : List Row) → Added q new → ⊥) (rowsAdded middle b q)
-  added-found q = go (routesOf (b .site .links) middle q) (routes-found (b .site .links) middle q)
+  added-found q = go (routesOf (b .site .links) middle q) (routes-found (b .site .links) middle q sound)
     where
-      on : (ps : List (List ℕ)) → Planned (b .site .links) middle q ps → (o : Option (List Row)) → Found (NewRows b q ps) (NoPlacings b q ps) o
+      on : (ps : List (List ℕ)) → Planned (b .site .links) middle q ps → (o : Option (List Row)) → Found (NewRows b q 1 ps) (NoPlacings b q 1 ps) o
           → Found (Added q) ((new : List Row) → Added q new → ⊥) o
-      on ps g none f = λ new h. rows-or-none q b ps new (subst (λ (x : List (List ℕ)). NewRows b q x new) (planned-unique (h .1) g) (h .2)) f
+      on ps g none f = λ new h. rows-or-none q b 1 ps new (subst (λ (x : List (List ℕ)). NewRows b q 1 x new) (planned-unique (h .1) g) (h .2)) f
       on ps g (some new) f = (ps, g, f)
 
       go : (o : Option (List (List ℕ))) → Found (Planned (b .site .links) middle q) (NotPlanned (b .site .links) middle q) o
-          → Found (Added q) ((new : List Row) → Added q new → ⊥) (andThen o (newRows b q))
+          → Found (Added q) ((new : List Row) → Added q new → ⊥) (andThen o (newRows b q 1))
       go none n = λ new h. planned-route (b .site .links) middle q (h .1) n
-      go (some ps) g = on ps g (newRows b q ps) (rows-found q b ps)
+      go (some ps) g = on ps g (newRows b q 1 ps) (rows-found q b 1 ps)
 
   pub made-found : (q : Request) → Fresh q → Found (Made middle b q) ((c : Book) → Made middle b q c → ⊥) (made middle b q)
   made-found (Close id) f = closed id
@@ -150,13 +221,13 @@ module _ (middle : ℕ) (b : Book) (up : RisingByKey (b .rows)) where
   module _ (q : Asked) (Q : List (List ℕ) → Type 0) (f : List (List ℕ) → Bool) (h : (ps : List (List ℕ)) → Tests (f ps) (Q ps)) where
     routes-tests : Tests (passes f (routesOf (b .site .links) middle q)) (OfRoutes middle q b Q)
     routes-tests =
-        tests-passes (λ ps g n. planned-route (b .site .links) middle q g n) (λ ps qs g k. planned-unique g k) Q f h
-        (routesOf (b .site .links) middle q) (routes-found (b .site .links) middle q)
+        tests-passes (λ ps g n. planned-route (b .site .links) middle q g n) (λ ps qs g k. planned-unique g k) Q f (λ ps g. h ps)
+        (routesOf (b .site .links) middle q) (routes-found (b .site .links) middle q sound)
 
   room-tests : (room : ℕ) (q : Request) → Fresh q → Tests (noRoom middle room q b) (NoRoom middle room q b)
   room-tests room q f =
       tests-passes (λ c m n. n c m) (made-unique middle b q) (λ (c : Book). room < length (encode newest c)) (λ (c : Book). ltb room (length (encode newest c)))
-      (λ c. tests-lt room (length (encode newest c))) (made middle b q) (made-found q f)
+      (λ c m. tests-lt room (length (encode newest c))) (made middle b q) (made-found q f)
 
   full-tests : (ps : List (List ℕ)) → Tests (isFull b ps) (Full b ps)
   full-tests ps = tests-or (tests-lt mostStreams (length (b .rows) + length ps)) (tests-lt mostHops (hopsInAll (b .rows) + total hopCount ps))
@@ -186,13 +257,17 @@ module _ (middle : ℕ) (b : Book) (up : RisingByKey (b .rows)) where
                 tests-too-far (b .site .links) middle (q .source) (q .destination) n7,
                 λ n17. (
                   refl,
-                  routes-tests q (Full b) (isFull b) full-tests,
-                  λ n8. (
+                  tests-no-second (b .site .links) middle q sound,
+                  λ n18. (
                     refl,
-                    routes-tests q (NoPlacings b q) (λ ps. isNone (newRows b q ps))
-                        (λ ps. tests-none (λ rs g n. rows-or-none q b ps rs g n) (newRows b q ps) (rows-found q b ps)),
-                    λ n9.
-                        (refl, room-tests room (Open q) n2, λ n12. tt),
+                    routes-tests q (Full b) (isFull b) full-tests,
+                    λ n8. (
+                      refl,
+                      routes-tests q (NoPlacings b q 1) (λ ps. isNone (newRows b q 1 ps))
+                          (λ ps. tests-none (λ rs g n. rows-or-none q b 1 ps rs g n) (newRows b q 1 ps) (rows-found q b 1 ps)),
+                      λ n9.
+                          (refl, room-tests room (Open q) n2, λ n12. tt),
+                    ),
                   ),
                 ),
               ),
@@ -213,17 +288,18 @@ module _ (middle : ℕ) (b : Book) (up : RisingByKey (b .rows)) where
   -- where no refusal applies it makes a book, and that is the one computed
   pub request-done : (room : ℕ) (q : Request) → requestNumber middle q room b ≡ 0 → (c : Book) × (made middle b q ≡ some c) × Made middle b q c
   request-done room (Close id) e = (_, refl, closed id)
-  request-done room (Open q) e = go (routesOf (b .site .links) middle q) (routes-found (b .site .links) middle q)
+  request-done room (Open q) e = go (routesOf (b .site .links) middle q) (routes-found (b .site .links) middle q sound)
     where
       n : None (openRefusals middle q room b)
       n = says-none (openRefusals middle q room b) (omega arith) (subst (Says (openRefusals middle q room b)) e (request-says room (Open q)))
 
-      on : (ps : List (List ℕ)) → Planned (b .site .links) middle q ps → (o : Option (List Row)) → Found (NewRows b q ps) (NoPlacings b q ps) o → Done q o
-      on ps g none f = absurd (n .1 .1 .1 .1 .1 .1 .1 .1 .0 (ps, g, f))
+      on : (ps : List (List ℕ)) → Planned (b .site .links) middle q ps → (o : Option (List Row)) → Found (NewRows b q 1 ps) (NoPlacings b q 1 ps) o → Done q o
+      on ps g none f = absurd (n .1 .1 .1 .1 .1 .1 .1 .1 .1 .0 (ps, g, f))
       on ps g (some new) f = (_, refl, opened q new (n .1 .1 .1 .1 .0) (ps, g, f))
 
       go : (o : Option (List (List ℕ))) → Found (Planned (b .site .links) middle q) (NotPlanned (b .site .links) middle q) o
-          → Done q (andThen o (newRows b q))
-      go none (inl g) = absurd (n .1 .1 .1 .1 .1 .1 .0 g)
-      go none (inr g) = absurd (n .1 .1 .1 .1 .1 .0 g)
-      go (some ps) g = on ps g (newRows b q ps) (rows-found q b ps)
+          → Done q (andThen o (newRows b q 1))
+      go none (inl (inl g)) = absurd (n .1 .1 .1 .1 .1 .1 .0 g)
+      go none (inl (inr g)) = absurd (n .1 .1 .1 .1 .1 .0 g)
+      go none (inr g) = absurd (n .1 .1 .1 .1 .1 .1 .1 .0 g)
+      go (some ps) g = on ps g (newRows b q 1 ps) (rows-found q b 1 ps)

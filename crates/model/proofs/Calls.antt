@@ -54,10 +54,13 @@ module _ (image : List ℕ) (bytes : Bytes image) (refusals : ℕ → Book → L
   pub says-of : SaysOf image refusals (numberOf image tests)
   says-of = go (imageNumber image) (image-says image) (stored-in image bytes)
     where
-      go : (n : ℕ) → Says (imageRefusals image) n → (n ≡ 0 → LawfulImage image) → SaysOf image refusals (whenDone n (firstNumber (tests (versionOf image) (bookIn image))) n)
+      go : (n : ℕ) → Says (imageRefusals image) n → (n ≡ 0 → LawfulImage image)
+          → SaysOf image refusals (whenDone n (firstNumber (tests (versionOf image) (bookIn image))) n)
       go zero s k =
+          let v : ℕ = versionOf image in
+          let b : Book = bookIn image in
           let w = k refl in
-          inr (versionOf image, bookIn image, w, first-says (tests (versionOf image) (bookIn image)) (refusals (versionOf image) (bookIn image)) (h (versionOf image) (bookIn image) w))
+          inr (v, b, w, first-says (tests v b) (refusals v b) (h v b w))
       go (suc n) s k = inl (s, λ e. omega arith)
 
   -- a call that is done was on a lawful image
@@ -113,9 +116,10 @@ new-lawful plan N links room h = record {
     hops = omega arith;
     rows = λ r m. absurd m;
     rising = tt;
+    paired = λ r m. absurd m;
     never-meet = λ m. m .one-there;
   };
-  fits = record { hearing = refl };
+  fits = record { rows = λ r m. absurd m; hearing = refl };
   bytes = refl;
 }
   where
@@ -143,11 +147,11 @@ module _ (image : List ℕ) (bytes : Bytes image) where
   pub serve-computed : (q : Request) (out : List ℕ) → Serve image q out (serve image q out .number) (serve image q out .len) (serve image q out .out)
   serve-computed q out =
       reply-of image bytes (λ v b. requestRefusals (anyMiddle b) q (length out) b) (serveTests q (length out))
-      (λ v b w. request-agrees (anyMiddle b) b (w .lawful .rising) (length out) q) (served q) holds out
+      (λ v b w. request-agrees (anyMiddle b) b (w .lawful) (length out) q) (served q) holds out
     where
       holds : (v : ℕ) (b : Book) → Stored image v b → firstNumber (serveTests q (length out) v b) ≡ 0 → MadeImage (anyMiddle b) b q (served q v b)
       holds v b w e =
-          let d = request-done (anyMiddle b) b (w .lawful .rising) (length out) q e in
+          let d = request-done (anyMiddle b) b (w .lawful) (length out) q e in
           (d .0, d .2, ap (λ (o : Option Book). encode newest (orGiven o b)) (d .1))
 
   module _ (node : ℕ) where

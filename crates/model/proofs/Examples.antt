@@ -1,36 +1,36 @@
 -- All of the document's worked examples hold.
 use mathlib.Core.Path.{_≡_, refl, sym, ap, subst}
-use mathlib.Core.Logic.{_⊎_, ⊎-elim}
+use mathlib.Core.Logic.{⊎-elim}
 use mathlib.Core.Bool.{Bool, true, false, not, _&&_, _||_}
 use mathlib.Core.List.{List, [], _∷_}
-use mathlib.Core.Option.{Option, some, none}
+use mathlib.Core.Option.{Option}
 use Prim.Native.Nat.{ℕ, zero, suc}
 use lib.Dec.{T, eqb}
 use lib.ListN.{getD}
+use Rattle.rules.specs.Words.{Tests}
 use Rattle.rules.specs.Topology.{allNodes, Route}
-use Rattle.rules.specs.Book.{Row, Book, RisingByKey}
-use Rattle.rules.specs.Placing.{Asked, NewRows}
-use Rattle.rules.specs.Image.{newest, longestImage, encode}
+use Rattle.rules.specs.Book.{Row, Book, LawfulBook}
+use Rattle.rules.specs.Placing.{Asked, Planned, NewRows}
+use Rattle.rules.specs.Image.{newest, longestImage, encode, Stored}
 use Rattle.rules.specs.Table.{Entry}
-use Rattle.rules.specs.Calls.{Request, anyMiddle, OfRoutes, Made}
+use Rattle.rules.specs.Calls.{Request, anyMiddle, Made}
 use Rattle.rules.specs.Calls.Request.{Open, Close}
-use Rattle.rules.proofs.Choice.{best-unique}
-use Rattle.rules.proofs.Tests.{never, tests-and, tests-or, tests-not, tests-eq, allOf, tests-all}
+use Rattle.rules.proofs.Choice.{best-unique, planned-unique, rows-unique}
+use Rattle.rules.proofs.Tests.{tests-and, tests-or, tests-not, tests-eq, allOf, tests-all, tests-every}
 use Rattle.rules.proofs.Slots.{takes, tests-takes}
-use Rattle.model.specs.Test.{same, onData}
+use Rattle.model.specs.Test.{sameBy, same, sameRow, onData}
 use Rattle.model.specs.Search.{routeOf}
-use Rattle.model.specs.Answer.{passes, orGiven, rowsAdded, made}
+use Rattle.model.specs.Answer.{passes, orGiven, routesOf, newRows, made}
 use Rattle.model.specs.Table.{cellOf}
-use Rattle.model.specs.Reading.{isRising}
-use Rattle.model.specs.Examples.{planA, lineA, square, pair, empty, asked, opening, numberOn, SaysOn, after, isOne, opensWith, after2, after3, after7, hop}
-use Rattle.model.specs.Examples.{operationsP9, imageP10, imageP11, examples, Leaves, OpensWith, ExamplesHold}
-use Rattle.model.proofs.Tests.{tests-same, tests-on-data, tests-meets, tests-clashes}
-use Rattle.model.proofs.Searches.{Found}
+use Rattle.model.specs.Reading.{rowFits, isLawfulBook}
+use Rattle.model.specs.Examples.{planA, lineA, square, pair, empty, asked, askedTwo, opening, openingTwo, numberOn, SaysOn, after, rowsOn, opensWith, isStored}
+use Rattle.model.specs.Examples.{after2, after3, after7, hop, operationsP9, imageP10, imageP11, oldP10, oldP11, examples, Leaves, OpensWith, ExamplesHold}
+use Rattle.model.proofs.Tests.{tests-same-by, tests-same, tests-same-row, tests-on-data, tests-meets, tests-clashes}
 use Rattle.model.proofs.Routes.{route-found, route-only}
 use Rattle.model.proofs.Firsts.{tests-passes}
-use Rattle.model.proofs.Answers.{added-found, request-says, request-done}
+use Rattle.model.proofs.Answers.{planned-route, routes-found, rows-found, rows-or-none, request-says, request-done}
 use Rattle.model.proofs.Tables.{entry-computed}
-use Rattle.model.proofs.Reading.{tests-rising}
+use Rattle.model.proofs.Reading.{tests-version, tests-fits, tests-book}
 
 pub all-examples : T (allOf (λ (t : Bool). t) examples)
 all-examples = tt
@@ -55,45 +55,47 @@ each-true (suc n) (false ∷ ts) h = absurd h
 holds : (n : ℕ) → at n examples ≡ true
 holds n = each-true n examples all-examples
 
-both : (s t : Bool) → s && t ≡ true → (s ≡ true) × (t ≡ true)
-both true t e = (refl, e)
-both false t e = never e
-
 -- what a request says that the list has
-rising-rows : (b : Book) → T (isRising (b .rows)) → RisingByKey (b .rows)
-rising-rows b h = tests-rising (b .rows) .yes (true-of _ h)
-
-module _ (b : Book) (h : T (isRising (b .rows))) where
-  up : RisingByKey (b .rows)
-  up = rising-rows b h
+module _ (b : Book) (h : T (isLawfulBook b)) where
+  lawful : LawfulBook b
+  lawful = tests-book b .yes (true-of _ h)
 
   pub number-says : (q : Request) (n : ℕ) → eqb (numberOn b q) n ≡ true → SaysOn b q n
-  number-says q n e = subst (SaysOn b q) (tests-eq (numberOn b q) n .yes e) (request-says (anyMiddle b) b up (longestImage newest) q)
+  number-says q n e = subst (SaysOn b q) (tests-eq (numberOn b q) n .yes e) (request-says (anyMiddle b) b lawful (longestImage newest) q)
 
   pub leaves : (q : Request) → eqb (numberOn b q) 0 ≡ true → Leaves b q (after b q)
   leaves q e =
-      let d = request-done (anyMiddle b) b up (longestImage newest) q (tests-eq (numberOn b q) 0 .yes e) in
+      let d = request-done (anyMiddle b) b lawful (longestImage newest) q (tests-eq (numberOn b q) 0 .yes e) in
       record { says = number-says q 0 e; made = subst (Made (anyMiddle b) b q) (sym (ap (λ (o : Option Book). orGiven o b) (d .1))) (d .2) }
 
-  pub opens-with : (q : Asked) (route offsets : List ℕ) → opensWith b q route offsets ≡ true → OpensWith b q route offsets (after b (Open q))
-  opens-with q route offsets e = go (rowsAdded (anyMiddle b) b q) (added-found (anyMiddle b) b up q) (parts .1)
+  pub opens-with : (q : Asked) (routes offsets : List (List ℕ)) → opensWith b q routes offsets ≡ true → OpensWith b q routes offsets (after b (Open q))
+  opens-with q routes offsets e =
+      let t = tests-and (tests-eq (numberOn b (Open q)) 0) (tests-and given placed) .yes e in
+      record {
+        leaves = leaves (Open q) (tests-eq (numberOn b (Open q)) 0 .back (t .0));
+        planned = subst (Planned (b .site .links) (anyMiddle b) q) (sym (t .1 .0 .2)) (t .1 .0 .1);
+        placed = subst (NewRows b q 1 routes) (sym (t .1 .1 .2)) (t .1 .1 .1);
+      }
     where
-      parts : (eqb (numberOn b (Open q)) 0 ≡ true) × (passes (isOne route offsets) (rowsAdded (anyMiddle b) b q) ≡ true)
-      parts = both (eqb (numberOn b (Open q)) 0) (passes (isOne route offsets) (rowsAdded (anyMiddle b) b q)) e
+      given : Tests (passes (sameBy same routes) (routesOf (b .site .links) (anyMiddle b) q))
+          ((ps : List (List ℕ)) × Planned (b .site .links) (anyMiddle b) q ps × (routes ≡ ps))
+      given =
+          tests-passes (λ ps g. planned-route (b .site .links) (anyMiddle b) q g) (λ ps qs g k. planned-unique g k) (λ (ps : List (List ℕ)). routes ≡ ps)
+          (sameBy same routes) (λ ps g. tests-same-by same tests-same routes ps) (routesOf (b .site .links) (anyMiddle b) q)
+          (routes-found (b .site .links) (anyMiddle b) q (lawful .site .topologies .links-sound))
 
-      found : (new : List Row) → OfRoutes (anyMiddle b) q b (λ (ps : List (List ℕ)). NewRows b q ps new) → isOne route offsets new ≡ true
-          → OpensWith b q route offsets (after b (Open q))
-      found [] g t = never t
-      found (r ∷ []) g t =
-          let s = tests-and (tests-same (r .route) route) (tests-same (r .offsets) offsets) .yes t in
-          record { leaves = leaves (Open q) (parts .0); row = r; new = g; route-is = s .0; offsets-are = s .1 }
-      found (r ∷ x ∷ rs) g t = never t
+      placed : Tests (passes (sameBy sameRow (rowsOn q 1 routes offsets)) (newRows b q 1 routes))
+          ((rs : List Row) × NewRows b q 1 routes rs × (rowsOn q 1 routes offsets ≡ rs))
+      placed =
+          tests-passes (λ rs. rows-or-none q b 1 routes rs) (rows-unique b q 1 routes) (λ (rs : List Row). rowsOn q 1 routes offsets ≡ rs)
+          (sameBy sameRow (rowsOn q 1 routes offsets)) (λ rs g. tests-same-by sameRow tests-same-row (rowsOn q 1 routes offsets) rs)
+          (newRows b q 1 routes) (rows-found q b 1 routes)
 
-      go : (o : Option (List Row)) → Found (λ (new : List Row). OfRoutes (anyMiddle b) q b (λ (ps : List (List ℕ)). NewRows b q ps new))
-          ((new : List Row) → OfRoutes (anyMiddle b) q b (λ (ps : List (List ℕ)). NewRows b q ps new) → ⊥) o
-          → passes (isOne route offsets) o ≡ true → OpensWith b q route offsets (after b (Open q))
-      go none f t = never t
-      go (some new) f t = found new f t
+-- a book whose hearing is its links, and its image
+pub stored : (s : List ℕ) (v : ℕ) (b : Book) → b .site .hearing ≡ b .site .links → isStored s v b ≡ true → Stored s v b
+stored s v b hearing e =
+    let t = tests-and (tests-version v) (tests-and (tests-book b) (tests-and (tests-every (rowFits v) (tests-fits v) (b .rows)) (tests-same s (encode v b)))) .yes e in
+    record { version = t .0; lawful = t .1 .0; fits = record { rows = t .1 .1 .0; hearing = hearing }; bytes = t .1 .1 .1 }
 
 -- the theorem
 pub examples-hold : ExamplesHold
@@ -104,14 +106,15 @@ examples-hold = record {
       .yes (holds 1) o l);
   p1-two = tests-on-data planA 1 2 .yes (holds 2);
   p1-three = tests-on-data planA 1 3 .yes (holds 3);
-  p2 = opens-with (empty lineA) tt (asked 1 3 0 2) (3 ∷ 2 ∷ 1 ∷ 0 ∷ []) (2 ∷ 3 ∷ 5 ∷ []) (holds 4);
-  p3 = opens-with after2 tt (asked 2 0 3 2) (0 ∷ 1 ∷ 2 ∷ 3 ∷ []) (2 ∷ 6 ∷ 7 ∷ []) (holds 5);
+  p2 = opens-with (empty lineA) tt (asked 1 3 0 2) ((3 ∷ 2 ∷ 1 ∷ 0 ∷ []) ∷ []) ((2 ∷ 3 ∷ 5 ∷ []) ∷ []) (holds 4);
+  p3 = opens-with after2 tt (asked 2 0 3 2) ((0 ∷ 1 ∷ 2 ∷ 3 ∷ []) ∷ []) ((2 ∷ 6 ∷ 7 ∷ []) ∷ []) (holds 5);
   p4 = number-says after3 tt (opening 3 3 2 2) 9 (holds 6);
   p5-close = leaves after3 tt (Close 1) (holds 7);
-  p5 = opens-with (after after3 (Close 1)) tt (asked 3 3 2 2) (3 ∷ 2 ∷ []) (2 ∷ []) (holds 8);
+  p5 = opens-with (after after3 (Close 1)) tt (asked 3 3 2 2) ((3 ∷ 2 ∷ []) ∷ []) ((2 ∷ []) ∷ []) (holds 8);
   p6 = tests-meets 4 2 3 5 7 .yes (holds 9);
   p6-in = tests-and (tests-takes 4 2 3 27) (tests-takes 4 5 7 27) .yes (holds 10);
-  p6-first = tests-all (λ (slot : ℕ). not (takes 4 2 3 slot && takes 4 5 7 slot)) (λ slot. tests-not (tests-and (tests-takes 4 2 3 slot) (tests-takes 4 5 7 slot))) 27 .yes (holds 11);
+  p6-first =
+      tests-all (λ (slot : ℕ). not (takes 4 2 3 slot && takes 4 5 7 slot)) (λ slot. tests-not (tests-and (tests-takes 4 2 3 slot) (tests-takes 4 5 7 slot))) 27 .yes (holds 11);
   p7 = route-of;
   p8 = tests-clashes lineA (hop 0 1) (hop 2 3) .yes (holds 13);
   p8-not = tests-not (tests-clashes lineA (hop 0 1) (hop 3 2)) .yes (holds 14);
@@ -121,14 +124,18 @@ examples-hold = record {
         (tests-all (λ (slot : ℕ). eqb (cellOf after2 2 slot (after2 .rows) .operation) (getD operationsP9 slot 0))
         (λ slot. tests-eq (cellOf after2 2 slot (after2 .rows) .operation) (getD operationsP9 slot 0)) 8 .yes (holds 15) slot l) (entry-computed after2 2 slot),
   );
-  p10 = tests-same (encode newest (empty pair)) imageP10 .yes (holds 16);
-  p11 = opens-with (empty pair) tt (asked 7 1 0 2) (1 ∷ 0 ∷ []) (2 ∷ []) (holds 17);
-  p11-image = tests-same (encode newest after7) imageP11 .yes (holds 18);
+  p10 = stored imageP10 newest (empty pair) refl (holds 16);
+  p11 = opens-with (empty pair) tt (asked 7 1 0 2) ((1 ∷ 0 ∷ []) ∷ []) ((2 ∷ []) ∷ []) (holds 17);
+  p11-image = stored imageP11 newest after7 refl (holds 18);
+  p10-old = stored oldP10 1 (empty pair) refl (holds 19);
+  p11-old = stored oldP11 1 after7 refl (holds 20);
+  second = opens-with (empty square) tt (askedTwo 1 0 3 2) ((0 ∷ 1 ∷ 3 ∷ []) ∷ (0 ∷ 2 ∷ 3 ∷ []) ∷ []) ((2 ∷ 3 ∷ []) ∷ (3 ∷ 5 ∷ []) ∷ []) (holds 21);
+  no-second = number-says (empty lineA) tt (openingTwo 1 3 0 2) 18 (holds 22);
 }
   where
     route-of : Route square (allNodes 4) 0 3 (0 ∷ 1 ∷ 3 ∷ [])
     route-of =
         let h = tests-passes {P = Route square (allNodes 4) 0 3} (λ p r n. route-only square (allNodes 4) 0 3 r n) (λ p q g k. best-unique g k)
         (λ (p : List ℕ). (0 ∷ 1 ∷ 3 ∷ []) ≡ p) (same (0 ∷ 1 ∷ 3 ∷ []))
-        (tests-same (0 ∷ 1 ∷ 3 ∷ [])) (routeOf square (allNodes 4) 0 3) (route-found square (allNodes 4) 0 3) .yes (holds 12) in
+        (λ p g. tests-same (0 ∷ 1 ∷ 3 ∷ []) p) (routeOf square (allNodes 4) 0 3) (route-found square (allNodes 4) 0 3) .yes (holds 12) in
         subst (Route square (allNodes 4) 0 3) (sym (h .2)) (h .1)

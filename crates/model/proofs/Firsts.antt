@@ -33,7 +33,7 @@ module _ {A : Type 0} {P : A → Type 0} {N : Type 0} (other : (x : A) → P x �
   tests-none none g = record { yes = λ e. g; back = λ n. refl }
   tests-none (some x) g = record { yes = λ e. never e; back = λ n. absurd (other x g n) }
 
-  pub tests-passes : ((x y : A) → P x → P y → x ≡ y) → (Q : A → Type 0) (f : A → Bool) → ((x : A) → Tests (f x) (Q x)) → (o : Option A) → Found P N o
+  pub tests-passes : ((x y : A) → P x → P y → x ≡ y) → (Q : A → Type 0) (f : A → Bool) → ((x : A) → P x → Tests (f x) (Q x)) → (o : Option A) → Found P N o
       → Tests (passes f o) ((x : A) × P x × Q x)
   tests-passes one Q f h none g = record { yes = λ e. never e; back = λ p. absurd (other (p .0) (p .1) g) }
-  tests-passes one Q f h (some x) g = record { yes = λ e. (x, g, h x .yes e); back = λ p. h x .back (subst Q (one (p .0) x (p .1) g) (p .2)) }
+  tests-passes one Q f h (some x) g = record { yes = λ e. (x, g, h x g .yes e); back = λ p. h x g .back (subst Q (one (p .0) x (p .1) g) (p .2)) }

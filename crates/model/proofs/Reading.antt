@@ -1,6 +1,5 @@
 -- The tests of an image are its refusals, and where none applies the image holds the book that is read.
 use mathlib.Core.Path.{_≡_, refl, sym, subst}
-use mathlib.Core.Logic.{_⊎_, inl, inr, ⊎-elim}
 use mathlib.Core.Bool.{Bool, true, false, not, _||_}
 use mathlib.Core.List.{List, [], _∷_}
 use Prim.Native.Nat.{ℕ, _*_, _/_, _^_, _<_, _≤_}
@@ -11,19 +10,20 @@ use lib.ListN.{length, getD, take, drop}
 use Rattle.rules.specs.Words.{Has, NoBitFrom, Pairwise, Tests}
 use Rattle.rules.specs.Says.{Says}
 use Rattle.rules.specs.Tiles.{Plan, PlanInRange, tileCounts, periods}
-use Rattle.rules.specs.Topology.{Topology, nodes, NodesInRange, Joined, SoundTopology, SoundTopologies, LinkedInTurn, Path, hopCount, mostRouteHops}
+use Rattle.rules.specs.Topology.{Topology, nodes, NodesInRange, Joined, SoundTopology, SoundTopologies}
+use Rattle.rules.specs.Topology.{LinkedInTurn, Path, hopCount, middles, mostRouteHops, mostShortHops, Beside}
 use Rattle.rules.specs.Book.{Site, Row, Book, key, hops, hopsInAll, rowHop, rowOffset, RisingByKey, LawfulSite, LawfulRow, RowsMeet, ClashingHopsMeet}
-use Rattle.rules.specs.Book.{mostStreams, mostHops}
-use Rattle.rules.specs.Image.{newest, Version, mark, inTurn, encodeRow, headerLength, statedLength, versionOf, planOf, nodesOf, streamsOf, hopsOf}
+use Rattle.rules.specs.Book.{mostStreams, mostHops, Pair, Paired, LawfulBook}
+use Rattle.rules.specs.Image.{newest, Version, hasWays, RowFits, mark, inTurn, encodeRow, headerLength, statedLength, versionOf, planOf, nodesOf, streamsOf, hopsOf}
 use Rattle.rules.specs.Image.{linksOf, hearingOf, siteOf, bookOf, rowsPlace, FieldsInRange, RowsOf, imageRefusals}
-use Rattle.rules.proofs.Tests.{never, alike, tests-and, tests-or, tests-not, tests-eq, tests-le, tests-lt, allBelow, tests-all, tests-some, tests-member, tests-every}
+use Rattle.rules.proofs.Tests.{never, alike, tests-and, tests-not, tests-eq, tests-le, tests-lt, allBelow, tests-all, tests-some, someOf, tests-member, tests-every}
 use Rattle.rules.proofs.Says.{None, says-none}
 use Rattle.rules.proofs.Written.{Bytes, stored}
 use Rattle.rules.proofs.Reading.{rowsIn, bookIn, rows-are, LawfulImage}
 use Rattle.model.specs.Test.{joined, onData}
 use Rattle.model.specs.Reading.{isVersion, planFits, nodesFit, fieldsFit, whereJoined, isSound, areSound, isLawfulSite, allPairs, allLinked, isPath, isLawful}
-use Rattle.model.specs.Reading.{isRising, rowsHold, rowsMeet, clashingHopsMeet, imageTests, imageNumber}
-use Rattle.model.proofs.Tests.{tests-same, tests-in, tests-joined, tests-on-data, tests-meets-clashing}
+use Rattle.model.specs.Reading.{isRising, rowFits, isBeside, isPair, isPaired, rowsHold, rowsMeet, clashingHopsMeet, isLawfulBook, imageTests, imageNumber}
+use Rattle.model.proofs.Tests.{tests-same, tests-if, tests-in, tests-joined, tests-on-data, tests-meets-clashing}
 use Rattle.model.proofs.Firsts.{first-says}
 
 -- what is tested and not false is true
@@ -35,7 +35,7 @@ pub tests-pairs : {A : Type 0} (R : A → A → Type 0) (f : A → A → Bool) �
 tests-pairs R f h [] = record { yes = λ e. tt; back = λ p. refl }
 tests-pairs R f h (x ∷ xs) = tests-and (tests-every (f x) (h x) xs) (tests-pairs R f h xs)
 
-tests-version : (v : ℕ) → Tests (isVersion v) (Version v)
+pub tests-version : (v : ℕ) → Tests (isVersion v) (Version v)
 tests-version v = tests-and (tests-le 1 v) (tests-le v newest)
 
 -- FIELDS
@@ -62,14 +62,8 @@ tests-fields s =
 module _ (N : ℕ) (P Q : ℕ → ℕ → Type 0) (f g : ℕ → ℕ → Bool) (h : (a b : ℕ) → Tests (f a b) (P a b)) (k : (a b : ℕ) → Tests (g a b) (Q a b)) where
   tests-where : Tests (whereJoined N f g) ((a b : ℕ) → a < N → b < N → P a b → Q a b)
   tests-where =
-      alike
-      (tests-all (λ a. allBelow N (λ b. not (f a b) || g a b)) (λ a. tests-all (λ b. not (f a b) || g a b) (λ b. tests-or (tests-not (h a b)) (k a b)) N) N)
-      (λ p a b l m q. ⊎-elim (λ n. absurd (n q)) (λ r. r) (p a l b m))
-      (λ r a l b m. back a b l m r (f a b) (h a b))
-    where
-      back : (a b : ℕ) → a < N → b < N → ((a b : ℕ) → a < N → b < N → P a b → Q a b) → (t : Bool) → Tests t (P a b) → (P a b → ⊥) ⊎ Q a b
-      back a b l m r true t = inr (r a b l m (t .yes refl))
-      back a b l m r false t = inl (λ q. never (t .back q))
+      alike (tests-all (λ a. allBelow N (λ b. not (f a b) || g a b)) (λ a. tests-all (λ b. not (f a b) || g a b) (λ b. tests-if (h a b) (k a b)) N) N)
+      (λ p a b l m. p a l b m) (λ r a l b m. r a b l m)
 
 pub tests-sound : (T : Topology) → Tests (isSound T) (SoundTopology T)
 tests-sound T =
@@ -127,31 +121,75 @@ tests-path T p =
 pub tests-lawful : (site : Site) (r : Row) → Tests (isLawful site r) (LawfulRow site r)
 tests-lawful site r =
     alike
-    (tests-and (tests-le 1 (r .id)) (tests-and (tests-lt (r .id) 65536) (tests-and (tests-in (r .period) periods) (tests-and (tests-path (site .links) (r .route))
-    (tests-and (tests-le (hops r) mostRouteHops) (tests-and (tests-and (tests-eq (length (r .offsets)) (hops r)) (tests-and (tests-pairs _<_ ltb tests-lt (r .offsets))
+    (tests-and (tests-le 1 (r .id)) (tests-and (tests-lt (r .id) 65536) (tests-and (tests-le 1 (r .way)) (tests-and (tests-le (r .way) 2)
+    (tests-and (tests-in (r .period) periods) (tests-and (tests-path (site .links) (r .route)) (tests-and (tests-le (hops r) mostRouteHops)
+    (tests-and (tests-and (tests-eq (length (r .offsets)) (hops r)) (tests-and (tests-pairs _<_ ltb tests-lt (r .offsets))
     (tests-every (λ o. ltb o (r .period * site .plan .slots)) (λ o. tests-lt o (r .period * site .plan .slots)) (r .offsets))))
-    (tests-every (onData (site .plan) (r .period)) (tests-on-data (site .plan) (r .period)) (r .offsets))))))))
+    (tests-every (onData (site .plan) (r .period)) (tests-on-data (site .plan) (r .period)) (r .offsets))))))))))
     (λ p. record {
       id-some = p .0;
       id-most = p .1 .0;
-      period = p .1 .1 .0;
-      route = p .1 .1 .1 .0;
-      route-most = p .1 .1 .1 .1 .0;
-      offsets = record { count = p .1 .1 .1 .1 .1 .0 .0; rising = p .1 .1 .1 .1 .1 .0 .1 .0; within = p .1 .1 .1 .1 .1 .0 .1 .1 };
-      on-data = p .1 .1 .1 .1 .1 .1;
+      way-some = p .1 .1 .0;
+      way-most = p .1 .1 .1 .0;
+      period = p .1 .1 .1 .1 .0;
+      route = p .1 .1 .1 .1 .1 .0;
+      route-most = p .1 .1 .1 .1 .1 .1 .0;
+      offsets = record { count = p .1 .1 .1 .1 .1 .1 .1 .0 .0; rising = p .1 .1 .1 .1 .1 .1 .1 .0 .1 .0; within = p .1 .1 .1 .1 .1 .1 .1 .0 .1 .1 };
+      on-data = p .1 .1 .1 .1 .1 .1 .1 .1;
     })
-    (λ l. (l .id-some, (l .id-most, (l .period, (l .route, (l .route-most, ((l .offsets .count, (l .offsets .rising, l .offsets .within)), l .on-data)))))))
+    (λ l. (
+      l .id-some,
+      (l .id-most, (l .way-some, (l .way-most, (l .period, (l .route, (l .route-most, ((l .offsets .count, (l .offsets .rising, l .offsets .within)), l .on-data))))))),
+    ))
 
 pub tests-rising : (rows : List Row) → Tests (isRising rows) (RisingByKey rows)
 tests-rising = tests-pairs (λ (r x : Row). key r < key x) (λ r x. ltb (key r) (key x)) (λ r x. tests-lt (key r) (key x))
 
+pub tests-fits : (v : ℕ) (r : Row) → Tests (rowFits v r) (RowFits v r)
+tests-fits v r = alike (go (hasWays v)) (λ f. record { one-way = f }) (λ f. f .one-way)
+  where
+    go : (t : Bool) → Tests (t || eqb (r .way) 1) (t ≡ false → r .way ≡ 1)
+    go true = record { yes = λ e f. never (sym f); back = λ f. refl }
+    go false = record { yes = λ e f. tests-eq (r .way) 1 .yes e; back = λ f. tests-eq (r .way) 1 .back (f refl) }
+
+-- PAIRS
+tests-beside : (first p : List ℕ) → Tests (isBeside first p) (Beside first p)
+tests-beside first p =
+    alike
+    (tests-and (tests-le (hopCount p) mostShortHops) (tests-and (tests-not (tests-same p first))
+    (tests-not (tests-member (λ a. someOf (eqb a) (middles p)) (λ a. tests-in a (middles p)) (middles first)))))
+    (λ t. record { short = t .0; another = t .1 .0; no-common = λ a m k. t .1 .1 (a, m, k) })
+    (λ b. (b .short, (b .another, λ t. b .no-common (t .0) (t .1) (t .2))))
+
+tests-pair : (r x : Row) → Tests (isPair r x) (Pair r x)
+tests-pair r x =
+    alike
+    (tests-and (tests-eq (r .id) (x .id)) (tests-and (tests-eq (r .way) 1) (tests-and (tests-eq (r .period) (x .period))
+    (tests-and (tests-eq (getD (r .route) 0 0) (getD (x .route) 0 0)) (tests-and (tests-eq (getD (r .route) (hops r) 0) (getD (x .route) (hops x) 0))
+    (tests-beside (r .route) (x .route)))))))
+    (λ p. record { id = p .0; first = p .1 .0; period = p .1 .1 .0; starts = p .1 .1 .1 .0; ends = p .1 .1 .1 .1 .0; beside = p .1 .1 .1 .1 .1 })
+    (λ p. (p .id, (p .first, (p .period, (p .starts, (p .ends, p .beside))))))
+
+pub tests-paired : (rows : List Row) (x : Row) → Tests (isPaired rows x) (Paired rows x)
+tests-paired rows x = tests-if (tests-eq (x .way) 2) (tests-member (λ r. isPair r x) (λ r. tests-pair r x) rows)
+
 pub tests-rows : (s : List ℕ) (rows : List Row) → Tests (rowsHold s rows) (RowsOf s rows)
 tests-rows s rows =
     alike
-    (tests-and (tests-eq (length rows) (streamsOf s)) (tests-and (tests-every (isLawful (siteOf s)) (tests-lawful (siteOf s)) rows) (tests-and (tests-rising rows)
-    (tests-and (tests-eq (hopsInAll rows) (hopsOf s)) (tests-same (drop (rowsPlace s) s) (inTurn (encodeRow (versionOf s)) rows))))))
-    (λ p. record { count = p .0; lawful = p .1 .0; rising = p .1 .1 .0; hops = p .1 .1 .1 .0; fill = p .1 .1 .1 .1 })
-    (λ r. (r .count, (r .lawful, (r .rising, (r .hops, r .fill)))))
+    (tests-and (tests-eq (length rows) (streamsOf s)) (tests-and (tests-every (isLawful (siteOf s)) (tests-lawful (siteOf s)) rows)
+    (tests-and (tests-every (rowFits (versionOf s)) (tests-fits (versionOf s)) rows) (tests-and (tests-rising rows)
+    (tests-and (tests-every (isPaired rows) (tests-paired rows) rows) (tests-and (tests-eq (hopsInAll rows) (hopsOf s))
+    (tests-same (drop (rowsPlace s) s) (inTurn (encodeRow (versionOf s)) rows))))))))
+    (λ p. record {
+      count = p .0;
+      lawful = p .1 .0;
+      fits = p .1 .1 .0;
+      rising = p .1 .1 .1 .0;
+      paired = p .1 .1 .1 .1 .0;
+      hops = p .1 .1 .1 .1 .1 .0;
+      fill = p .1 .1 .1 .1 .1 .1;
+    })
+    (λ r. (r .count, (r .lawful, (r .fits, (r .rising, (r .paired, (r .hops, r .fill)))))))
 
 pub tests-no-rows : (s : List ℕ) → Tests (not (rowsHold s (rowsIn s))) ((rows : List Row) → RowsOf s rows → ⊥)
 tests-no-rows s =
@@ -171,6 +209,24 @@ tests-meet b =
     (tests-member _ (λ r. tests-member _ (λ x. tests-and (tests-not (tests-eq (key r) (key x))) (tests-rows-meet (b .site) r x)) (b .rows)) (b .rows))
     (λ p. record { one = p .0; other = p .2 .0; one-there = p .1; other-there = p .2 .1; different = p .2 .2 .0; meets = p .2 .2 .1 })
     (λ m. (m .one, m .one-there, (m .other, m .other-there, (m .different, m .meets))))
+
+-- A BOOK
+pub tests-book : (b : Book) → Tests (isLawfulBook b) (LawfulBook b)
+tests-book b =
+    alike
+    (tests-and (tests-site (b .site)) (tests-and (tests-and (tests-le (length (b .rows)) mostStreams) (tests-le (hopsInAll (b .rows)) mostHops))
+    (tests-and (tests-every (isLawful (b .site)) (tests-lawful (b .site)) (b .rows)) (tests-and (tests-rising (b .rows))
+    (tests-and (tests-every (isPaired (b .rows)) (tests-paired (b .rows)) (b .rows)) (tests-not (tests-meet b)))))))
+    (λ p. record {
+      site = p .0;
+      streams = p .1 .0 .0;
+      hops = p .1 .0 .1;
+      rows = p .1 .1 .0;
+      rising = p .1 .1 .1 .0;
+      paired = p .1 .1 .1 .1 .0;
+      never-meet = p .1 .1 .1 .1 .1;
+    })
+    (λ l. (l .site, ((l .streams, l .hops), (l .rows, (l .rising, (l .paired, l .never-meet))))))
 
 -- THE IMAGE
 pub image-says : (s : List ℕ) → Says (imageRefusals s) (imageNumber s)

@@ -14,10 +14,10 @@ use Rattle.rules.specs.Tiles.{Takes, Data, cycleSlots}
 use Rattle.rules.specs.Topology.{Touches}
 use Rattle.rules.specs.Book.{Row, Book, hops, rowHop, rowOffset, LawfulBook}
 use Rattle.rules.specs.Image.{word}
-use Rattle.rules.specs.Table.{Does, Entry, TableOf, BalanceOf, used}
+use Rattle.rules.specs.Table.{Does, onWay, Entry, TableOf, BalanceOf, used}
 use Rattle.rules.specs.Table.Does.{sends, receives, forwards, delivers}
 use Rattle.rules.specs.Table.Entry.{sleep, works, control}
-use Rattle.rules.proofs.Entries.{entry-unique}
+use Rattle.rules.proofs.Entries.{does-work, on-way-works, idle-not-working, entry-unique}
 use Rattle.rules.proofs.Tests.{never, tests-eq}
 use Rattle.rules.proofs.Counts.{counted}
 use Rattle.rules.proofs.Slots.{isData, takes, tests-data, tests-takes}
@@ -30,9 +30,9 @@ module _ (b : Book) (node slot : ℕ) where
   abbrev At : Row → ℕ → Type 0
   At r i = Takes (b .site .plan .slots) (r .period) (rowOffset r i) slot
 
-  -- the cell is what the node does in hop i of the row
+  -- the cell is what the node does in hop i of the row, on its way
   abbrev Works : Row → ℕ → Cell → Type 0
-  Works r i c = At r i × (i < hops r → Does node r i (c .operation)) × (c .stream ≡ r .id)
+  Works r i c = At r i × ((o : ℕ) × (i < hops r → Does node r i o) × (c .operation ≡ onWay (r .way) o)) × (c .stream ≡ r .id)
 
   abbrev Idle : Row → ℕ → Type 0
   Idle r i = At r i → Touches node (rowHop r i) → ⊥
@@ -60,19 +60,22 @@ module _ (b : Book) (node slot : ℕ) where
       from false a = to (eqb node (rowHop r i .to)) (tests-eq node (rowHop r i .to)) (λ e. never (a .back e))
 
   tried : (r : Row) (i : ℕ) → Found (Works r i) (Idle r i)
-      (cond (takes (b .site .plan .slots) (r .period) (rowOffset r i) slot) (andThen (operationOf node r i) (λ (o : ℕ). some (record { operation = o; stream = r .id }))) none)
-  tried r i = go (takes (b .site .plan .slots) (r .period) (rowOffset r i) slot) (tests-takes (b .site .plan .slots) (r .period) (rowOffset r i) slot) (operationOf node r i) (operation r i)
+      (cond (takes (b .site .plan .slots) (r .period) (rowOffset r i) slot)
+      (andThen (operationOf node r i) (λ (o : ℕ). some (record { operation = onWay (r .way) o; stream = r .id }))) none)
+  tried r i =
+      go (takes (b .site .plan .slots) (r .period) (rowOffset r i) slot) (tests-takes (b .site .plan .slots) (r .period) (rowOffset r i) slot) (operationOf node r i)
+      (operation r i)
     where
       go : (t : Bool) → Tests t (At r i) → (o : Option ℕ) → Found (λ (o : ℕ). i < hops r → Does node r i o) (Touches node (rowHop r i) → ⊥) o
-          → Found (Works r i) (Idle r i) (cond t (andThen o (λ (o : ℕ). some (record { operation = o; stream = r .id }))) none)
+          → Found (Works r i) (Idle r i) (cond t (andThen o (λ (o : ℕ). some (record { operation = onWay (r .way) o; stream = r .id }))) none)
       go true a none f = λ h. f
-      go true a (some o) f = (a .yes refl, f, refl)
+      go true a (some o) f = (a .yes refl, (o, f, refl), refl)
       go false a o f = λ h. never (a .back h)
 
   -- the cell comes from one of the rows, or none of them has the node in the slot
   abbrev CellOf : List Row → Cell → Type 0
   CellOf rs c =
-      ((r : Row) × (i : ℕ) × (r ∈ rs) × (i < hops r) × At r i × Does node r i (c .operation) × (c .stream ≡ r .id))
+      ((r : Row) × (i : ℕ) × (r ∈ rs) × (i < hops r) × At r i × ((o : ℕ) × Does node r i o × (c .operation ≡ onWay (r .way) o)) × (c .stream ≡ r .id))
       ⊎ (((r : Row) → r ∈ rs → (i : ℕ) → i < hops r → Idle r i) × (c .operation ≡ cond (isData (b .site .plan) slot) 0 5) × (c .stream ≡ 0))
 
   cell-of : (rs : List Row) → CellOf rs (cellOf b node slot rs)
@@ -83,10 +86,12 @@ module _ (b : Book) (node slot : ℕ) where
           → CellOf rs (cellOf b node slot rs) → CellOf (r ∷ rs) (orGiven o (cellOf b node slot rs))
       go none g (inl h) = inl (h .0, h .1, inr (h .2), h .3, h .4, h .5, h .6)
       go none g (inr h) =
-          inr (λ x m i l. ⊎-elim (λ (e : x ≡ r). subst (λ (v : Row). i < hops v → Idle v i) (sym e) (λ k. g i (omega arith) (omega arith)) l) (λ (k : x ∈ rs). h .0 x k i l) m, h .1, h .2)
+          let none-of : (x : Row) → x ∈ r ∷ rs → (i : ℕ) → i < hops x → Idle x i =
+          λ x m i l. ⊎-elim (λ (e : x ≡ r). subst (λ (v : Row). i < hops v → Idle v i) (sym e) (λ k. g i (omega arith) (omega arith)) l) (λ (k : x ∈ rs). h .0 x k i l) m in
+          inr (none-of, h .1, h .2)
       go (some c) g h =
           let l : g .at < hops r = omega (arith, g .below) in
-          inl (r, g .at, inl refl, l, g .here .0, g .here .1 l, g .here .2)
+          inl (r, g .at, inl refl, l, g .here .0, (g .here .1 .0, g .here .1 .1 l, g .here .1 .2), g .here .2)
 
   pub entry-computed : Entry b node slot (cellOf b node slot (b .rows) .operation) (cellOf b node slot (b .rows) .stream)
   entry-computed = go (cellOf b node slot (b .rows)) (cell-of (b .rows))
@@ -96,7 +101,7 @@ module _ (b : Book) (node slot : ℕ) where
       rest false a f = control (lt-of-not-le (λ l. never (a .back l)))
 
       go : (c : Cell) → CellOf (b .rows) c → Entry b node slot (c .operation) (c .stream)
-      go c (inl h) = subst (Entry b node slot (c .operation)) (sym (h .6)) (works record { row = h .2; hop = h .3; takes = h .4 } (h .5))
+      go c (inl h) = subst₂ (Entry b node slot) (sym (h .5 .2)) (sym (h .6)) (works record { row = h .2; hop = h .3; takes = h .4 } (h .5 .1))
       go c (inr h) =
           subst₂ (Entry b node slot) (sym (h .1)) (sym (h .2)) (rest (isData (b .site .plan) slot) (tests-data (b .site .plan) slot) (h .0))
 
@@ -127,15 +132,9 @@ module _ (b : Book) (node : ℕ) where
 
 -- THE BALANCE
 module _ (b : Book) (w : LawfulBook b) (node : ℕ) where
-  does-something : {r : Row} {i o : ℕ} → Does node r i o → o ≡ 0 → ⊥
-  does-something (sends e z) q = omega arith
-  does-something (receives e z) q = omega arith
-  does-something (forwards e z) q = omega arith
-  does-something (delivers e z) q = omega arith
-
   stream-none : {slot o id : ℕ} → Entry b node slot o id → o ≡ 0 → id ≡ 0
   stream-none (sleep d f) e = refl
-  stream-none (works a d) e = absurd (does-something d e)
+  stream-none (works {r} {operation = operation} a d) e = absurd (idle-not-working _ (on-way-works (r .way) operation (does-work d)) (inl e))
   stream-none (control c) e = refl
 
   tests-sleep : (slot : ℕ) → Tests (eqb (cellOf b node slot (b .rows) .operation) 0) (Entry b node slot 0 0)

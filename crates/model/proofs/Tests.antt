@@ -1,12 +1,12 @@
 -- The tests say what the rules mean.
 use mathlib.Core.Path.{_≡_, refl, sym, ap, ap₂, subst}
 use mathlib.Core.Logic.{_⊎_, inl, inr, ⊎-elim}
-use mathlib.Core.Bool.{_&&_}
+use mathlib.Core.Bool.{Bool, true, false, not, _&&_, _||_}
 use mathlib.Core.List.{List, [], _∷_}
 use Prim.Native.Nat.{ℕ, _+_, _*_}
 use native.Mathlib.Omega.{arith}
 use lib.Dec.{eqb}
-use lib.ListN.{getD, drop}
+use lib.ListN.{length, getD, drop}
 use Rattle.rules.specs.Words.{_∈_, Has, Tests}
 use Rattle.rules.specs.Tiles.{Plan, Data, Takes, Meet, repeats}
 use Rattle.rules.specs.Topology.{Topology, Joined, Hop, Touches, Clash}
@@ -14,15 +14,35 @@ use Rattle.rules.specs.Book.{Site, Row, Book, hops, rowHop, rowOffset, OnData, 
 use Rattle.rules.specs.Placing.{Free}
 use Rattle.rules.proofs.Tests.{never, alike, tests-and, tests-or, tests-not, tests-eq, tests-all, tests-some, someOf, tests-member}
 use Rattle.rules.proofs.Slots.{isData, takes, tests-data, tests-takes, tests-touches}
-use Rattle.model.specs.Test.{same, has, joined, clashes, onData, meets, meetsClashing, isFree, isKnown}
+use Rattle.model.specs.Test.{sameBy, same, sameRow, has, joined, clashes, onData, meets, meetsClashing, isFree, isKnown}
 
 -- LISTS
+module _ {A : Type 0} (f : A → A → Bool) (h : (x y : A) → Tests (f x y) (x ≡ y)) where
+  pub tests-same-by : (xs ys : List A) → Tests (sameBy f xs ys) (xs ≡ ys)
+  tests-same-by [] [] = record { yes = λ e. refl; back = λ p. refl }
+  tests-same-by [] (y ∷ ys) = record { yes = λ e. never e; back = λ p. absurd (omega (arith, ap length p)) }
+  tests-same-by (x ∷ xs) [] = record { yes = λ e. never e; back = λ p. absurd (omega (arith, ap length p)) }
+  tests-same-by (x ∷ xs) (y ∷ ys) =
+      alike (tests-and (h x y) (tests-same-by xs ys)) (λ p. ap₂ _∷_ (p .0) (p .1)) (λ e. (ap (λ (l : List A). getD l 0 x) e, ap (drop 1) e))
+
 pub tests-same : (xs ys : List ℕ) → Tests (same xs ys) (xs ≡ ys)
-tests-same [] [] = record { yes = λ e. refl; back = λ p. refl }
-tests-same [] (y ∷ ys) = record { yes = λ e. never e; back = λ p. let z : _≡_ {A = ℕ} 0 1 = cc in absurd (omega arith) }
-tests-same (x ∷ xs) [] = record { yes = λ e. never e; back = λ p. let z : _≡_ {A = ℕ} 0 1 = cc in absurd (omega arith) }
-tests-same (x ∷ xs) (y ∷ ys) =
-    alike (tests-and (tests-eq x y) (tests-same xs ys)) (λ p. ap₂ _∷_ (p .0) (p .1)) (λ e. (ap (λ (l : List ℕ). getD l 0 0) e, ap (drop 1) e))
+tests-same = tests-same-by eqb tests-eq
+
+pub tests-same-row : (r x : Row) → Tests (sameRow r x) (r ≡ x)
+tests-same-row r x =
+    alike
+    (tests-and (tests-eq (r .id) (x .id)) (tests-and (tests-eq (r .way) (x .way)) (tests-and (tests-eq (r .period) (x .period))
+    (tests-and (tests-same (r .route) (x .route)) (tests-same (r .offsets) (x .offsets))))))
+    (λ p i. record { id = p .0 i; way = p .1 .0 i; period = p .1 .1 .0 i; route = p .1 .1 .1 .0 i; offsets = p .1 .1 .1 .1 i })
+    (λ e. (
+      ap (λ (v : Row). v .id) e,
+      (ap (λ (v : Row). v .way) e, (ap (λ (v : Row). v .period) e, (ap (λ (v : Row). v .route) e, ap (λ (v : Row). v .offsets) e))),
+    ))
+
+-- a test of what follows from another
+pub tests-if : {s t : Bool} {P Q : Type 0} → Tests s P → Tests t Q → Tests (not s || t) (P → Q)
+tests-if {s = true} a b = record { yes = λ e p. b .yes e; back = λ f. b .back (f (a .yes refl)) }
+tests-if {s = false} a b = record { yes = λ e p. never (a .back p); back = λ f. refl }
 
 pub tests-in : (K : ℕ) (xs : List ℕ) → Tests (someOf (eqb K) xs) (K ∈ xs)
 tests-in K [] = record { yes = λ e. never e; back = λ p. absurd p }

@@ -7,7 +7,7 @@ use lib.Dec.{eqb}
 use Rattle.rules.specs.Tiles.{cycleSlots}
 use Rattle.rules.specs.Book.{Row, Book, hops, rowHop, rowOffset}
 use Rattle.rules.specs.Image.{word}
-use Rattle.rules.specs.Table.{sumBelow}
+use Rattle.rules.specs.Table.{onWay, sumBelow}
 use Rattle.rules.proofs.Counts.{ifSo}
 use Rattle.rules.proofs.Slots.{isData, takes}
 use Rattle.model.specs.Search.{firstFrom, andThen}
@@ -25,7 +25,7 @@ operationOf node r i =
 abbrev pub cellIn : Book → ℕ → ℕ → Row → Option Cell
 cellIn b node slot r =
     firstFrom (hops r) 0 (λ (i : ℕ). cond (takes (b .site .plan .slots) (r .period) (rowOffset r i) slot)
-    (andThen (operationOf node r i) (λ (o : ℕ). some (record { operation = o; stream = r .id }))) none)
+    (andThen (operationOf node r i) (λ (o : ℕ). some (record { operation = onWay (r .way) o; stream = r .id }))) none)
 
 -- the node's entry in the slot, by the rows
 abbrev pub cellOf : Book → ℕ → ℕ → List Row → Cell

@@ -49,6 +49,13 @@ module _ (q : Asked) (N : ℕ) where
 known-nodes : {s : List ℕ} {book : head.Book} → HeaderOf s book → book .nodes ≡ nodes (linksOf s)
 known-nodes {s} h = h .nodes ∙ sym (length-sets-at s (linksStart (versionOf s)) (nodesOf s))
 
+below : {s : List ℕ} {book : head.Book} → HeaderOf s book → (a : ℕ) → (book .nodes ≤ a → ⊥) → a < nodesOf s
+below {s} h a f = go (decLt a (nodesOf s))
+  where
+    go : Dec (a < nodesOf s) → a < nodesOf s
+    go (yes l) = l
+    go (no l) = absurd (f (omega (arith, h .nodes)))
+
 module _ {s : List ℕ} {book : head.Book} {q : Asked} (h : HeaderOf s book) where
   pub judged-refused : {n number len : ℕ} {out : List ℕ} → JudgedBy q (book .nodes) (Refused n) → number ≡ n → len ≡ 0 → Opens s q out number len out
   judged-refused {number = number} j e l =
@@ -59,19 +66,12 @@ module _ {s : List ℕ} {book : head.Book} {q : Asked} (h : HeaderOf s book) whe
     pub judged-opens : {number len : ℕ} {out out′ : List ℕ} → OpensAsked s q out number len out′ → Opens s q out number len out′
     judged-opens r = reply-then (askedRefusals q (nodes (linksOf s))) _ (subst (λ (N : ℕ). None (askedRefusals q N)) (known-nodes h) (j .0)) r
 
-    below : (a : ℕ) → (book .nodes ≤ a → ⊥) → a < nodesOf s
-    below a f = go (decLt a (nodesOf s))
-      where
-        go : Dec (a < nodesOf s) → a < nodesOf s
-        go (yes l) = l
-        go (no l) = absurd (f (omega (arith, h .nodes)))
-
     pub judged-beside : {words : List ℕ} → ImageBeside s words → AskedBeside s words book q place
     judged-beside i = record {
       image = i;
       header = h;
-      source = below (q .source) (λ l. j .0 .1 .0 (inl l));
-      destination = below (q .destination) (λ l. j .0 .1 .0 (inr l));
+      source = below h (q .source) (λ l. j .0 .1 .0 (inl l));
+      destination = below h (q .destination) (λ l. j .0 .1 .0 (inr l));
       apart = j .0 .1 .1 .0;
       period = j .1;
       period-is = j .2;

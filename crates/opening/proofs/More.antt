@@ -1,56 +1,52 @@
--- The book with a row more: its image, and that it is the only one.
+-- The book with rows more: its image, and that it is the only one.
 use mathlib.Core.Path.{_≡_, refl, sym, ap, _∙_, subst}
-use mathlib.Core.Logic.{_⊎_, inl, inr, ⊎-elim}
+use mathlib.Core.Logic.{inl, inr, ⊎-elim}
 use mathlib.Core.List.{List, [], _∷_, _++_}
-use Prim.Native.Nat.{ℕ, zero, suc, _+_, _*_, _-_, _<_, _≤_}
+use Prim.Native.Nat.{ℕ, _+_, _<_, _≤_}
 use native.Mathlib.Omega.{arith}
-use lib.ListN.{length, drop, take, length-append, length-drop}
+use lib.ListN.{length, drop, length-append, length-drop}
 use Rattle.rules.specs.Words.{_∈_, Reordered}
 use Rattle.rules.specs.Words.Reordered.{put}
-use Rattle.rules.specs.Book.{Row, Book, key, RisingByKey, hops, hopsInAll, Plus}
-use Rattle.rules.specs.Image.{newest, headerLength, rowLength, streamsOf, hopsOf, inTurn, encodeRow, encode}
+use Rattle.rules.specs.Book.{Row, Book, key, RisingByKey, hopsInAll, Plus}
+use Rattle.rules.specs.Image.{newest, headerLength, streamsOf, hopsOf, inTurn, encodeRow, encode}
 use Rattle.rules.proofs.Choice.{plus-unique}
-use Rattle.rules.proofs.Encoding.{Sized, length-row}
-use Rattle.rules.proofs.Lists.{reordered-same}
+use Rattle.rules.proofs.Lists.{reordered-same, in-left, in-right, in-append}
 use Rattle.rules.proofs.Reading.{rowsIn, bookIn, NewestImage, withRows, newest-bytes}
-use Rattle.image.proofs.Stands.{stored-rows, in-later}
+use Rattle.image.proofs.Stands.{stored-rows}
 use Rattle.writer.specs.Over.{over, headed}
 use Rattle.writer.proofs.Laws.{then, over-front, length-headed}
-use Rattle.writer.proofs.Books.{length-body, row-more}
+use Rattle.writer.proofs.Books.{length-body, rows-more}
 use Rattle.answers.proofs.Replies.{reply-refused, reply-next, reply-done}
 use Rattle.finding.specs.Spot.{Vacant}
-use Rattle.finding.proofs.Ids.{with-middle, in-either}
+use Rattle.finding.proofs.Ids.{with-middle}
 use Rattle.opening.specs.Open.{PutsIn}
+use Rattle.opening.specs.Puts.{Fresh}
 
--- a row between lower and higher ids keeps them rising
-rising-middle : (r : Row) (xs ys : List Row) → RisingByKey (xs ++ ys) → ((x : Row) → x ∈ xs → key x < key r) → ((x : Row) → x ∈ ys → key r < key x) → RisingByKey (xs ++ (r ∷ ys))
-rising-middle r [] ys up low high = (high, up)
-rising-middle r (x ∷ xs) ys up low high = (
-  λ y m. ⊎-elim (λ (k : y ∈ xs). up .0 y (in-earlier y xs ys k)) (λ (k : y ∈ (r ∷ ys)). ⊎-elim (λ (e : y ≡ r). subst (λ (v : Row). key x < key v) (sym e) (low x (inl refl)))
-      (λ (k : y ∈ ys). up .0 y (in-later y xs ys k)) k)
-      (in-either y xs (r ∷ ys) m),
-  rising-middle r xs ys (up .1) (λ y m. low y (inr m)) high,
+-- rows put into the middle are the rows with them in front, in another order
+reordered-middle : (new xs ys : List Row) → Reordered (new ++ (xs ++ ys)) (xs ++ (new ++ ys))
+reordered-middle [] xs ys = reordered-same (xs ++ ys)
+reordered-middle (r ∷ new) xs ys = put (reordered-middle new xs ys) (with-middle r xs (new ++ ys))
+
+-- rows of rising keys, before others of higher ones
+rising-front : (new ys : List Row) → RisingByKey new → RisingByKey ys → ((x y : Row) → x ∈ new → y ∈ ys → key x < key y) → RisingByKey (new ++ ys)
+rising-front [] ys up over high = over
+rising-front (r ∷ new) ys up over high = (
+  λ y m. ⊎-elim (λ (k : y ∈ new). up .0 y k) (λ (k : y ∈ ys). high r y (inl refl) k) (in-append y new ys m),
+  rising-front new ys (up .1) over (λ x y m k. high x y (inr m) k),
 )
-  where
-    in-earlier : (y : Row) (xs ys : List Row) → y ∈ xs → y ∈ xs ++ ys
-    in-earlier y (v ∷ xs) ys (inl e) = inl e
-    in-earlier y (v ∷ xs) ys (inr m) = inr (in-earlier y xs ys m)
-    in-earlier y [] ys m = absurd m
 
-module _ (s : List ℕ) (at : ℕ) (r : Row) (h : NewestImage s) (v : Vacant s (r .id) at) where
-  abbrev pub more : Book
-  more = withRows (bookIn s) (v .before ++ (r ∷ v .rest))
+-- and between lower and higher ones
+rising-middle : (new xs ys : List Row) → RisingByKey new → RisingByKey (xs ++ ys) → ((x y : Row) → x ∈ xs → y ∈ new → key x < key y)
+    → ((x y : Row) → x ∈ new → y ∈ ys → key x < key y) → RisingByKey (xs ++ (new ++ ys))
+rising-middle new [] ys up over low high = rising-front new ys up over high
+rising-middle new (x ∷ xs) ys up over low high = (
+  λ y m. ⊎-elim (λ (k : y ∈ xs). over .0 y (in-left y xs ys k))
+      (λ (k : y ∈ new ++ ys). ⊎-elim (λ (j : y ∈ new). low x y (inl refl) j) (λ (j : y ∈ ys). over .0 y (in-right y xs ys j)) (in-append y new ys k))
+      (in-append y xs (new ++ ys) m),
+  rising-middle new xs ys up (over .1) (λ z y m k. low z y (inr m) k) high,
+)
 
-  pub plus : Plus (bookIn s) (r ∷ []) more
-  plus = record {
-    site = refl;
-    rows = subst (λ (rows : List Row). Reordered (r ∷ rows) (v .before ++ (r ∷ v .rest))) (sym (v .all)) (put (reordered-same (v .before ++ v .rest)) (with-middle r (v .before) (v .rest)));
-    rising = rising-middle r (v .before) (v .rest) (subst RisingByKey (v .all) (h .lawful .lawful .rising)) (v .lower) (v .higher);
-  }
-
-  pub only : (c : Book) → Plus (bookIn s) (r ∷ []) c → c ≡ more
-  only c k = plus-unique (bookIn s) c more (r ∷ []) k plus
-
+module _ {s : List ℕ} {id at : ℕ} (h : NewestImage s) (v : Vacant s id at) where
   inside-encode : at ≤ length (encode newest (bookIn s))
   inside-encode = omega (arith, v .inside, ap length (newest-bytes h))
 
@@ -61,42 +57,61 @@ module _ (s : List ℕ) (at : ℕ) (r : Row) (h : NewestImage s) (v : Vacant s (
   place-low =
       omega (arith, length-body (bookIn s) (v .before) (v .rest) (v .all), ap length behind-encode, length-drop at (encode newest (bookIn s)), inside-encode)
 
-  module _ (w : Sized newest r) (n k : ℕ) (f : n ≡ streamsOf s + 1) (g : k ≡ hopsOf s + hops r) where
-    parts : headed s at n k ++ encodeRow newest r ++ drop at s ≡ encode newest more
+  way-most : (x : Row) → x ∈ v .before → x .way ≤ 2
+  way-most x m = h .lawful .lawful .rows x (subst (λ (rows : List Row). x ∈ rows) (sym (v .all)) (in-left x (v .before) (v .rest) m)) .way-most
+
+module _ {s : List ℕ} {id at : ℕ} {bytes : List ℕ} {new : List Row} (h : NewestImage s) (f : Fresh s id at bytes new) where
+  abbrev pub more : Book
+  more = withRows (bookIn s) (f .vacant .before ++ (new ++ f .vacant .rest))
+
+  pub plus : Plus (bookIn s) new more
+  plus = record {
+    site = refl;
+    rows = subst (λ (rows : List Row). Reordered (new ++ rows) (f .vacant .before ++ (new ++ f .vacant .rest))) (sym (f .vacant .all))
+        (reordered-middle new (f .vacant .before) (f .vacant .rest));
+    rising = rising-middle new (f .vacant .before) (f .vacant .rest) (f .rising) (subst RisingByKey (f .vacant .all) (h .lawful .lawful .rising))
+        (λ x y m k. omega (arith, f .vacant .lower x m, f .named y k, way-most h (f .vacant) x m))
+        (λ x y m k. omega (arith, f .vacant .higher y k, f .named x m, f .ways x m));
+  }
+
+  pub only : (c : Book) → Plus (bookIn s) new c → c ≡ more
+  only c k = plus-unique (bookIn s) c more new k plus
+
+  module _ (n k : ℕ) (e : n ≡ streamsOf s + length new) (g : k ≡ hopsOf s + hopsInAll new) where
+    parts : headed s at n k ++ bytes ++ drop at s ≡ encode newest more
     parts =
-        let n′ : n ≡ length (rowsIn s) + 1 = omega (arith, stored-rows (h .lawful) .count) in
-        let k′ : k ≡ hopsInAll (rowsIn s) + hops r = omega (arith, stored-rows (h .lawful) .hops) in
-        ap (λ (x : List ℕ). headed x at n k ++ encodeRow newest r ++ drop at x) (newest-bytes h)
-        ∙ ap (λ (n : ℕ). headed (encode newest (bookIn s)) at n k ++ encodeRow newest r ++ drop at (encode newest (bookIn s))) n′
-        ∙ ap (λ (k : ℕ). headed (encode newest (bookIn s)) at (length (rowsIn s) + 1) k ++ encodeRow newest r ++ drop at (encode newest (bookIn s))) k′
-        ∙ row-more (bookIn s) (v .before) (v .rest) (v .all) at inside-encode behind-encode r
+        let b : List ℕ = encode newest (bookIn s) in
+        let new′ : List ℕ = inTurn (encodeRow newest) new in
+        let n′ : n ≡ length (rowsIn s) + length new = omega (arith, stored-rows (h .lawful) .count) in
+        let k′ : k ≡ hopsInAll (rowsIn s) + hopsInAll new = omega (arith, stored-rows (h .lawful) .hops) in
+        ap (λ (x : List ℕ). headed s at n k ++ x ++ drop at s) (f .bytes-are)
+        ∙ ap (λ (x : List ℕ). headed x at n k ++ new′ ++ drop at x) (newest-bytes h)
+        ∙ ap (λ (n : ℕ). headed b at n k ++ new′ ++ drop at b) n′
+        ∙ ap (λ (k : ℕ). headed b at (length (rowsIn s) + length new) k ++ new′ ++ drop at b) k′
+        ∙ rows-more (bookIn s) (f .vacant .before) (f .vacant .rest) (f .vacant .all) at (inside-encode h (f .vacant)) (behind-encode h (f .vacant)) new
 
     long : length (headed s at n k) ≡ at
-    long = length-headed s at n k (omega (arith, place-low)) (v .inside)
+    long = length-headed s at n k (omega (arith, place-low h (f .vacant))) (f .vacant .inside)
 
-    size : length (encodeRow newest r) ≡ rowLength newest + 3 * hops r
-    size = length-row newest r [] w
-
-    pub length-more : length s + (rowLength newest + 3 * hops r) ≡ length (encode newest more)
+    length-more : length s + length bytes ≡ length (encode newest more)
     length-more =
         omega
-        (arith, ap length parts, length-append (headed s at n k ++ encodeRow newest r) (drop at s), length-append (headed s at n k) (encodeRow newest r), long, size, length-drop at s, v .inside)
+        (arith, ap length parts, length-append (headed s at n k ++ bytes) (drop at s), length-append (headed s at n k) bytes, long, length-drop at s, f .vacant .inside)
 
-    written : (d o₁ o₂ o₃ tail : List ℕ) (e : ℕ) → o₁ ≡ over d 0 (headed s at n k) → o₂ ≡ over o₁ at (encodeRow newest r) → e ≡ at + (rowLength newest + 3 * hops r)
-        → tail ≡ drop at s → o₃ ≡ over o₂ e tail
+    written : (d o₁ o₂ o₃ tail : List ℕ) (e : ℕ) → o₁ ≡ over d 0 (headed s at n k) → o₂ ≡ over o₁ at bytes → e ≡ at + length bytes → tail ≡ drop at s → o₃ ≡ over o₂ e tail
         → o₃ ≡ encode newest more ++ drop (length (encode newest more)) d
     written d o₁ o₂ o₃ tail e p q z t u =
-        let a = then d o₁ o₂ (headed s at n k) (encodeRow newest r) 0 at (omega arith) p (omega (arith, long)) q in
-        let b = then d o₂ o₃ (headed s at n k ++ encodeRow newest r) tail 0 e (omega arith) a (omega (arith, length-append (headed s at n k) (encodeRow newest r), long, size)) u in
-        b ∙ ap (λ (x : List ℕ). over d 0 (headed s at n k ++ encodeRow newest r ++ x)) t ∙ ap (over d 0) parts ∙ over-front d (encode newest more)
+        let a = then d o₁ o₂ (headed s at n k) bytes 0 at (omega arith) p (omega (arith, long)) q in
+        let b = then d o₂ o₃ (headed s at n k ++ bytes) tail 0 e (omega arith) a (omega (arith, length-append (headed s at n k) bytes, long)) u in
+        b ∙ ap (λ (x : List ℕ). over d 0 (headed s at n k ++ bytes ++ x)) t ∙ ap (over d 0) parts ∙ over-front d (encode newest more)
 
     -- THE REPLY
-    pub in-refused : {number len : ℕ} (out : List ℕ) → length out < length s + (rowLength newest + 3 * hops r) → number ≡ 12 → len ≡ 0 → PutsIn s (r ∷ []) out number len out
+    pub in-refused : {number len : ℕ} (out : List ℕ) → length out < length s + length bytes → number ≡ 12 → len ≡ 0 → PutsIn s new out number len out
     in-refused out l a b = reply-refused (more, plus, omega (arith, length-more)) (λ z. omega arith) a b
 
-    pub in-done : {number len : ℕ} (out o₁ o₂ o₃ tail : List ℕ) (e : ℕ) → length s + (rowLength newest + 3 * hops r) ≤ length out → number ≡ 0 → len ≡ length s + (rowLength newest + 3 * hops r)
-        → o₁ ≡ over out 0 (headed s at n k) → o₂ ≡ over o₁ at (encodeRow newest r) → e ≡ at + (rowLength newest + 3 * hops r) → tail ≡ drop at s → o₃ ≡ over o₂ e tail
-        → PutsIn s (r ∷ []) out number len o₃
-    in-done out o₁ o₂ o₃ tail e l a b p q z t u =
+    pub in-done : {number len : ℕ} (out o₁ o₂ o₃ tail : List ℕ) (e : ℕ) → number ≡ 0 → len ≡ length s + length bytes → length s + length bytes ≤ length out
+        → o₁ ≡ over out 0 (headed s at n k) → o₂ ≡ over o₁ at bytes → e ≡ at + length bytes → tail ≡ drop at s → o₃ ≡ over o₂ e tail
+        → PutsIn s new out number len o₃
+    in-done out o₁ o₂ o₃ tail e a b l p q z t u =
         reply-next (λ c. omega (arith, c .2, length-more, ap (λ (v : Book). length (encode newest v)) (only (c .0) (c .1))))
         (reply-done (encode newest more) (more, plus, refl) a (b ∙ length-more) (written out o₁ o₂ o₃ tail e p q z t u))

@@ -1,4 +1,4 @@
--- The placing that was found by the index is that of the book.
+-- The placing that was found by an index is that of the book with the rows of the index.
 use mathlib.Core.Path.{_≡_, sym, ap, subst, subst₂}
 use mathlib.Core.List.{List}
 use Prim.Native.Nat.{ℕ}
@@ -7,14 +7,16 @@ use lib.ListN.{take}
 use Rattle.rules.specs.Tiles.{Plan, periodAt}
 use Rattle.rules.specs.Topology.{Topology, hopCount}
 use Rattle.rules.specs.Periods.{thePlan}
-use Rattle.rules.specs.Book.{LawfulBook}
+use Rattle.rules.specs.Book.{Row, LawfulBook}
 use Rattle.rules.specs.Placing.{Asked, FirstPlacing}
 use Rattle.rules.specs.Placing as rules
 use Rattle.rules.specs.Image.{planOf, hearingOf}
 use Rattle.rules.proofs.Periods.{at-period}
-use Rattle.rules.proofs.Reading.{bookIn}
+use Rattle.rules.proofs.Reading.{bookIn, withRows}
 use Rattle.image.specs.declared.Book.{Book}
 use Rattle.bitset.specs.Rows.{topology}
+use Rattle.index.specs.Index.{IndexOf}
+use Rattle.index.specs.Marks.{Adds, HopsTake}
 use Rattle.placing.specs.Answers as placing
 use Rattle.placing.specs.Answers.{AnswersBy}
 use Rattle.placing.specs.declared.Found.{Found}
@@ -38,16 +40,17 @@ module _ {s words : List ℕ} {book : Book} {q : Asked} {place at : ℕ} {hearin
         period = w .new .asked .period;
       })
 
-  module _ (r : Found) (offsets : List ℕ) (a : AnswersBy (thePlan (book .plan)) (topology hearing) words (periodAt place) route r offsets) where
-    answers : AnswersBy (planOf s) (hearingOf s) words (periodAt place) route r offsets
-    answers = subst₂ (λ (plan : Plan) (T : Topology). AnswersBy plan T words (periodAt place) route r offsets) (w .new .asked .header .plan) (ap topology (w .heard)) a
+  module _ (rows : List Row) (marks : List ℕ) (index : IndexOf (planOf s .slots) rows marks)
+      (r : Found) (offsets : List ℕ) (a : AnswersBy (thePlan (book .plan)) (topology hearing) marks (periodAt place) route r offsets) where
+    answers : AnswersBy (planOf s) (hearingOf s) marks (periodAt place) route r offsets
+    answers = subst₂ (λ (plan : Plan) (T : Topology). AnswersBy plan T marks (periodAt place) route r offsets) (w .new .asked .header .plan) (ap topology (w .heard)) a
 
-    pub placed-first : r ≡ Placed → FirstPlacing (bookIn s) (q .period) route (take (hopCount route) offsets)
+    pub placed-first : r ≡ Placed → FirstPlacing (withRows (bookIn s) rows) (q .period) route (take (hopCount route) offsets)
     placed-first e =
-        subst (λ (K : ℕ). FirstPlacing (bookIn s) K route (take (hopCount route) offsets)) (w .new .asked .period-is)
-        (first-beside (bookIn s) (w .new .asked .image .index) (lawful .site .plan .most) (at-period place (w .new .asked .period)) route r offsets answers e)
+        subst (λ (K : ℕ). FirstPlacing (withRows (bookIn s) rows) K route (take (hopCount route) offsets)) (w .new .asked .period-is)
+        (first-beside (withRows (bookIn s) rows) index (lawful .site .plan .most) (at-period place (w .new .asked .period)) route r offsets answers e)
 
-    pub placed-none : r ≡ NoPlacing → rules.NoPlacing (bookIn s) (q .period) route
+    pub placed-none : r ≡ NoPlacing → rules.NoPlacing (withRows (bookIn s) rows) (q .period) route
     placed-none e =
-        subst (λ (K : ℕ). rules.NoPlacing (bookIn s) K route) (w .new .asked .period-is)
-        (none-beside (bookIn s) (w .new .asked .image .index) (lawful .site .plan .most) (at-period place (w .new .asked .period)) route r offsets answers e)
+        subst (λ (K : ℕ). rules.NoPlacing (withRows (bookIn s) rows) K route) (w .new .asked .period-is)
+        (none-beside (withRows (bookIn s) rows) index (lawful .site .plan .most) (at-period place (w .new .asked .period)) route r offsets answers e)

@@ -1,13 +1,14 @@
 -- What a stream is opened beside: a lawful image in the newest version, and the index of its rows.
 use mathlib.Core.Path.{_≡_}
-use mathlib.Core.List.{List}
+use mathlib.Core.Bool.{true}
+use mathlib.Core.List.{List, [], _∷_}
 use Prim.Native.Nat.{ℕ, _<_, _≤_}
 use Rattle.rules.specs.Tiles.{periodAt}
-use Rattle.rules.specs.Topology.{Path, hopCount, mostRouteHops}
+use Rattle.rules.specs.Topology.{Path, hopCount, mostRouteHops, allNodes, Route}
 use Rattle.rules.specs.Periods.{InList}
-use Rattle.rules.specs.Placing.{Asked}
+use Rattle.rules.specs.Placing.{Asked, FirstPlacing, Full}
 use Rattle.rules.specs.Image.{planOf, nodesOf, linksOf, hearingOf}
-use Rattle.rules.proofs.Reading.{rowsIn, NewestImage}
+use Rattle.rules.proofs.Reading.{rowsIn, bookIn, NewestImage}
 use Rattle.image.specs.Header.{HeaderOf}
 use Rattle.image.specs.declared.Book.{Book}
 use Rattle.index.specs.Index.{IndexOf}
@@ -39,3 +40,26 @@ pub record RouteBeside (s words : List ℕ) (book : Book) (q : Asked) (place at 
   pub heard : hearing ≡ hearingOf s .rows
   pub path : Path (linksOf s) route
   pub few : hopCount route ≤ mostRouteHops
+
+-- and with a second one
+pub record RoutesBeside (s words : List ℕ) (book : Book) (q : Asked) (place at : ℕ) (hearing first second : List ℕ) : Type 0 where
+  pub first-route : RouteBeside s words book q place at hearing first
+  pub second-route : RouteBeside s words book q place at hearing second
+
+-- and the first placed, with room for both
+pub record PlacedBeside (s words : List ℕ) (book : Book) (q : Asked) (place at : ℕ) (hearing first offsets second : List ℕ) : Type 0 where
+  pub routes : RoutesBeside s words book q place at hearing first second
+  pub placed : FirstPlacing (bookIn s) (q .period) first offsets
+  pub room : Full (bookIn s) (first ∷ second ∷ []) → ⊥
+
+-- where the first is the planner's: with the links
+pub record PlannedBeside (s words : List ℕ) (book : Book) (q : Asked) (place at : ℕ) (links first : List ℕ) : Type 0 where
+  pub new : NewBeside s words book q place at
+  pub linked : links ≡ linksOf s .rows
+  pub planned : Route (linksOf s) (allNodes 64) (q .source) (q .destination) first
+
+-- and a second one is asked for, with the hearing
+pub record SecondBeside (s words : List ℕ) (book : Book) (q : Asked) (place at : ℕ) (links hearing first : List ℕ) : Type 0 where
+  pub planned : PlannedBeside s words book q place at links first
+  pub heard : hearing ≡ hearingOf s .rows
+  pub asked-two : q .second ≡ true

@@ -1,2 +1,3 @@
 pub mod Open
 pub mod Beside
+pub mod Puts

@@ -8,7 +8,7 @@ use Rattle.rules.specs.Tiles.{periodAt}
 use Rattle.rules.specs.Periods.{InList}
 use Rattle.rules.specs.Topology.{NoRoute, TooFar}
 use Rattle.rules.specs.Book.{Row, Book, Known, Plus}
-use Rattle.rules.specs.Placing.{Asked, Full, NewRows, NoPlacings}
+use Rattle.rules.specs.Placing.{Asked, NoSecond, Full, NewRows, NoPlacings}
 use Rattle.rules.specs.Image.{newest, encode}
 use Rattle.rules.specs.Calls.{anyMiddle, OfRoutes, NoRoom, MadeImage, askedRefusals, requestRefusals}
 use Rattle.rules.specs.Calls.Request.{Open}
@@ -36,7 +36,7 @@ PutsIn s new out number len out′ = Reply (moreRefusals new (length out) (bookI
 -- where the routes are known: c is the book with the rows on them put in
 pub record OpenedOn (b : Book) (q : Asked) (routes : List (List ℕ)) (c : Book) : Type 0 where
   pub new : List Row
-  pub placed : NewRows b q routes new
+  pub placed : NewRows b q 1 routes new
   pub plus : Plus b new c
 
 abbrev pub RoutedImage : Book → Asked → List (List ℕ) → List ℕ → Type 0
@@ -44,7 +44,7 @@ RoutedImage b q routes bytes = (c : Book) × OpenedOn b q routes c × (bytes ≡
 
 abbrev pub routedRefusals : Asked → List (List ℕ) → ℕ → Book → List Refusal
 routedRefusals q routes room b =
-    (8 when Full b routes) ∷ (9 when NoPlacings b q routes) ∷ (12 when ((c : Book) × OpenedOn b q routes c × (room < length (encode newest c)))) ∷ []
+    (8 when Full b routes) ∷ (9 when NoPlacings b q 1 routes) ∷ (12 when ((c : Book) × OpenedOn b q routes c × (room < length (encode newest c)))) ∷ []
 
 abbrev pub Routed : List ℕ → Asked → List (List ℕ) → List ℕ → ℕ → ℕ → List ℕ → Type 0
 Routed s q routes out number len out′ = Reply (routedRefusals q routes (length out) (bookIn s)) (RoutedImage (bookIn s) q routes) out number len out′
@@ -54,8 +54,9 @@ abbrev pub newRefusals : Asked → ℕ → Book → List Refusal
 newRefusals q room b =
     (7 when NoRoute (b .site .links) (anyMiddle b) (q .source) (q .destination))
     ∷ (17 when TooFar (b .site .links) (anyMiddle b) (q .source) (q .destination))
+    ∷ (18 when NoSecond (b .site .links) (anyMiddle b) q)
     ∷ (8 when OfRoutes (anyMiddle b) q b (Full b))
-    ∷ (9 when OfRoutes (anyMiddle b) q b (NoPlacings b q))
+    ∷ (9 when OfRoutes (anyMiddle b) q b (NoPlacings b q 1))
     ∷ (12 when NoRoom (anyMiddle b) room (Open q) b)
     ∷ []
 

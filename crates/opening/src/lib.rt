@@ -1,26 +1,17 @@
 // Opens a stream on the image of a lawful book in the newest version.
 ghost use mathlib.Core.Path.{_≡_};
-ghost use mathlib.Core.List.{[], _∷_};
-ghost use mathlib.Core.Logic.{_⊎_};
-ghost use Prim.Native.Nat.{_+_, _<_, _≤_};
-ghost use lib.ListN.{length};
-ghost use Rattle.rules.specs.Words.{Tests, TwoBytes};
-ghost use Rattle.rules.specs.Topology.{mostRouteHops};
 ghost use Rattle.rules.specs.Periods.{theAsked};
-ghost use Rattle.rules.specs.Book.{mostStreams, mostHops};
-ghost use Rattle.rules.specs.Image.{streamsOf, hopsOf};
-ghost use Rattle.rules.proofs.Reading.{NewestImage};
-ghost use Rattle.finding.specs.Spot.{Vacant};
-ghost use Rattle.opening.specs.Open.{JudgedBy, PutsIn, Routed, OpensNew, OpensAsked, Opens};
-ghost use Rattle.opening.specs.Beside.{ImageBeside, AskedBeside, NewBeside, RouteBeside};
+ghost use Rattle.opening.specs.Open.{JudgedBy, OpensNew, OpensAsked, Opens};
+ghost use Rattle.opening.specs.Beside.{ImageBeside, AskedBeside, NewBeside};
 use answers::Answer;
 use finding::Spot;
 use image::Book;
-use placing::Found;
 use routes::Reach;
 use rules::Asked;
 use rules::Place;
-use rules::Tile;
+
+mod adding;
+mod ways;
 
 // What is wrong with a request by itself; or nothing is, and its period is at the place.
 pub enum Judged {
@@ -28,84 +19,10 @@ pub enum Judged {
     InOrder(usize),
 }
 
-// Writes the image with a row more at the place.
-fn put_in(
-    image: &[u8],
-    at: usize,
-    id: u16,
-    period: Tile,
-    route: &[u8],
-    offsets: &[u16],
-    out: &mut [u8],
-) -> Answer
-    requires { ⌜ NewestImage (now image) × Vacant (now image) id at ⌝ }
-    requires { ⌜ (length (now route) ≡ length (now offsets) + 1) × (length (now offsets) ≤ mostRouteHops) × (period .0 < 256) ⌝ }
-    requires { ⌜ (streamsOf (now image) < mostStreams) × (hopsOf (now image) + length (now offsets) ≤ mostHops) ⌝ }
-    ensures { λ r. ⌜ PutsIn (now (image .entry)) (record { id = id; period = period .0; route = now (route .entry); offsets = now (offsets .entry) } ∷ []) (now (out .entry)) (r .number) (r .length) (now (out .exit)) ⌝ }
-{
-    let book = Book::read(image);
-    let hops = offsets.len();
-    let size = image::ROW + image::HOP * hops;
-    let length = image.len() + size;
-    if out.len() < length {
-        return answers::refused(12);
-    }
-    writer::put_head(
-        image,
-        out,
-        at,
-        (book.streams + 1) as u8,
-        (book.hops + hops) as u16,
-    );
-    writer::put_row(out, at, id, period, route, offsets);
-    writer::put_part(&image[at..], out, at + size);
-    answers::done(length)
-}
-
-// Whether the book has no room for a stream of so many hops.
-fn is_full(book: Book, hops: usize) -> bool
-    requires { ⌜ TwoBytes (book .hops) × (hops ≤ mostRouteHops) ⌝ }
-    ensures { λ r. ⌜ Tests r ((mostStreams ≤ book .streams) ⊎ (mostHops < book .hops + hops)) ⌝ }
-{
-    if Book::STREAMS <= book.streams {
-        return true;
-    }
-    Book::HOPS < book.hops + hops
-}
-
-// Places the stream on its route, and writes the image with its row.
-fn open_routed(
-    image: &[u8],
-    index: &[u64; index::WORDS],
-    book: Book,
-    q: Asked,
-    place: usize,
-    at: usize,
-    hearing: &[u64],
-    route: &[u8],
-    out: &mut [u8],
-) -> Answer
-    requires { ⌜ RouteBeside (now image) (now index) book (theAsked q) place at (now hearing) (now route) ⌝ }
-    ensures { λ r. ⌜ Routed (now (image .entry)) (theAsked q) (now (route .entry) ∷ []) (now (out .entry)) (r .number) (r .length) (now (out .exit)) ⌝ }
-{
-    let hops = route.len() - 1;
-    if is_full(book, hops) {
-        return answers::refused(8);
-    }
-    let plan = book.plan;
-    let placing = placing::first_placing(plan, hearing, route, place, index);
-    let found = placing.found;
-    let offsets = placing.offsets;
-    match found {
-        Found::NoPlacing => answers::refused(9),
-        Found::Placed => put_in(image, at, q.id, q.period, route, &offsets[..hops], out),
-    }
-}
-
 // Seeks the route of a request that is in order, and opens the stream on it.
 fn open_new(
     image: &[u8],
-    index: &[u64; index::WORDS],
+    index: &mut [u64; index::WORDS],
     book: Book,
     q: Asked,
     place: usize,
@@ -124,7 +41,7 @@ fn open_new(
     match reach {
         Reach::NoRoute => answers::refused(7),
         Reach::TooFar => answers::refused(17),
-        Reach::Found => open_routed(
+        Reach::Found => ways::open_routed(
             image,
             index,
             book,
@@ -141,7 +58,7 @@ fn open_new(
 // Opens the stream of a request that is in order.
 fn open_asked(
     image: &[u8],
-    index: &[u64; index::WORDS],
+    index: &mut [u64; index::WORDS],
     book: Book,
     q: Asked,
     place: usize,
@@ -179,7 +96,7 @@ fn judge(q: Asked, nodes: usize) -> Judged
 }
 
 // Opens the stream that is asked for.
-pub fn open_on(image: &[u8], index: &[u64; index::WORDS], q: Asked, out: &mut [u8]) -> Answer
+pub fn open_on(image: &[u8], index: &mut [u64; index::WORDS], q: Asked, out: &mut [u8]) -> Answer
     requires { ⌜ ImageBeside (now image) (now index) ⌝ }
     ensures { λ r. ⌜ Opens (now (image .entry)) (theAsked q) (now (out .entry)) (r .number) (r .length) (now (out .exit)) ⌝ }
 {

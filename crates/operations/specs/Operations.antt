@@ -1,6 +1,6 @@
 -- Where a node stands in a route, what it does there, and the operations in which it works for a stream.
 use mathlib.Core.Path.{_≡_}
-use mathlib.Core.Bool.{Bool, cond, _&&_}
+use mathlib.Core.Bool.{Bool, cond, _&&_, _||_}
 use Prim.Native.Nat.{ℕ, _≤_}
 use lib.Dec.{eqb, leb}
 use lib.ListN.{getD}
@@ -8,9 +8,9 @@ use Rattle.rules.specs.Book.{Row, hops}
 use Rattle.operations.specs.declared.Stop.{Stop}
 use Rattle.operations.specs.declared.Stop.the-variants.{At, Nowhere}
 
--- the operation is one of 1 to 4, in which a node works for a stream
+-- the operation is one of 1 to 4, in which a node works for a stream, or one of 17 to 20, in which it does so on a second route
 abbrev pub isWorking : ℕ → Bool
-isWorking operation = leb 1 operation && leb operation 4
+isWorking operation = leb 1 operation && leb operation 4 || leb 17 operation && leb operation 20
 
 -- n in these operations, and 0 in the others
 abbrev pub whereWorking : ℕ → ℕ → ℕ

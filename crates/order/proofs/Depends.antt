@@ -47,7 +47,8 @@ module _ (site : Site) where
                 let u = after site b q n (d .rows) (d .step) x in
                 let y = after site c q m (e .rows) (e .step) x in (
                   λ h. y .1 (inr (adds-same site b c (s .lawful) (t .lawful) q small a x (only-added b q x (subst (Answers site b q) done j) i (u .0 h)))),
-                  λ h. u .1 (inr (adds-same site c b (t .lawful) (s .lawful) q small (agree-turned site b c q a) x (only-added c q x (subst (Answers site c q) (sym z ∙ done) k) i (y .0 h)))),
+                  λ h. u .1 (inr (adds-same site c b (t .lawful) (s .lawful) q small (agree-turned site b c q a) x
+                      (only-added c q x (subst (Answers site c q) (sym z ∙ done) k) i (y .0 h)))),
                 ),
           ),
         )
@@ -55,4 +56,5 @@ module _ (site : Site) where
 pub depends : Depends
 depends image image′ v w b c q s t small a out o n m len l out′ o′ full full′ call call′ =
     let e : c ≡ on (b .site) (c .rows) = sym (same-site b c (sym (a .site))) in
-    answer (b .site) image image′ v w (b .rows) (c .rows) q s (subst (Stored image′ w) e t) small (subst (λ (x : Book). Agree b x q) e a) out o n m len l out′ o′ full full′ call call′
+    answer (b .site) image image′ v w (b .rows) (c .rows) q s (subst (Stored image′ w) e t) small (subst (λ (x : Book). Agree b x q) e a)
+    out o n m len l out′ o′ full full′ call call′

@@ -4,7 +4,7 @@ use mathlib.Core.Logic.{inl, inr}
 use mathlib.Core.Bool.{Bool, true, false, not, cond, _&&_}
 use mathlib.Core.List.{List, [], _∷_}
 use mathlib.Core.Option.{Option, some, none}
-use Prim.Native.Nat.{ℕ, zero, suc, _+_, _<_}
+use Prim.Native.Nat.{ℕ, zero, suc, _+_, _<_, _≤_}
 use native.Mathlib.Omega.{arith}
 use lib.Dec.{T, eqb, leb, ltb}
 use lib.ListN.{length, take}
@@ -12,7 +12,7 @@ use Rattle.rules.specs.Words.{_∈_, Pairwise, Each, total, Tests}
 use Rattle.rules.specs.Topology.{Topology, hopCount, hopAt, NoClash}
 use Rattle.rules.specs.Book.{Row, Book, hopsInAll, mostStreams, mostHops, LawfulBook}
 use Rattle.rules.specs.Placing.{Asked, Planned}
-use Rattle.rules.specs.Image.{newest, encode, Stored}
+use Rattle.rules.specs.Image.{encode, Stored}
 use Rattle.rules.specs.Calls.{Request, anyMiddle, Serve}
 use Rattle.rules.specs.Calls.Request.{Open, Close}
 use Rattle.rules.specs.Order.{idOf, IdInRange, DifferentIds, RouteOf, Apart, opens, Asks, Room, current, Sequence}
@@ -21,14 +21,16 @@ use Rattle.rules.proofs.Choice.{planned-unique}
 use Rattle.rules.proofs.Written.{Bytes}
 use Rattle.model.specs.Test.{same, clashes}
 use Rattle.model.specs.Answer.{orGiven, routesOf}
-use Rattle.model.specs.Reading.{isLawfulSite, allPairs, isLawful, isRising, clashingHopsMeet}
+use Rattle.model.specs.Reading.{allPairs}
+use Rattle.model.specs.Examples.{isStored}
 use Rattle.model.specs.Calls.{serve}
 use Rattle.model.proofs.Tests.{tests-same, tests-clashes}
 use Rattle.model.proofs.Searches.{Found}
 use Rattle.model.proofs.Answers.{NotPlanned, planned-route, routes-found}
-use Rattle.model.proofs.Reading.{tests-pairs, tests-site, tests-lawful, tests-rising, tests-meet}
+use Rattle.model.proofs.Reading.{tests-pairs}
+use Rattle.model.proofs.Examples.{stored}
 use Rattle.model.proofs.Calls.{serve-computed}
-use Rattle.order.specs.Needed.{NoNodeShared}
+use Rattle.order.specs.Needed.{NoNodeShared, FirstRouteOf, FirstsApart, RoomForOne}
 
 -- what computes to true is true
 pub so : {t : Bool} → T t → t ≡ true
@@ -36,22 +38,8 @@ so {t = true} h = refl
 so {t = false} h = absurd h
 
 -- A LAWFUL BOOK, whose hearing is its links
-abbrev isLawfulBook : Book → Bool
-isLawfulBook b =
-    isLawfulSite (b .site)
-    && ((leb (length (b .rows)) mostStreams && leb (hopsInAll (b .rows)) mostHops)
-    && (allOf (isLawful (b .site)) (b .rows) && (isRising (b .rows) && not (clashingHopsMeet b))))
-
-tests-book : (b : Book) → Tests (isLawfulBook b) (LawfulBook b)
-tests-book b =
-    alike
-    (tests-and (tests-site (b .site)) (tests-and (tests-and (tests-le (length (b .rows)) mostStreams) (tests-le (hopsInAll (b .rows)) mostHops))
-    (tests-and (tests-every (isLawful (b .site)) (tests-lawful (b .site)) (b .rows)) (tests-and (tests-rising (b .rows)) (tests-not (tests-meet b))))))
-    (λ p. record { site = p .0; streams = p .1 .0 .0; hops = p .1 .0 .1; rows = p .1 .1 .0; rising = p .1 .1 .1 .0; never-meet = p .1 .1 .1 .1 })
-    (λ l. (l .site, ((l .streams, l .hops), (l .rows, (l .rising, l .never-meet)))))
-
-pub held : (b : Book) → b .site .hearing ≡ b .site .links → T (isLawfulBook b) → Stored (encode newest b) newest b
-held b e h = record { version = (omega arith, omega arith); lawful = tests-book b .yes (so h); fits = record { hearing = e }; bytes = refl }
+pub held : (v : ℕ) (b : Book) → b .site .hearing ≡ b .site .links → T (isStored (encode v b) v b) → Stored (encode v b) v b
+held v b e h = stored (encode v b) v b e (so h)
 
 -- IDS
 pub small : (qs : List Request) → T (allOf (λ (q : Request). ltb (idOf q) 65536) qs) → (q : Request) → q ∈ qs → IdInRange q
@@ -83,30 +71,24 @@ stored-routes (x ∷ xs) r m = go (eqb (x .id) (r .id)) (tests-eq (x .id) (r .id
     go false a f (inl e) = never (a .back (ap (λ (v : Row). v .id) (sym e)))
     go false a f (inr k) = f k
 
-given-routes : (b : Book) (q : Asked) (ps : List (List ℕ)) → Planned (b .site .links) (anyMiddle b) q ps → givenRoutes b q ≡ ps
-given-routes b q ps h = go (routesOf (b .site .links) (anyMiddle b) q) (routes-found (b .site .links) (anyMiddle b) q)
-  where
-    go : (o : Option (List (List ℕ))) → Found (Planned (b .site .links) (anyMiddle b) q) (NotPlanned (b .site .links) (anyMiddle b) q) o → orGiven o [] ≡ ps
-    go none g = absurd (planned-route (b .site .links) (anyMiddle b) q h g)
-    go (some v) g = planned-unique g h
-
-route-in : (b : Book) (q : Request) (p : List ℕ) → RouteOf b q p → p ∈ routesIn b q
-route-in b (Open q) p (ps, h, m) = subst (λ (v : List (List ℕ)). p ∈ v) (sym (given-routes b q ps h)) m
-route-in b (Close id) p (r, m, e, f) =
-    subst (λ (v : ℕ). p ∈ storedRoutes v (b .rows)) e (subst (λ (v : List ℕ). v ∈ storedRoutes (r .id) (b .rows)) (sym f) (stored-routes (b .rows) r m))
+-- the first routes; of a close all that are stored
+abbrev firstsIn : Book → Request → List (List ℕ)
+firstsIn b (Open q) = take 1 (givenRoutes b q)
+firstsIn b (Close id) = storedRoutes id (b .rows)
 
 -- the test passes of every route of each request and every route of each later one
-abbrev allRoutes : (List ℕ → List ℕ → Bool) → Book → List Request → Bool
-allRoutes f b qs = allPairs (λ (q q′ : Request). allOf (λ (p : List ℕ). allOf (f p) (routesIn b q′)) (routesIn b q)) qs
+abbrev allRoutes : (Request → List (List ℕ)) → (List ℕ → List ℕ → Bool) → List Request → Bool
+allRoutes all f qs = allPairs (λ (q q′ : Request). allOf (λ (p : List ℕ). allOf (f p) (all q′)) (all q)) qs
 
-module _ (f : List ℕ → List ℕ → Bool) (P : List ℕ → List ℕ → Type 0) (h : (p p′ : List ℕ) → Tests (f p p′) (P p p′)) (b : Book) where
-  routes : (qs : List Request) → T (allRoutes f b qs) → Pairwise (λ (q q′ : Request). (p p′ : List ℕ) → RouteOf b q p → RouteOf b q′ p′ → P p p′) qs
-  routes qs t = each qs (tests-pairs _ _ (λ q q′. tests-every (λ p. allOf (f p) (routesIn b q′)) (λ p. tests-every (f p) (h p) (routesIn b q′)) (routesIn b q)) qs .yes (so t))
+module _ (R : Request → List ℕ → Type 0) (all : Request → List (List ℕ)) (in-all : (q : Request) (p : List ℕ) → R q p → p ∈ all q)
+    (f : List ℕ → List ℕ → Bool) (P : List ℕ → List ℕ → Type 0) (h : (p p′ : List ℕ) → Tests (f p p′) (P p p′)) where
+  routes : (qs : List Request) → T (allRoutes all f qs) → Pairwise (λ (q q′ : Request). (p p′ : List ℕ) → R q p → R q′ p′ → P p p′) qs
+  routes qs t = each qs (tests-pairs _ _ (λ q q′. tests-every (λ p. allOf (f p) (all q′)) (λ p. tests-every (f p) (h p) (all q′)) (all q)) qs .yes (so t))
     where
-      each : (qs : List Request) → Pairwise (λ (q q′ : Request). (p : List ℕ) → p ∈ routesIn b q → (p′ : List ℕ) → p′ ∈ routesIn b q′ → P p p′) qs
-          → Pairwise (λ (q q′ : Request). (p p′ : List ℕ) → RouteOf b q p → RouteOf b q′ p′ → P p p′) qs
+      each : (qs : List Request) → Pairwise (λ (q q′ : Request). (p : List ℕ) → p ∈ all q → (p′ : List ℕ) → p′ ∈ all q′ → P p p′) qs
+          → Pairwise (λ (q q′ : Request). (p p′ : List ℕ) → R q p → R q′ p′ → P p p′) qs
       each [] g = tt
-      each (q ∷ qs) g = (λ q′ m p p′ k l. g .0 q′ m p (route-in b q p k) p′ (route-in b q′ p′ l), each qs (g .1))
+      each (q ∷ qs) g = (λ q′ m p p′ k l. g .0 q′ m p (in-all q p k) p′ (in-all q′ p′ l), each qs (g .1))
 
 abbrev noClash : Topology → List ℕ → List ℕ → Bool
 noClash T p p′ = allBelow (hopCount p) (λ (i : ℕ). allBelow (hopCount p′) (λ (j : ℕ). not (clashes T (hopAt p i) (hopAt p′ j))))
@@ -116,21 +98,15 @@ tests-no-clash T p p′ =
     alike (tests-all _ (λ i. tests-all _ (λ j. tests-not (tests-clashes T (hopAt p i) (hopAt p′ j))) (hopCount p′)) (hopCount p))
     (λ g i j l k. g i l j k) (λ g i l j k. g i j l k)
 
-pub apart : (b : Book) (qs : List Request) → T (allRoutes (noClash (b .site .hearing)) b qs) → Pairwise (Apart b) qs
-apart b = routes (noClash (b .site .hearing)) (NoClash (b .site .hearing)) (tests-no-clash (b .site .hearing)) b
-
 abbrev noNode : List ℕ → List ℕ → Bool
 noNode p p′ = allOf (λ (a : ℕ). allOf (λ (c : ℕ). not (eqb a c)) p′) p
 
-pub no-node : (b : Book) (qs : List Request) → T (allRoutes noNode b qs) → Pairwise (NoNodeShared b) qs
-no-node b = routes noNode (λ p p′. (a : ℕ) → a ∈ p → a ∈ p′ → ⊥) tests b
-  where
-    tests : (p p′ : List ℕ) → Tests (noNode p p′) ((a : ℕ) → a ∈ p → a ∈ p′ → ⊥)
-    tests p p′ =
-        alike (tests-every _ (λ a. tests-every _ (λ c. tests-not (tests-eq a c)) p′) p)
-        (λ g a m k. g a m a k refl) (λ g a m c k e. g a m (subst (λ (v : ℕ). v ∈ p′) (sym e) k))
+tests-no-node : (p p′ : List ℕ) → Tests (noNode p p′) ((a : ℕ) → a ∈ p → a ∈ p′ → ⊥)
+tests-no-node p p′ =
+    alike (tests-every _ (λ a. tests-every _ (λ c. tests-not (tests-eq a c)) p′) p)
+    (λ g a m k. g a m a k refl) (λ g a m c k e. g a m (subst (λ (v : ℕ). v ∈ p′) (sym e) k))
 
--- ROOM
+-- HOPS ASKED FOR
 abbrev hopsAsked : Book → Request → ℕ
 hopsAsked b (Open q) = total hopCount (givenRoutes b q)
 hopsAsked b (Close id) = 0
@@ -139,18 +115,51 @@ abbrev allAsked : Book → List Request → List ℕ
 allAsked b [] = []
 allAsked b (q ∷ qs) = hopsAsked b q ∷ allAsked b qs
 
-all-asked : (b : Book) (qs : List Request) → Each (Asks b) qs (allAsked b qs)
-all-asked b [] = tt
-all-asked b (Open q ∷ qs) = (λ ps h. let e = ap (total hopCount) (given-routes b q ps h) in omega (arith, e), all-asked b qs)
-all-asked b (Close id ∷ qs) = (tt, all-asked b qs)
+-- so many rows fit, and the hops asked for
+abbrev fits : Book → List Request → ℕ → Bool
+fits b qs n = leb (length (b .rows) + n) mostStreams && leb (hopsInAll (b .rows) + total (λ (k : ℕ). k) (allAsked b qs)) mostHops
 
-abbrev fits : Book → List Request → Bool
-fits b qs = leb (length (b .rows) + total opens qs) mostStreams && leb (hopsInAll (b .rows) + total (λ (k : ℕ). k) (allAsked b qs)) mostHops
+-- ON A LAWFUL BOOK
+module _ (b : Book) (l : LawfulBook b) where
+  given-routes : (q : Asked) (ps : List (List ℕ)) → Planned (b .site .links) (anyMiddle b) q ps → givenRoutes b q ≡ ps
+  given-routes q ps h = go (routesOf (b .site .links) (anyMiddle b) q) (routes-found (b .site .links) (anyMiddle b) q (l .site .topologies .links-sound))
+    where
+      go : (o : Option (List (List ℕ))) → Found (Planned (b .site .links) (anyMiddle b) q) (NotPlanned (b .site .links) (anyMiddle b) q) o → orGiven o [] ≡ ps
+      go none g = absurd (planned-route (b .site .links) (anyMiddle b) q h g)
+      go (some v) g = planned-unique g h
 
-pub room : (b : Book) (qs : List Request) → T (fits b qs) → Room b qs
-room b qs h =
-    let t = tests-and (tests-le (length (b .rows) + total opens qs) mostStreams) (tests-le (hopsInAll (b .rows) + total (λ (k : ℕ). k) (allAsked b qs)) mostHops) .yes (so h) in
-    record { streams = t .0; asked = allAsked b qs; asks = all-asked b qs; hops = t .1 }
+  route-in : (q : Request) (p : List ℕ) → RouteOf b q p → p ∈ routesIn b q
+  route-in (Open q) p (ps, h, m) = subst (λ (v : List (List ℕ)). p ∈ v) (sym (given-routes q ps h)) m
+  route-in (Close id) p (r, m, e, f) =
+      subst (λ (v : ℕ). p ∈ storedRoutes v (b .rows)) e (subst (λ (v : List ℕ). v ∈ storedRoutes (r .id) (b .rows)) (sym f) (stored-routes (b .rows) r m))
+
+  first-in : (q : Request) (p : List ℕ) → FirstRouteOf b q p → p ∈ firstsIn b q
+  first-in (Open q) p (ps, h, m) = subst (λ (v : List (List ℕ)). p ∈ take 1 v) (sym (given-routes q ps h)) m
+  first-in (Close id) p (r, m, e, w, f) = route-in (Close id) p (r, m, e, f)
+
+  pub apart : (qs : List Request) → T (allRoutes (routesIn b) (noClash (b .site .hearing)) qs) → Pairwise (Apart b) qs
+  apart = routes (RouteOf b) (routesIn b) route-in (noClash (b .site .hearing)) (NoClash (b .site .hearing)) (tests-no-clash (b .site .hearing))
+
+  pub firsts-apart : (qs : List Request) → T (allRoutes (firstsIn b) (noClash (b .site .hearing)) qs) → Pairwise (FirstsApart b) qs
+  firsts-apart = routes (FirstRouteOf b) (firstsIn b) first-in (noClash (b .site .hearing)) (NoClash (b .site .hearing)) (tests-no-clash (b .site .hearing))
+
+  pub no-node : (qs : List Request) → T (allRoutes (routesIn b) noNode qs) → Pairwise (NoNodeShared b) qs
+  no-node = routes (RouteOf b) (routesIn b) route-in noNode (λ p p′. (a : ℕ) → a ∈ p → a ∈ p′ → ⊥) tests-no-node
+
+  all-asked : (qs : List Request) → Each (Asks b) qs (allAsked b qs)
+  all-asked [] = tt
+  all-asked (Open q ∷ qs) = (λ ps h. let e = ap (total hopCount) (given-routes q ps h) in omega (arith, e), all-asked qs)
+  all-asked (Close id ∷ qs) = (tt, all-asked qs)
+
+  tests-room : (qs : List Request) (n : ℕ)
+      → Tests (fits b qs n) ((length (b .rows) + n ≤ mostStreams) × (hopsInAll (b .rows) + total (λ (k : ℕ). k) (allAsked b qs) ≤ mostHops))
+  tests-room qs n = tests-and (tests-le (length (b .rows) + n) mostStreams) (tests-le (hopsInAll (b .rows) + total (λ (k : ℕ). k) (allAsked b qs)) mostHops)
+
+  pub room : (qs : List Request) → T (fits b qs (total opens qs)) → Room b qs
+  room qs h = let t = tests-room qs (total opens qs) .yes (so h) in record { streams = t .0; asked = allAsked b qs; asks = all-asked qs; hops = t .1 }
+
+  pub room-for-one : (qs : List Request) → T (fits b qs (length qs)) → RoomForOne b qs
+  room-for-one qs h = let t = tests-room qs (length qs) .yes (so h) in record { streams = t .0; asked = allAsked b qs; asks = all-asked qs; hops = t .1 }
 
 -- RUNS
 

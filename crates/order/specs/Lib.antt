@@ -1,4 +1,3 @@
-pub mod Demand
 pub mod Depends
 pub mod Examples
 pub mod Needed

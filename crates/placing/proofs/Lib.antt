@@ -1,4 +1,5 @@
 pub mod Choosing
 pub mod Searching
 pub mod OneAnswer
+pub mod Hops
 pub mod Beside

@@ -10,6 +10,9 @@ ghost use Rattle.clash.specs.Reach.{hop, Clashes, Between};
 ghost use Rattle.index.specs.Turns.{RepeatsOf};
 ghost use Rattle.index.specs.Marks.{InReach};
 ghost use Rattle.placing.specs.Answers.{FreeBy, Searched, Asked, AnswersBy};
+
+pub mod marking;
+
 use clash::Reach;
 use index::Repeats;
 use rules::Node;
@@ -79,7 +82,8 @@ fn next_offset(
     lo: u16,
 ) -> Next
     requires { ⌜ PlanInRange (thePlan plan) × InList place × Between (topology (now hearing)) (hop from to) ⌝ }
-    ensures { λ r. ⌜ Searched (FreeBy (Clashes (topology (now (hearing .entry))) (hop from to)) (thePlan plan) (now (index .entry)) (periodAt place)) lo (periodAt place * plan .slots .0) r ⌝ }
+    ensures { λ r. ⌜ Searched (FreeBy (Clashes (topology (now (hearing .entry))) (hop from to)) (thePlan plan) (now (index .entry)) (periodAt place)) lo
+        (periodAt place * plan .slots .0) r ⌝ }
 {
     let reach = clash::reach_of(hearing, from, to);
     next_free(plan, place, index, reach, lo)

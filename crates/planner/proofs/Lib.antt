@@ -1,3 +1,4 @@
 pub mod Lifts
 pub mod Making
 pub mod Listing
+pub mod Newer

@@ -64,8 +64,15 @@ reply-book {s} h refusals P w = record {
 
 -- OPEN AND CLOSE
 pub serve-on : {s : List ℕ} → LawfulImage s → (q : Request) {number len : ℕ} {out out′ : List ℕ}
-    → Reply (requestRefusals (anyMiddle (bookIn s)) q (length out) (bookIn s)) (MadeImage (anyMiddle (bookIn s)) (bookIn s) q) out number len out′ → Serve s q out number len out′
+    → Reply (requestRefusals (anyMiddle (bookIn s)) q (length out) (bookIn s)) (MadeImage (anyMiddle (bookIn s))
+    (bookIn s) q) out number len out′ → Serve s q out number len out′
 serve-on h q {out = out} w = reply-book h (λ v b. requestRefusals (anyMiddle b) q (length out) b) (λ v b. MadeImage (anyMiddle b) b q) w
+
+-- on another image of the same book
+pub serve-newer : {s : List ℕ} {c : Book} → LawfulImage s → c ≡ bookIn s → (q : Request) {number len : ℕ} {out out′ : List ℕ}
+    → Reply (requestRefusals (anyMiddle c) q (length out) c) (MadeImage (anyMiddle c) c q) out number len out′ → Serve s q out number len out′
+serve-newer h e q {number} {len} {out} {out′} w =
+    serve-on h q (subst (λ (b : Book). Reply (requestRefusals (anyMiddle b) q (length out) b) (MadeImage (anyMiddle b) b q) out number len out′) e w)
 
 -- CHECK says the image's number
 pub checked : (s : List ℕ) {words : List ℕ} {n number len : ℕ} → Verdict s n words → number ≡ n → len ≡ 0 → Check s number len
@@ -103,7 +110,8 @@ module _ {s : List ℕ} (h : LawfulImage s) {book : head.Book} (read : HeaderOf 
   size-is e = e ∙ ap tableLength (read .plan)
 
   module _ (node : ℕ) {number len : ℕ} (out : List ℕ) where
-    expand-on : {out′ : List ℕ} → Reply (expandRefusals node (length out) (versionOf s) (bookIn s)) (TableOf (bookIn s) node) out number len out′ → Expand s node out number len out′
+    expand-on : {out′ : List ℕ} → Reply (expandRefusals node (length out) (versionOf s) (bookIn s)) (TableOf (bookIn s) node) out number len out′
+        → Expand s node out number len out′
     expand-on w = reply-book h (expandRefusals node (length out)) (λ v b. TableOf b node) w
 
     pub expand-unknown : book .nodes ≤ node → number ≡ 4 → len ≡ 0 → Expand s node out number len out

@@ -1,13 +1,11 @@
 -- A new book: refused by its own number, or the image of the book without streams.
-use mathlib.Core.Path.{_≡_, refl, sym, ap, _∙_, subst}
-use mathlib.Core.Logic.{_⊎_, inl, inr}
-use mathlib.Core.List.{List, [], _∷_, _++_}
+use mathlib.Core.Path.{_≡_, refl, sym, ap, _∙_}
+use mathlib.Core.List.{List, [], _∷_, _++_, append-nil}
 use Prim.Native.Nat.{ℕ, _+_, _*_, _<_, _≤_}
 use native.Mathlib.Omega.{arith}
-use native.Mathlib.Nat.{zero-add}
-use lib.ListN.{length, take, drop, length-append}
+use lib.ListN.{length, take, drop}
 use Rattle.rules.specs.Tiles.{Plan, PlanInRange}
-use Rattle.rules.specs.Topology.{Topology, nodes, NodesInRange, SoundTopology}
+use Rattle.rules.specs.Topology.{NodesInRange, SoundTopology}
 use Rattle.rules.specs.Image.{newest, headerLength, word64, inTurn, encodeHeader, encode, setsAt, topologyAt}
 use Rattle.rules.specs.Calls.{TopologiesGiven, New, newBook, newRefusals}
 use Rattle.rules.proofs.Hearing.{heard-links}
@@ -23,12 +21,9 @@ drop-all : (l : List ℕ) → drop (length l) l ≡ []
 drop-all [] = refl
 drop-all (x ∷ l) = drop-all l
 
-append-nil : (l : List ℕ) → l ++ [] ≡ l
-append-nil [] = refl
-append-nil (x ∷ l) = ap (λ (t : List ℕ). x ∷ t) (append-nil l)
-
 module _ (plan : Plan) (N : ℕ) (links : List ℕ) where
-  new-of : (out : List ℕ) {number len : ℕ} {out′ : List ℕ} → Reply (newRefusals plan N links (length out)) (λ (bytes : List ℕ). bytes ≡ encode newest (newBook plan N links)) out number len out′
+  new-of : (out : List ℕ) {number len : ℕ} {out′ : List ℕ}
+      → Reply (newRefusals plan N links (length out)) (λ (bytes : List ℕ). bytes ≡ encode newest (newBook plan N links)) out number len out′
       → New plan N links out number len out′
   new-of out w = record { says = w .says; refused = w .refused; done = w .done }
 
@@ -57,7 +52,8 @@ module _ (plan : Plan) (N : ℕ) (links : List ℕ) where
 
       pub new-short : (out : List ℕ) {number len : ℕ} → length out < headerLength + length links → number ≡ 12 → len ≡ 0 → New plan N links out number len out
       new-short out l a b =
-          new-of out (reply-next (λ g. g fits) (reply-next (λ g. g (record { links-whole = long; sound = heard-links _ sound })) (reply-refused (omega (arith, size)) (λ z. omega arith) a b)))
+          new-of out (reply-next (λ g. g fits) (reply-next (λ g. g (record { links-whole = long; sound = heard-links _ sound })) (reply-refused (omega
+          (arith, size)) (λ z. omega arith) a b)))
 
       pub new-done : (out : List ℕ) {number len : ℕ} {out′ : List ℕ} → headerLength + length links ≤ length out → number ≡ 0 → len ≡ headerLength + length links
           → out′ ≡ over out 0 (encodeHeader newest plan N 0 0 ++ links) → New plan N links out number len out′

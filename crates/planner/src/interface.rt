@@ -64,16 +64,18 @@ pub extern "C" fn lindurask_open(
     source: u8,
     destination: u8,
     period: u16,
+    second: bool,
     out: &mut [u8],
     length: &mut usize,
 ) -> u8
-    ensures { λ r. ⌜ Serve (now (book .entry)) (Open (record { id = id; source = source; destination = destination; period = period })) (now (out .entry)) r (now (length .exit)) (now (out .exit)) ⌝ }
+    ensures { λ r. ⌜ Serve (now (book .entry)) (Open (record { id = id; source = source; destination = destination; period = period; second = second })) (now (out .entry)) r (now (length .exit)) (now (out .exit)) ⌝ }
 {
     let asked = Asked {
         id,
         source: Node(source),
         destination: Node(destination),
         period: Tile(period),
+        second,
     };
     let answer = crate::open_stream(book, asked, out);
     *length = answer.length;

@@ -32,7 +32,7 @@ pub fn new_book(plan: Plan, nodes: u8, topology: &[u8], out: &mut [u8]) -> Answe
     if !fields::nodes_in_range(n) {
         return answers::refused(10);
     }
-    if topology.len() != 8 * n {
+    if topology.len() != image::SET * n {
         return answers::refused(11);
     }
     let rows = image::sets(topology, 0, n);
@@ -80,7 +80,12 @@ pub fn open_stream(image: &[u8], asked: Asked, out: &mut [u8]) -> Answer
     if number != 0 {
         return answers::refused(number);
     }
-    opening::open_on(image, &index, asked, out)
+    if Book::read(image).version == image::NEWEST {
+        return opening::open_on(image, &mut index, asked, out);
+    }
+    let mut newer = [0u8; Book::LONGEST];
+    let length = transcribing::transcribe(image, &mut newer);
+    opening::open_on(&newer[..length], &mut index, asked, out)
 }
 
 // Closes a stream: writes the image of the book without it.
@@ -92,7 +97,12 @@ pub fn close_stream(image: &[u8], id: u16, out: &mut [u8]) -> Answer
     if number != 0 {
         return answers::refused(number);
     }
-    closing::close_on(image, id, out)
+    if Book::read(image).version == image::NEWEST {
+        return closing::close_on(image, id, out);
+    }
+    let mut newer = [0u8; Book::LONGEST];
+    let length = transcribing::transcribe(image, &mut newer);
+    closing::close_on(&newer[..length], id, out)
 }
 
 // Writes a node's slot table for all 100 tiles.

@@ -1,6 +1,6 @@
 -- An open adds its stream, a close removes its stream, and nothing else moves; a close undoes an open.
 use mathlib.Core.Path.{_≡_, refl, sym, ap, _∙_, subst}
-use mathlib.Core.Logic.{_⊎_, inl, inr, ⊎-elim}
+use mathlib.Core.Logic.{inl, inr, ⊎-elim, _↔_}
 use mathlib.Core.List.{List, [], _∷_}
 use Prim.Native.Nat.{ℕ}
 use native.Mathlib.Omega.{arith}
@@ -10,21 +10,24 @@ use Rattle.rules.specs.Says.{Says}
 use Rattle.rules.specs.Topology.{Topology}
 use Rattle.rules.specs.Book.{Row, Book, LawfulBook, Known}
 use Rattle.rules.specs.Placing.{Asked, Planned, NewRows}
-use Rattle.rules.specs.Placing.Planned.{one}
-use Rattle.rules.specs.Image.{newest, Version, encode, Stored}
+use Rattle.rules.specs.Placing.Planned.{one, two}
+use Rattle.rules.specs.Image.{newest, encode, Stored}
 use Rattle.rules.specs.Calls.{OfBook, Wrote, Request, anyMiddle, Made, MadeImage, Closed, openRefusals, closeRefusals, requestRefusals, Serve}
 use Rattle.rules.specs.Calls.Request.{Open, Close}
 use Rattle.rules.specs.Order.{IdInRange}
 use Rattle.rules.proofs.Says.{None, says-none}
 use Rattle.rules.proofs.Lists.{reordered-in, reordered-back, in-append, in-left, in-right}
+use Rattle.rules.proofs.Tests.{never}
 use Rattle.rules.proofs.Choice.{closed-unique}
+use Rattle.rules.proofs.Encoding.{stored-unique}
 use Rattle.rules.proofs.Unique.{says-of-unique}
+use Rattle.rules.proofs.Reading.{withRows, stored-newest}
 use Rattle.rules.proofs.Added.{new-route}
 use Rattle.model.proofs.Tests.{tests-known}
 use Rattle.model.proofs.Reading.{stable}
 use Rattle.order.proofs.Lawful.{made-stored}
 use Rattle.order.proofs.Calls.{of-stored, says-on, taken}
-use Rattle.promises.specs.Promises.{OnlyMoves, OpenAdds, CloseRemoves, CloseUndoesOpen}
+use Rattle.promises.specs.Promises.{OnlyMoves, HasWay, HasStream, OpenAdds, CloseRemoves, CloseUndoesOpen}
 
 -- what a done request is: the book, what it made of it, and that this was written
 pub record Done (image : List ℕ) (q : Request) (size len : ℕ) (out′ : List ℕ) : Type 0 where
@@ -48,11 +51,25 @@ done image q out len out′ small h =
 closing-known : (middle id size : ℕ) (b : Book) → Says (closeRefusals middle id size b) 0 → Known b id
 closing-known middle id size b h = stable (tests-known b id) (says-none (closeRefusals middle id size b) (omega arith) h .1 .0)
 
--- an open adds a row at least
-new-some : {T : Topology} {middle : ℕ} {q : Asked} {ps : List (List ℕ)} (b : Book) (rs : List Row) → Planned T middle q ps → NewRows b q ps rs
-    → (r : Row) × (r ∈ rs) × (r .id ≡ q .id)
-new-some b [] (one g) n = absurd n
-new-some b (r ∷ rs) (one g) n = (r, inl refl, n .0 .named)
+-- an open adds its first way, and its second exactly if that was asked for
+new-ways : {T : Topology} {middle : ℕ} {q : Asked} {ps : List (List ℕ)} (b : Book) (rs : List Row) → Planned T middle q ps → NewRows b q 1 ps rs
+    → HasStream q (withRows b rs)
+new-ways b [] (one s g) n = absurd n
+new-ways {q = q} b (r ∷ []) (one s g) n = record {
+  first = (r, inl refl, n .0 .named, n .0 .nth);
+  second = (λ h. absurd (only h), λ t. never (sym s ∙ t));
+}
+  where
+    only : HasWay (withRows b (r ∷ [])) (q .id) 2 → ⊥
+    only (x, inl e, i, w) = omega (arith, n .0 .nth, ap (λ (v : Row). v .way) e)
+    only (x, inr m, i, w) = m
+new-ways b (r ∷ x ∷ rs) (one s g) n = absurd (n .1)
+new-ways b [] (two s g k) n = absurd n
+new-ways b (r ∷ []) (two s g k) n = absurd (n .1)
+new-ways b (r ∷ x ∷ rs) (two s g k) n = record {
+  first = (r, inl refl, n .0 .named, n .0 .nth);
+  second = (λ h. s, λ t. (x, inr (inl refl), n .1 .0 .named, n .1 .0 .nth));
+}
 
 module _ (image : List ℕ) (q : Asked) (out : List ℕ) (len : ℕ) (out′ : List ℕ) (small : TwoBytes (q .id)) (h : Serve image (Open q) out 0 len out′) where
   opened : Done image (Open q) (length out) len out′
@@ -62,15 +79,28 @@ module _ (image : List ℕ) (q : Asked) (out : List ℕ) (len : ℕ) (out′ : L
   none-applies = says-none (openRefusals (anyMiddle (opened .before)) q (length out) (opened .before)) (omega arith) (opened .says)
 
   new-named : (r : Row) → r ∈ opened .made .new → r .id ≡ q .id
-  new-named r m = new-route q (opened .before) (opened .made .routes) (opened .made .new) (opened .made .placed) r m .new .named
-
-  new-there : (r : Row) × (r ∈ opened .after .rows) × (r .id ≡ q .id)
-  new-there =
-      let t = new-some (opened .before) (opened .made .new) (opened .made .planned) (opened .made .placed) in
-      (t .0, reordered-back (t .0) (opened .made .plus .rows) (in-left (t .0) (opened .made .new) (opened .before .rows) (t .1)), t .2)
+  new-named r m = new-route q (opened .before) 1 (opened .made .routes) (opened .made .new) (opened .made .placed) r m .new .named
 
   fresh : (r : Row) → r ∈ opened .before .rows → r .id ≡ q .id → ⊥
   fresh r m e = none-applies .1 .1 .1 .1 .0 record { row = r; there = m; named = e }
+
+  -- the rows of the id are the new ones
+  new-there : (way : ℕ) → HasWay (opened .after) (q .id) way ↔ HasWay (withRows (opened .before) (opened .made .new)) (q .id) way
+  new-there way = (
+    λ (r, m, i, w). (
+      r,
+      ⊎-elim (λ (k : r ∈ opened .made .new). k) (λ (k : r ∈ opened .before .rows). absurd (fresh r k i))
+          (in-append r (opened .made .new) (opened .before .rows) (reordered-in r (opened .made .plus .rows) m)),
+      i,
+      w,
+    ),
+    λ (r, m, i, w). (r, reordered-back r (opened .made .plus .rows) (in-left r (opened .made .new) (opened .before .rows) m), i, w),
+  )
+
+  has-stream : HasStream q (opened .after)
+  has-stream =
+      let t = new-ways (opened .before) (opened .made .new) (opened .made .planned) (opened .made .placed) in
+      record { first = new-there 1 .1 (t .first); second = (λ h. t .second .0 (new-there 2 .0 h), λ e. new-there 2 .1 (t .second .1 e)) }
 
   only-added : OnlyMoves (q .id) (opened .before) (opened .after)
   only-added = record {
@@ -93,7 +123,7 @@ open-adds image q out len out′ small h =
       d .after,
       record { version = d .version; before = d .held; after = d .stored; only = only-added image q out len out′ small h },
       fresh image q out len out′ small h,
-      new-there image q out len out′ small h,
+      has-stream image q out len out′ small h,
     )
 
 pub close-removes : CloseRemoves
@@ -119,30 +149,26 @@ close-removes image id out len out′ h =
       );
     }
 
--- there is one version
-one-version : (v : ℕ) → Version v → v ≡ newest
-one-version v k = omega (arith, k .0, k .1)
-
 pub close-undoes-open : CloseUndoesOpen
-close-undoes-open image q out len out′ small h out₂ number len₂ out₂′ room k = (zero-said, undone (k .done zero-said))
+close-undoes-open image v b held q out len out′ small h out₂ number len₂ out₂′ room k = (zero-said, holds (k .done zero-said), same-bytes (k .done zero-said))
   where
     d : Done image (Open q) (length out) len out′
     d = opened image q out len out′ small h
 
-    there : Closed (d .after) (q .id) (d .before)
-    there = back image q out len out′ small h
+    one-book : d .before ≡ b
+    one-book = stored-unique image (d .version) v (d .before) b (d .held) held .1
 
-    same : image ≡ encode newest (d .before)
-    same = d .held .bytes ∙ ap (λ (v : ℕ). encode v (d .before)) (one-version (d .version) (d .held .version))
+    there : Closed (d .after) (q .id) b
+    there = subst (Closed (d .after) (q .id)) one-book (back image q out len out′ small h)
 
     says : Says (closeRefusals (anyMiddle (d .after)) (q .id) (length out₂) (d .after)) 0
     says =
         inr (
           none-applies image q out len out′ small h .0,
           inr (
-            λ f. let t = new-there image q out len out′ small h in f record { row = t .0; there = t .1; named = t .2 },
+            λ f. let t = has-stream image q out len out′ small h .first in f record { row = t .0; there = t .1; named = t .2 },
             inr (
-              λ c. omega (arith, c .2, room, ap length same, ap (λ (b : Book). length (encode newest b)) (closed-unique (d .after) (q .id) (c .0) (d .before) (c .1) there)),
+              λ c. omega (arith, c .2, room, ap (λ (e : Book). length (encode newest e)) (closed-unique (d .after) (q .id) (c .0) b (c .1) there)),
               refl,
             ),
           ),
@@ -152,7 +178,16 @@ close-undoes-open image q out len out′ small h out₂ number len₂ out₂′ 
     zero-said =
         says-of-unique (take len out′) (λ v b. closeRefusals (anyMiddle b) (q .id) (length out₂) b) number 0 (k .says) (inr (newest, d .after, d .stored, says))
 
-    undone : ((bytes : List ℕ) × OfBook (take len out′) (λ (v : ℕ) (b : Book). MadeImage (anyMiddle b) b (Close (q .id)) bytes) × Wrote bytes out₂ len₂ out₂′) → take len₂ out₂′ ≡ image
+    Result : Type 0
+    Result = (bytes : List ℕ) × OfBook (take len out′) (λ (v : ℕ) (b : Book). MadeImage (anyMiddle b) b (Close (q .id)) bytes) × Wrote bytes out₂ len₂ out₂′
+
+    undone : Result → take len₂ out₂′ ≡ encode newest b
     undone (bytes, o, w) =
-        let (b, closed, e) = of-stored {P = λ v b. MadeImage (anyMiddle b) b (Close (q .id)) bytes} (d .stored) o in
-        taken w ∙ e ∙ ap (encode newest) (closed-unique (d .after) (q .id) b (d .before) closed there) ∙ sym same
+        let (c, closed, e) = of-stored {P = λ v b. MadeImage (anyMiddle b) b (Close (q .id)) bytes} (d .stored) o in
+        taken w ∙ e ∙ ap (encode newest) (closed-unique (d .after) (q .id) c b closed there)
+
+    holds : Result → Stored (take len₂ out₂′) newest b
+    holds r = subst (λ (s : List ℕ). Stored s newest b) (sym (undone r)) (stored-newest held)
+
+    same-bytes : Result → v ≡ newest → take len₂ out₂′ ≡ image
+    same-bytes r e = undone r ∙ ap (λ (w : ℕ). encode w b) (sym e) ∙ sym (held .bytes)

@@ -17,7 +17,8 @@ use Rattle.routes.specs.declared.Planned.{Planned}
 use Rattle.routes.specs.Planner.{Asked, SaysRoute, Empty, Says, PlannerSays}
 use Rattle.routes.specs.Levels.{Beyond, Never, Reached, Descended}
 
-pub says-route : {T : Topology} {middle source z hops : ℕ} {sets chosen : List ℕ} → Asked T source z → Reached T middle source z hops sets → Descended T middle source z hops chosen
+pub says-route : {T : Topology} {middle source z hops : ℕ} {sets chosen : List ℕ} → Asked T source z → Reached T middle source z hops sets
+    → Descended T middle source z hops chosen
     → SaysRoute T middle source z hops chosen
 says-route {T} {middle} {source} {z} {hops} a r d = record {
   some = r .some;

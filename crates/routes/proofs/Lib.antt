@@ -5,3 +5,5 @@ pub mod Going
 pub mod Descending
 pub mod Answers
 pub mod Soundness
+pub mod Cutting
+pub mod Seconding

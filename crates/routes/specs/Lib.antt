@@ -1,3 +1,4 @@
 pub mod Rows
 pub mod Planner
 pub mod Levels
+pub mod Second

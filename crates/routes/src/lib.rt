@@ -11,6 +11,7 @@ ghost use Rattle.routes.specs.Levels.{Neighbour, Searched, SomeFront, Me
 use rules::Node;
 use rules::ROUTE_HOPS;
 
+pub mod second;
 pub mod topology;
 
 // Whether there is a route: of at most 15 hops, only of more, or none.

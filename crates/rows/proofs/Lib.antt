@@ -1,5 +1,6 @@
 pub mod Nodes
 pub mod Rises
 pub mod Single
+pub mod Pairs
 pub mod Walks
 pub mod Filling

@@ -34,7 +34,7 @@ at-linked T [] f = tt
 at-linked T (a ∷ []) f = tt
 at-linked T (a ∷ b ∷ p) f = (f 0 (omega arith), at-linked T (b ∷ p) (λ i l. f (suc i) (omega arith)))
 
-upto : (j i : ℕ) → j < i + 1 → j ≤ i
+pub upto : (j i : ℕ) → j < i + 1 → j ≤ i
 upto j i l = omega arith
 
 -- k may be node i of the route
@@ -101,7 +101,8 @@ module _ (T : Topology) (route : List ℕ) where
         fit = below-more _ i (a .fit) (record { known = subst (λ (x : ℕ). x < nodes T) e known; follows = a .only (getD route i 0) (subst (Has next) e h) });
         seen-are = record {
           fits = s .fits;
-          only = λ k m. ⊎-elim (λ (g : Has seen k). let q = a .seen-are .only k g in (q .0, omega (arith, q .1), q .2)) (λ (g : k ≡ node). (i, omega arith, sym (g ∙ e))) (s .only k m);
+          only = λ k m. ⊎-elim (λ (g : Has seen k). let q = a .seen-are .only k g in (q .0, omega (arith, q .1), q .2)) (λ (g : k ≡ node). (i, omega arith, sym (g ∙ e)))
+              (s .only k m);
           all = shown;
         };
         only = λ k m. record {
@@ -110,6 +111,7 @@ module _ (T : Topology) (route : List ℕ) where
         };
         all = λ k l m. o .all k (
           subst (λ (n : ℕ). Joined T n k) (sym e) (m .linked i (omega arith)),
-          λ g. ⊎-elim (λ (f : Has seen k). let q = a .seen-are .only k f in m .fresh (q .0) (omega (arith, q .1)) (q .2)) (λ (f : k ≡ node). m .fresh i (omega arith) (sym (f ∙ e))) (s .only k g),
+          λ g. ⊎-elim (λ (f : Has seen k). let q = a .seen-are .only k f in m .fresh (q .0) (omega (arith, q .1)) (q .2))
+              (λ (f : k ≡ node). m .fresh i (omega arith) (sym (f ∙ e))) (s .only k g),
         );
       }

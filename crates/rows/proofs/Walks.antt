@@ -1,31 +1,37 @@
 -- The walk that tests row after row.
-use mathlib.Core.Path.{_≡_, sym, ap, _∙_, subst}
+use mathlib.Core.Path.{_≡_, sym, ap, _∙_, subst, subst₂}
+use mathlib.Core.Bool.{Bool, not, false}
 use mathlib.Core.List.{List}
 use Prim.Native.Nat.{ℕ, zero, suc, _<_, _≤_, _-_}
 use native.Mathlib.Numerals.{unary-clauses}
 use native.Mathlib.Omega.{arith}
+use borrow.Author.Tests.{not-false}
 use lib.Dec.{eqb}
-use lib.ListN.{length, take}
+use lib.ListN.{length, getD, take}
 use Rattle.rules.specs.Words.{Tests}
 use Rattle.rules.specs.Tiles.{Plan, PlanInRange}
-use Rattle.rules.specs.Topology.{Topology, Path}
+use Rattle.rules.specs.Topology.{Topology, nodes, Path}
 use Rattle.rules.specs.Book.{Site, Row, hops, key, Offsets, OnData, LawfulRow}
 use Rattle.rules.specs.Periods.{thePlan}
 use Rattle.rules.specs.Image.{linksStart, setsAt, versionOf, nodesOf, streamsOf, linksOf, siteOf, rowsPlace}
 use Rattle.rules.proofs.Tests.{alike, tests-eq}
 use Rattle.rules.proofs.Written.{length-sets-at}
 use Rattle.bitset.specs.Rows.{topology}
-use Rattle.image.specs.Places.{rowAt, nextAt, Sets}
+use Rattle.image.specs.Places.{rowAt, nextAt, Whole, Sets}
 use Rattle.image.specs.Header.{HeaderOf}
 use Rattle.image.specs.declared.Book.{Book}
+use Rattle.image.proofs.Hops.{node-known}
 use Rattle.rows.specs.Frame.{Framed, ReadFrom}
 use Rattle.rows.specs.Walk.{RowStands, judging}
+use Rattle.rows.specs.Pairs.{Follows}
 
 -- a row is judged by the plan and the links alone
 pub same-site : {one other : Site} {r : Row} → one .plan ≡ other .plan → one .links ≡ other .links → LawfulRow one r → LawfulRow other r
 same-site {one} {other} {r} e f w = record {
   id-some = w .id-some;
   id-most = w .id-most;
+  way-some = w .way-some;
+  way-most = w .way-most;
   period = w .period;
   route = subst (λ (T : Topology). Path T (r .route)) f (w .route);
   route-most = w .route-most;
@@ -54,68 +60,83 @@ module _ {s : List ℕ} {b : Book} {links : List ℕ} (o : ReadFrom s b links) w
   pub row-by-read : {r : Row} → LawfulRow (siteOf s) r → LawfulRow (judging (thePlan (b .plan)) (topology links)) r
   row-by-read w = same-site (sym (o .header .plan)) (sym topology-read) w
 
+  -- a row stands where one was tested and held
+  pub row-tested : {at : ℕ} {t u : Bool} → Tests t (Whole s at) → not t ≡ false
+      → Tests u (LawfulRow (judging (thePlan (b .plan)) (topology links)) (rowAt s at)) → not u ≡ false → RowStands s at
+  row-tested {t = t} {u} whole e lawful f = record { whole = whole .yes (not-false t e); lawful = row-read (lawful .yes (not-false u f)) }
+
 -- the links, once they are decoded
 pub links-read : {s : List ℕ} {b : Book} {all : List ℕ} → Framed s → HeaderOf s b → Sets s (linksStart (versionOf s)) (b .nodes) all → ReadFrom s b (take (b .nodes) all)
 links-read {s} f h l = record { framed = f; header = h; links-are = l .rows ∙ ap (setsAt s (linksStart (versionOf s))) (h .nodes) }
 
+-- a framed image has at most 64 nodes, and the nodes of its rows are below that
+pub nodes-few : {s : List ℕ} → Framed s → nodes (linksOf s) ≤ 64
+nodes-few {s} f = omega (arith, length-sets-at s (linksStart (versionOf s)) (nodesOf s), f .fields .nodes)
+
+pub node-small : {s : List ℕ} {at : ℕ} → Framed s → RowStands s at → (i : ℕ) → i ≤ hops (rowAt s at) → getD (rowAt s at .route) i 0 < 64
+node-small f w i l = omega (arith, node-known (w .lawful) i l, nodes-few f)
+
 -- THE WALK
--- n lawful rows stand from the place on, of keys that rise from above `last`, and fill the image
-unfoldable pub RowsFill : List ℕ → ℕ → ℕ → ℕ → Type 0
-RowsFill s zero at last = at ≡ length s
-RowsFill s (suc n) at last = RowStands s at × (last < key (rowAt s at)) × RowsFill s n (nextAt s at) (key (rowAt s at))
+-- n lawful rows stand from the place on, each behind the one before, and fill the image
+unfoldable pub RowsFill : List ℕ → ℕ → ℕ → ℕ → ℕ → Type 0
+RowsFill s zero before last at = at ≡ length s
+RowsFill s (suc n) before last at = RowStands s at × Follows s before last at × RowsFill s n at (key (rowAt s at)) (nextAt s at)
 
 -- all rows fill the image
 abbrev pub AllFill : List ℕ → Type 0
-AllFill s = RowsFill s (streamsOf s) (rowsPlace s) 0
+AllFill s = RowsFill s (streamsOf s) (rowsPlace s) 0 (rowsPlace s)
 
 -- all rows fill the image exactly if those that are left do
-pub record Still (s : List ℕ) (at last left : ℕ) : Type 0 where
+pub record Still (s : List ℕ) (before last at left : ℕ) : Type 0 where
   pub inside : at ≤ length s
-  pub rest : AllFill s → RowsFill s left at last
-  pub whole : RowsFill s left at last → AllFill s
+  pub row-before : 1 ≤ last → RowStands s before
+  pub rest : AllFill s → RowsFill s left before last at
+  pub whole : RowsFill s left before last at → AllFill s
 
--- the next row is a lawful one of a higher key
-pub record Goes (s : List ℕ) (at last : ℕ) : Type 0 where
+-- the next row is a lawful one that may come behind
+pub record Goes (s : List ℕ) (before last at : ℕ) : Type 0 where
   pub row : RowStands s at
-  pub higher : last < key (rowAt s at)
+  pub follows : Follows s before last at
 
-fill-more : (s : List ℕ) (n at last : ℕ) → 0 < n → RowsFill s n at last → Goes s at last × RowsFill s (n - 1) (nextAt s at) (key (rowAt s at))
+fill-more : (s : List ℕ) (n before last at : ℕ) → 0 < n → RowsFill s n before last at → Goes s before last at × RowsFill s (n - 1) at (key (rowAt s at)) (nextAt s at)
 unfolding RowsFill
-fill-more s zero at last l h = absurd (omega arith)
-fill-more s (suc n) at last l h = simp unary-clauses (record { row = h .0; higher = h .1 }, h .2)
+fill-more s zero before last at l h = absurd (omega arith)
+fill-more s (suc n) before last at l h = simp unary-clauses (record { row = h .0; follows = h .1 }, h .2)
 
-more-fill : (s : List ℕ) (n at last : ℕ) → 0 < n → Goes s at last → RowsFill s (n - 1) (nextAt s at) (key (rowAt s at)) → RowsFill s n at last
+more-fill : (s : List ℕ) (n before last at : ℕ) → 0 < n → Goes s before last at → RowsFill s (n - 1) at (key (rowAt s at)) (nextAt s at) → RowsFill s n before last at
 unfolding RowsFill
-more-fill s zero at last l g h = absurd (omega arith)
-more-fill s (suc n) at last l g h = (g .row, g .higher, simp unary-clauses at h)
+more-fill s zero before last at l g h = absurd (omega arith)
+more-fill s (suc n) before last at l g h = (g .row, g .follows, simp unary-clauses at h)
 
-fill-end : (s : List ℕ) (n at last : ℕ) → n ≤ 0 → RowsFill s n at last → at ≡ length s
+fill-end : (s : List ℕ) (n before last at : ℕ) → n ≤ 0 → RowsFill s n before last at → at ≡ length s
 unfolding RowsFill
-fill-end s zero at last l h = h
-fill-end s (suc n) at last l h = absurd (omega arith)
+fill-end s zero before last at l h = h
+fill-end s (suc n) before last at l h = absurd (omega arith)
 
-end-fill : (s : List ℕ) (n at last : ℕ) → n ≤ 0 → at ≡ length s → RowsFill s n at last
+end-fill : (s : List ℕ) (n before last at : ℕ) → n ≤ 0 → at ≡ length s → RowsFill s n before last at
 unfolding RowsFill
-end-fill s zero at last l h = h
-end-fill s (suc n) at last l h = absurd (omega arith)
+end-fill s zero before last at l h = h
+end-fill s (suc n) before last at l h = absurd (omega arith)
 
-pub still-start : {s : List ℕ} (at left : ℕ) → Framed s → at ≡ rowsPlace s → left ≡ streamsOf s → Still s at 0 left
+pub still-start : {s : List ℕ} (at left : ℕ) → Framed s → at ≡ rowsPlace s → left ≡ streamsOf s → Still s at 0 at left
 still-start {s} at left f e g = record {
   inside = omega (arith, f .size);
-  rest = λ h. subst (λ (n : ℕ). RowsFill s n at 0) (sym g) (subst (λ (n : ℕ). RowsFill s (streamsOf s) n 0) (sym e) h);
-  whole = λ h. subst (λ (n : ℕ). RowsFill s (streamsOf s) n 0) e (subst (λ (n : ℕ). RowsFill s n at 0) g h);
+  row-before = λ l. absurd (omega arith);
+  rest = λ h. subst (λ (n : ℕ). RowsFill s n at 0 at) (sym g) (subst (λ (p : ℕ). RowsFill s (streamsOf s) p 0 p) (sym e) h);
+  whole = λ h. subst (λ (p : ℕ). RowsFill s (streamsOf s) p 0 p) e (subst (λ (n : ℕ). RowsFill s n at 0 at) g h);
 }
 
-module _ {s : List ℕ} {at last left : ℕ} (w : Still s at last left) where
-  pub still-no : 0 < left → (Goes s at last → ⊥) → AllFill s → ⊥
-  still-no more n h = n (fill-more s left at last more (w .rest h) .0)
+module _ {s : List ℕ} {before last at left : ℕ} (w : Still s before last at left) where
+  pub still-no : 0 < left → (Goes s before last at → ⊥) → AllFill s → ⊥
+  still-no more n h = n (fill-more s left before last at more (w .rest h) .0)
 
-  pub still-next : {next id : ℕ} → 0 < left → Goes s at last → next ≡ nextAt s at → next ≤ length s → id ≡ key (rowAt s at) → Still s next id (left - 1)
-  still-next {next} {id} more g e l f = record {
+  pub still-next : {next last′ : ℕ} → 0 < left → Goes s before last at → next ≡ nextAt s at → next ≤ length s → last′ ≡ key (rowAt s at) → Still s at last′ next (left - 1)
+  still-next {next} {last′} more g e l f = record {
     inside = l;
-    rest = λ h. subst (λ (n : ℕ). RowsFill s (left - 1) n id) (sym e) (subst (RowsFill s (left - 1) (nextAt s at)) (sym f) (fill-more s left at last more (w .rest h) .1));
-    whole = λ h. w .whole (more-fill s left at last more g (subst (RowsFill s (left - 1) (nextAt s at)) f (subst (λ (n : ℕ). RowsFill s (left - 1) n id) e h)));
+    row-before = λ k. g .row;
+    rest = λ h. subst₂ (RowsFill s (left - 1) at) (sym f) (sym e) (fill-more s left before last at more (w .rest h) .1);
+    whole = λ h. w .whole (more-fill s left before last at more g (subst₂ (RowsFill s (left - 1) at) f e h));
   }
 
   pub still-end : left ≤ 0 → Tests (eqb at (length s)) (AllFill s)
-  still-end none = alike (tests-eq at (length s)) (λ e. w .whole (end-fill s left at last none e)) (λ h. fill-end s left at last none (w .rest h))
+  still-end none = alike (tests-eq at (length s)) (λ e. w .whole (end-fill s left before last at none e)) (λ h. fill-end s left before last at none (w .rest h))

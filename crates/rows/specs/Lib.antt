@@ -1,2 +1,3 @@
 pub mod Frame
 pub mod Walk
+pub mod Pairs

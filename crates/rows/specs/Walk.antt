@@ -1,12 +1,19 @@
 -- Rows that stand one after the other in an image.
 use mathlib.Core.List.{List}
 use Prim.Native.Nat.{ℕ, zero, suc, _≤_}
-use Rattle.rules.specs.Words.{_∈_}
+use Rattle.rules.specs.Words.{TwoBytes, _∈_}
 use Rattle.rules.specs.Tiles.{Plan}
 use Rattle.rules.specs.Topology.{Topology, Path, mostRouteHops}
 use Rattle.rules.specs.Book.{Site, Row, hops, Offsets, OnData, LawfulRow}
 use Rattle.rules.specs.Image.{siteOf}
 use Rattle.image.specs.Places.{rowAt, nextAt, Whole}
+
+-- it has an id of 2 bytes, and its way is 1 or 2
+pub record KeyHolds (r : Row) : Type 0 where
+  pub id-some : 1 ≤ r .id
+  pub id-most : TwoBytes (r .id)
+  pub way-some : 1 ≤ r .way
+  pub way-most : r .way ≤ 2
 
 -- its route is one of at most 15 hops
 pub record RouteHolds (links : Topology) (r : Row) : Type 0 where

@@ -1,19 +1,37 @@
-// Whether the rows of an image are lawful, rise by key, and fill it.
+// Whether the rows of an image are lawful, rise by key, each second way behind its first, and fill it.
+ghost use mathlib.Core.Path.{_≡_};
 ghost use Prim.Native.Nat.{_≤_};
 ghost use lib.ListN.{length};
 ghost use Rattle.rules.specs.Words.{Tests};
 ghost use Rattle.rules.specs.Tiles.{periodAt, PlanInRange};
-ghost use Rattle.rules.specs.Book.{LawfulRow};
+ghost use Rattle.rules.specs.Book.{key, LawfulRow};
 ghost use Rattle.rules.specs.Periods.{thePlan, InList};
 ghost use Rattle.rules.specs.Image.{RowsOf};
 ghost use Rattle.rules.proofs.Reading.{rowsIn};
 ghost use Rattle.image.specs.Places.{rowAt, Whole};
 ghost use Rattle.bitset.specs.Rows.{topology};
-ghost use Rattle.rows.specs.Frame.{ReadFrom};
-ghost use Rattle.rows.specs.Walk.{OffsetsHold, judging, RouteHolds};
+ghost use Rattle.rows.specs.Frame.{Framed, ReadFrom};
+ghost use Rattle.rows.specs.Walk.{KeyHolds, RouteHolds, OffsetsHold, judging, RowStands};
+ghost use Rattle.rows.specs.Pairs.{Follows};
 use image::Book;
+use pair::FIRST;
+use pair::SECOND;
 use rules::Place;
 use rules::Plan;
+
+mod pair;
+
+// Whether the row has an id, and is the first way of its stream or the second.
+fn key_holds(image: &[u8], at: usize) -> bool
+    requires { ⌜ Whole (now image) at ⌝ }
+    ensures { λ r. ⌜ Tests r (KeyHolds (rowAt (now (image .entry)) at)) ⌝ }
+{
+    if image::id_at(image, at) == 0 {
+        return false;
+    }
+    let way = image::way_at(image, at);
+    FIRST <= way && way <= SECOND
+}
 
 // Whether the row's route is one: 1 to 15 hops over distinct nodes, each linked to the next.
 fn route_holds(image: &[u8], at: usize, links: &[u64]) -> bool
@@ -76,7 +94,7 @@ pub fn row_holds(image: &[u8], at: usize, plan: Plan, links: &[u64]) -> bool
     requires { ⌜ Whole (now image) at × PlanInRange (thePlan plan) × (length (now links) ≤ 64) ⌝ }
     ensures { λ r. ⌜ Tests r (LawfulRow (judging (thePlan plan) (topology (now (links .entry)))) (rowAt (now (image .entry)) at)) ⌝ }
 {
-    if image::id_at(image, at) == 0 {
+    if !key_holds(image, at) {
         return false;
     }
     match rules::place_of(image::period_at(image, at)) {
@@ -87,28 +105,56 @@ pub fn row_holds(image: &[u8], at: usize, plan: Plan, links: &[u64]) -> bool
     }
 }
 
-// Whether the rows are as many as the header says, each lawful, their ids rising, and fill the image.
+// The row's key: its id, then its way.
+fn key_at(image: &[u8], at: usize) -> usize
+    requires { ⌜ Whole (now image) at ⌝ }
+    ensures { λ r. ⌜ r ≡ key (rowAt (now (image .entry)) at) ⌝ }
+{
+    let id = image::id_at(image, at) as usize;
+    let way = image::way_at(image, at) as usize;
+    id * 256 + way
+}
+
+// Whether the row may come behind the one before, of the key `last`, or as the first of all, where that is 0.
+fn follows(image: &[u8], before: usize, last: usize, at: usize) -> bool
+    requires { ⌜ Framed (now image) × (1 ≤ last → RowStands (now image) before) × RowStands (now image) at ⌝ }
+    ensures { λ r. ⌜ Tests r (Follows (now (image .entry)) before last at) ⌝ }
+{
+    if key_at(image, at) <= last {
+        return false;
+    }
+    if image::way_at(image, at) != SECOND {
+        return true;
+    }
+    if last == 0 {
+        return false;
+    }
+    pair::pair_holds(image, before, at)
+}
+
+// Whether the rows are as many as the header says, each lawful and behind the one before, and fill the image.
 pub fn rows_hold(image: &[u8], book: Book, links: &[u64]) -> bool
     requires { ⌜ ReadFrom (now image) book (now links) ⌝ }
     ensures { λ r. ⌜ Tests r (RowsOf (now (image .entry)) (rowsIn (now (image .entry)))) ⌝ }
 {
     let plan = book.plan;
     let mut at = book.rows_start();
-    let mut last: u16 = 0;
+    let mut before = at;
+    let mut last: usize = 0;
     let mut left = book.streams;
     while 0 < left {
         if !image::is_whole(image, at) {
             return false;
         }
-        let id = image::id_at(image, at);
-        if id <= last {
-            return false;
-        }
         if !row_holds(image, at, plan, links) {
             return false;
         }
+        if !follows(image, before, last, at) {
+            return false;
+        }
+        before = at;
+        last = key_at(image, at);
         at = image::next(image, at);
-        last = id;
         left -= 1;
     }
     at == image.len()

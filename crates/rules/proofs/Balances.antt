@@ -1,9 +1,9 @@
--- Every slot has an entry; used is the entries 1 to 4 of a node's table, and used + free = data.
+-- Every slot has an entry; used is the entries 1 to 4 and 17 to 20 of a node's table, and used + free = data.
 use mathlib.Core.Path.{_≡_, refl, sym, ap, ap₂, _∙_, subst, subst₂}
 use mathlib.Core.Logic.{inl, inr}
 use mathlib.Core.Bool.{Bool, true, false, cond, _&&_}
 use mathlib.Core.List.{List, [], _∷_}
-use Prim.Native.Nat.{ℕ, zero, suc, _+_, _*_, _-_, _/_, _%_, _<_, _≤_}
+use Prim.Native.Nat.{ℕ, _+_, _*_, _-_, _/_, _%_, _<_, _≤_}
 use native.Mathlib.Omega.{arith}
 use native.Mathlib.Nat.{mul-assoc, add-mul-mod-self-right, mod-eq-of-lt, div-add-mod', div-lt-iff-lt-mul, lt-of-not-le}
 use lib.Arith.{digits-mod}
@@ -12,7 +12,7 @@ use Rattle.rules.specs.Words.{_∈_, total, Count, Tests}
 use Rattle.rules.specs.Tiles.{cycleTiles, cycleSlots, Data, Takes, repeats, Period}
 use Rattle.rules.specs.Topology.{Touches}
 use Rattle.rules.specs.Book.{Row, Book, key, hops, rowHop, rowOffset, RisingByKey, LawfulBook}
-use Rattle.rules.specs.Table.{Active, Entry, BalanceOf, touches, sumBelow, used}
+use Rattle.rules.specs.Table.{Active, onWay, Entry, BalanceOf, touches, sumBelow, used}
 use Rattle.rules.specs.Table.Entry.{sleep, works, control}
 use Rattle.rules.proofs.Tests.{never, decided, tests-and, tests-eq, someBelow, tests-some, tests-member}
 use Rattle.rules.proofs.Lists.{at-in}
@@ -20,7 +20,7 @@ use Rattle.rules.proofs.Meeting.{cycle-period}
 use Rattle.rules.proofs.Sums.{sum-ext, sum-all, sum-none, sum-add, sum-swap, sum-one, sum-blocks}
 use Rattle.rules.proofs.Counts.{ifSo, so, not-so, counted, count-sum, count-rest}
 use Rattle.rules.proofs.Slots.{takes, tests-data, tests-takes, tests-touches}
-use Rattle.rules.proofs.Entries.{does-touches, does-work, touches-does, one-row, one-hop, on-data, entry-unique}
+use Rattle.rules.proofs.Entries.{does-touches, does-work, touches-does, Working, on-way-works, idle-not-working, one-row, one-hop, on-data, entry-unique}
 
 -- TOTALS
 total-ext : (f g : Row → ℕ) (rows : List Row) → ((r : Row) → r ∈ rows → f r ≡ g r) → total f rows ≡ total g rows
@@ -112,7 +112,9 @@ module _ (b : Book) (w : LawfulBook b) (node : ℕ) where
           → sumBelow (cycleSlots (b .site .plan)) (λ (t : ℕ). ifSo (hit t r i)) ≡ cond (touches node (rowHop r i)) (repeats (r .period)) 0
       hop r m i l = go (touches node (rowHop r i))
         where
-          go : (s : Bool) → sumBelow (cycleSlots (b .site .plan)) (λ (t : ℕ). ifSo (s && takes (b .site .plan .slots) (r .period) (rowOffset r i) t)) ≡ cond s (repeats (r .period)) 0
+          go : (s : Bool)
+              → sumBelow (cycleSlots (b .site .plan)) (λ (t : ℕ). ifSo (s && takes (b .site .plan .slots) (r .period) (rowOffset r i) t))
+              ≡ cond s (repeats (r .period)) 0
           go true =
               comes (b .site .plan .slots) (r .period) (rowOffset r i) (w .rows r m .period)
               (w .rows r m .offsets .within (rowOffset r i) (at-in (r .offsets) i (omega (arith, w .rows r m .offsets .count))))
@@ -131,31 +133,31 @@ module _ (b : Book) (w : LawfulBook b) (node : ℕ) where
       go : Dec (Busy slot) → Dec (Data (b .site .plan) slot) → (operation id : ℕ) × Entry b node slot operation id
       go (yes h) d =
           let o = touches-does (h .2 .1) (h .2 .2 .0) in
-          (o .0, h .0 .id, works record { row = h .1; hop = h .2 .1; takes = h .2 .2 .1 } (o .1))
+          (onWay (h .0 .way) (o .0), h .0 .id, works record { row = h .1; hop = h .2 .1; takes = h .2 .2 .1 } (o .1))
       go (no f) (yes d) = (0, 0, sleep d (λ r i a t. f (r, a .row, (i, a .hop, (t, a .takes)))))
       go (no f) (no d) = (5, 0, control (lt-of-not-le d))
 
-  -- the slot's entry is one of 1 to 4
+  -- in the slot the node works on one of the ways
   abbrev pub Works : ℕ → Type 0
-  Works slot = (operation id : ℕ) × Entry b node slot operation id × (1 ≤ operation) × (operation ≤ 4)
+  Works slot = (operation id : ℕ) × Entry b node slot operation id × Working operation
 
   idle : {slot o id : ℕ} → Entry b node slot o id → (Works slot → ⊥) → load slot ≡ 0
   idle {slot} (sleep d f) n = load-none slot f
-  idle (works {operation} a d) n = absurd (n (operation, _, works a d, does-work d .0, does-work d .1))
+  idle (works {r} {operation = operation} a d) n = absurd (n (_, _, works a d, on-way-works (r .way) operation (does-work d)))
   idle {slot} (control c) n = load-none slot (λ r i a t. omega (arith, on-data b w node slot r i a))
 
-  loaded : {slot o id : ℕ} → Entry b node slot o id → 1 ≤ o → o ≤ 4 → load slot ≡ 1
-  loaded (sleep d f) l m = absurd (omega arith)
-  loaded {slot} (works {r} {i} a d) l m = load-one slot r i a (does-touches d)
-  loaded (control c) l m = absurd (omega arith)
+  loaded : {slot o id : ℕ} → Entry b node slot o id → Working o → load slot ≡ 1
+  loaded (sleep d f) l = absurd (idle-not-working 0 l (inl refl))
+  loaded {slot} (works {r} {i} a d) l = load-one slot r i a (does-touches d)
+  loaded (control c) l = absurd (idle-not-working 5 l (inr refl))
 
-  -- the entries 1 to 4 are as many as used
+  -- the entries 1 to 4 and 17 to 20 are as many as used
   pub used-entries : (k : ℕ) → Count Works (cycleSlots (b .site .plan)) k → k ≡ used b node
-  used-entries k c = count-sum load (λ i p. loaded (p .2) (p .3) (p .4)) (λ i n. idle (entry-exists i .2) n) c ∙ loads
+  used-entries k c = count-sum load (λ i p. loaded (p .2) (p .3)) (λ i n. idle (entry-exists i .2) n) c ∙ loads
 
   asleep : {slot o id : ℕ} → Entry b node slot o id → o ≡ 0 → Data (b .site .plan) slot × (id ≡ 0) × (load slot ≡ 0)
   asleep {slot} (sleep d f) e = (d, refl, load-none slot f)
-  asleep (works a d) e = absurd (omega (arith, does-work d .0))
+  asleep (works {r} {operation = operation} a d) e = absurd (idle-not-working _ (on-way-works (r .way) operation (does-work d)) (inl e))
   asleep (control c) e = absurd (omega arith)
 
   awake : {slot o id : ℕ} → Entry b node slot o id → Data (b .site .plan) slot → (Entry b node slot 0 0 → ⊥) → load slot ≡ 1

@@ -84,12 +84,15 @@ one-holds T middle a z = at (ℕ-discrete a z) (shortest T middle z (nodes T) a)
     some f zero (m ∷ p) w = absurd w
     some f (suc n) p w = omega arith
 
-    found : (a ≡ z → ⊥) → (s : Shortest T middle z (nodes T) a) → Dec (mostRouteHops < s .links) → ((p : List ℕ) × Route T middle a z p) ⊎ TooFar T middle a z ⊎ NoRoute T middle a z
+    found : (a ≡ z → ⊥) → (s : Shortest T middle z (nodes T) a) → Dec (mostRouteHops < s .links)
+        → ((p : List ℕ) × Route T middle a z p) ⊎ TooFar T middle a z ⊎ NoRoute T middle a z
     found f s (yes l) = inr (inl (too-far T middle a z (s .links) (s .path) l (s .lowest .way) (s .nearest)))
     found f s (no l) =
-        inl (a ∷ s .path, planned T middle a z f mostRouteHops (s .links) (s .path) (some f (s .links) (s .path) (s .lowest .way)) (omega arith) (s .lowest) (λ j h. s .nearest j))
+        let more = some f (s .links) (s .path) (s .lowest .way) in
+        inl (a ∷ s .path, planned T middle a z f mostRouteHops (s .links) (s .path) more (omega arith) (s .lowest) (λ j h. s .nearest j))
 
-    at : Dec (a ≡ z) → Shortest T middle z (nodes T) a ⊎ ((j : ℕ) → j < nodes T → NoWay T middle z j a) → ((p : List ℕ) × Route T middle a z p) ⊎ TooFar T middle a z ⊎ NoRoute T middle a z
+    at : Dec (a ≡ z) → Shortest T middle z (nodes T) a ⊎ ((j : ℕ) → j < nodes T → NoWay T middle z j a)
+        → ((p : List ℕ) × Route T middle a z p) ⊎ TooFar T middle a z ⊎ NoRoute T middle a z
     at (yes e) s = inr (inr (no-round T middle a z e))
     at (no f) (inl s) = found f s (decLt mostRouteHops (s .links))
     at (no f) (inr s) = inr (inr (none-under T middle a z s))

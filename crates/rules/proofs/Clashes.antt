@@ -1,5 +1,5 @@
 -- Clashing goes both ways, and so does apartness of routes.
-use mathlib.Core.Logic.{_⊎_, inl, inr}
+use mathlib.Core.Logic.{inl, inr}
 use mathlib.Core.List.{List}
 use Prim.Native.Nat.{ℕ}
 use Rattle.rules.specs.Topology.{Topology, Hop, Clash, NoClash}

@@ -2,6 +2,7 @@ pub mod Tests
 pub mod Lists
 pub mod Sets
 pub mod Middles
+pub mod Seconds
 pub mod Ways
 pub mod Listing
 pub mod Deciding
@@ -22,6 +23,7 @@ pub mod Greedy
 pub mod Clashes
 pub mod Numbers
 pub mod Reading
+pub mod Fronts
 pub mod Sums
 pub mod Counts
 pub mod Slots

@@ -5,7 +5,7 @@ use Prim.Native.Nat.{ℕ, zero, suc, _-_, _≤_}
 use native.Mathlib.Omega.{arith}
 use lib.ListN.{take, drop}
 use Rattle.rules.specs.Words.{_∈_}
-use Rattle.rules.specs.Topology.{Topology, nodes, hopCount, middles, Path, KeepsTo, allNodes, PathBetween, PathWithin, Route, NoRoute, TooFar}
+use Rattle.rules.specs.Topology.{Topology, nodes, hopCount, middles, Path, KeepsTo, allNodes, PathBetween, PathWithin, Route, NoRoute, TooFar, SecondPath, SecondRoute}
 use Rattle.rules.proofs.Sets.{all-has}
 
 in-take : {A : Type 0} (n : ℕ) (xs : List A) (x : A) → x ∈ take n xs → x ∈ xs
@@ -49,3 +49,13 @@ module _ (N M : ℕ) (T : Topology) (few : nodes T ≤ N) (few′ : nodes T ≤ 
 
   pub too-far-any : TooFar T (allNodes N) source destination → TooFar T (allNodes M) source destination
   too-far-any f = record { some = (f .some .0, between-any M T few′ (f .some .0) (f .some .1)); over = λ p w. f .over p (between-any N T few p w) }
+
+  pub second-path-any : (first p : List ℕ) → SecondPath T (allNodes N) source destination first p → SecondPath T (allNodes M) source destination first p
+  second-path-any first p w = (between-any M T few′ p (w .0), w .1)
+
+  pub second-any : (first p : List ℕ) → SecondRoute T (allNodes N) source destination first p → SecondRoute T (allNodes M) source destination first p
+  second-any first p r = record {
+    is = second-path-any first p (r .is);
+    shortest = λ q w. r .shortest q (between-any N T few q (w .0), w .1);
+    first = λ q w. r .first q (between-any N T few q (w .0), w .1);
+  }

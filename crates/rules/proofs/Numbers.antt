@@ -1,4 +1,4 @@
--- The refusals of each call stand in document 01's order.
+-- The refusals of each call stand in the documents' order.
 use mathlib.Core.Path.{_≡_, refl}
 use mathlib.Core.List.{List, [], _∷_}
 use Prim.Native.Nat.{ℕ}
@@ -16,7 +16,7 @@ numbers (r ∷ rs) = r .number ∷ numbers rs
 -- image; then open, close, rewrite, expand, balance, routes between; new book
 pub record InOrder : Type 0 where
   pub image : (s : List ℕ) → numbers (imageRefusals s) ≡ 14 ∷ 13 ∷ 10 ∷ 14 ∷ 11 ∷ 15 ∷ 16 ∷ []
-  pub opens : (middle : ℕ) (q : Asked) (room : ℕ) (b : Book) → numbers (openRefusals middle q room b) ≡ 1 ∷ 4 ∷ 5 ∷ 6 ∷ 2 ∷ 7 ∷ 17 ∷ 8 ∷ 9 ∷ 12 ∷ []
+  pub opens : (middle : ℕ) (q : Asked) (room : ℕ) (b : Book) → numbers (openRefusals middle q room b) ≡ 1 ∷ 4 ∷ 5 ∷ 6 ∷ 2 ∷ 7 ∷ 17 ∷ 18 ∷ 8 ∷ 9 ∷ 12 ∷ []
   pub closes : (middle id room : ℕ) (b : Book) → numbers (closeRefusals middle id room b) ≡ 1 ∷ 3 ∷ 12 ∷ []
   pub rewrites : (room v : ℕ) (b : Book) → numbers (rewriteRefusals room v b) ≡ 12 ∷ []
   pub expands : (node room v : ℕ) (b : Book) → numbers (expandRefusals node room v b) ≡ 4 ∷ 12 ∷ []

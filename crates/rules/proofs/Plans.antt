@@ -2,13 +2,13 @@
 use mathlib.Core.Path.{_≡_, refl, sym, ap, _∙_, subst}
 use mathlib.Core.Logic.{_⊎_, inl, inr}
 use mathlib.Core.Bool.{Bool, true, false, cond}
-use Prim.Native.Nat.{ℕ, zero, suc, _+_, _*_, _/_, _%_, _<_, _≤_}
+use Prim.Native.Nat.{ℕ, _+_, _*_, _/_, _%_, _<_, _≤_}
 use native.Mathlib.Omega.{arith}
-use native.Mathlib.Nat.{mod-lt, mul-assoc, add-assoc, add-mul-mod-self-right, add-mul-div-right, div-add-mod'}
-use borrow.Author.Tests.{eq-eqb, ne-eqb, le-leb}
+use native.Mathlib.Nat.{mod-lt, mul-assoc, add-mul-mod-self-right, add-mul-div-right, div-add-mod'}
+use borrow.Author.Tests.{eq-eqb, ne-eqb}
 use lib.Dec.{eqb, leb}
 use Rattle.rules.specs.Words.{_∈_, bit, Tests}
-use Rattle.rules.specs.Tiles.{Plan, PlanInRange, tileCounts, controlSlots, Data, repeats, Takes}
+use Rattle.rules.specs.Tiles.{Plan, PlanInRange, tileCounts, controlSlots, Data, repeats}
 use Rattle.rules.specs.Book.{OnData}
 use Rattle.rules.proofs.Tests.{alike, tests-le}
 use Rattle.rules.proofs.Bytes.{tiles-small}
@@ -36,7 +36,8 @@ pub control-up : (plan : Plan) (tile : ℕ) → (bit (plan .kinds) (tile % plan 
 control-up plan tile f = sym (ap (λ (t : Bool). cond t (plan .down) (plan .up)) (ne-eqb _ 1 f))
 
 pub tests-data-slot : (plan : Plan) (slot n : ℕ) → n ≡ controlSlots plan (slot / plan .slots) → Tests (leb n (slot % plan .slots)) (Data plan slot)
-tests-data-slot plan slot n e = alike (tests-le n (slot % plan .slots)) (λ l. subst (λ (x : ℕ). x ≤ slot % plan .slots) e l) (λ l. subst (λ (x : ℕ). x ≤ slot % plan .slots) (sym e) l)
+tests-data-slot plan slot n e =
+    alike (tests-le n (slot % plan .slots)) (λ l. subst (λ (x : ℕ). x ≤ slot % plan .slots) e l) (λ l. subst (λ (x : ℕ). x ≤ slot % plan .slots) (sym e) l)
 
 -- ALL REPEATS: after C turns the kinds of the tiles come again
 module _ (plan : Plan) (some : 0 < plan .slots) (K o : ℕ) where
@@ -63,7 +64,8 @@ module _ (plan : Plan) (some : 0 < plan .slots) (K o : ℕ) where
       omega (arith, e, f, g, d)
 
   -- the first turns, as many as the plan has tiles and no more than there are
-  pub on-data-tests : 0 < plan .tiles → (turns : ℕ) → ((turns ≡ repeats K) ⊎ (turns ≡ plan .tiles)) → ((turn : ℕ) → turn < turns → Data plan (o + turn * (K * plan .slots))) → OnData plan K o
+  pub on-data-tests : 0 < plan .tiles → (turns : ℕ) → ((turns ≡ repeats K) ⊎ (turns ≡ plan .tiles))
+      → ((turn : ℕ) → turn < turns → Data plan (o + turn * (K * plan .slots))) → OnData plan K o
   on-data-tests tiles turns (inl e) h slot t = subst (Data plan) (sym (t .at)) (h (t .turn) (omega (arith, t .within)))
   on-data-tests tiles turns (inr e) h slot t = subst (Data plan) (sym (t .at)) (again (t .turn) (h (t .turn % plan .tiles) (omega (arith, mod-lt (t .turn) tiles))))
 

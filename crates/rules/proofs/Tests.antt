@@ -57,10 +57,6 @@ said-no f = record { yes = λ e. never e; back = λ p. absurd (f p) }
 pub part-failed : {t : Bool} {P Q : Type 0} → Tests t P → t ≡ false → (Q → P) → Tests t Q
 part-failed a e f = record { yes = λ y. never (sym e ∙ y); back = λ q. a .back (f q) }
 
--- where P failed, Q is the test of both
-pub other-part : {t u : Bool} {P Q : Type 0} → Tests t P → t ≡ false → Tests u Q → Tests u (P ⊎ Q)
-other-part a e b = alike b (λ q. inr q) (λ h. ⊎-elim (λ p. absurd (fails a e p)) (λ q. q) h)
-
 -- ALL AND SOME
 -- the test passes at every number below n, and at some number
 abbrev pub allBelow : ℕ → (ℕ → Bool) → Bool

@@ -106,7 +106,7 @@ pub record TooFar (T : Topology) (middle source destination : ℕ) : Type 0 wher
 
 -- ROUTES TO CHOOSE FROM
 
--- a listed route has at most 6 hops
+-- a listed route, and a second one, has at most 6 hops
 abbrev pub mostShortHops : ℕ
 mostShortHops = 6
 
@@ -130,6 +130,22 @@ pub record FirstOf (P : List ℕ → Type 0) (routes : List (List ℕ)) (more : 
 -- the list of the routes of at most 6 hops
 abbrev pub Listed : Topology → ℕ → ℕ → ℕ → List (List ℕ) → Bool → Type 0
 Listed T middle source destination = FirstOf (PathWithin mostShortHops T middle source destination)
+
+-- A SECOND ROUTE
+
+-- at most 6 hops, not the first route, and no middle node in common with it
+pub record Beside (first p : List ℕ) : Type 0 where
+  pub short : hopCount p ≤ mostShortHops
+  pub another : p ≡ first → ⊥
+  pub no-common : (a : ℕ) → a ∈ middles first → a ∈ middles p → ⊥
+
+-- a path that may be the second beside the first
+abbrev pub SecondPath : Topology → ℕ → ℕ → ℕ → List ℕ → List ℕ → Type 0
+SecondPath T middle source destination first p = PathBetween T middle source destination p × Beside first p
+
+-- the second route: the best
+abbrev pub SecondRoute : Topology → ℕ → ℕ → ℕ → List ℕ → List ℕ → Type 0
+SecondRoute T middle source destination first = Best (SecondPath T middle source destination first)
 
 -- CLASHES, over the hearing
 

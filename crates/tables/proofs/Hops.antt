@@ -1,5 +1,5 @@
 -- The entries of hops and rows, one after the other, are the node's table.
-use mathlib.Core.Path.{_≡_, refl, sym, ap, ap₂, _∙_, subst}
+use mathlib.Core.Path.{_≡_, refl, sym, ap, ap₂, _∙_, subst, subst₂}
 use mathlib.Core.Logic.{_⊎_, inl, inr, ⊎-elim}
 use mathlib.Core.List.{List, [], _∷_, _++_}
 use Prim.Native.Nat.{ℕ, suc, _+_, _*_, _/_, _%_, _-_, _<_, _≤_}
@@ -12,11 +12,11 @@ use Rattle.rules.specs.Words.{_∈_}
 use Rattle.rules.specs.Tiles.{Plan, repeats, Period, cycleTiles, cycleSlots, controlSlots}
 use Rattle.rules.specs.Book.{Site, Row, hops, rowOffset, LawfulRow}
 use Rattle.rules.specs.Image.{word, planOf}
-use Rattle.rules.specs.Table.{Does, Entry}
+use Rattle.rules.specs.Table.{Does, onWay, Entry}
 use Rattle.rules.specs.Table.Entry.{sleep, works, control}
 use Rattle.rules.proofs.Lists.{at-in}
 use Rattle.rules.proofs.Meeting.{cycle-period}
-use Rattle.rules.proofs.Entries.{does-touches, does-work, touches-does}
+use Rattle.rules.proofs.Entries.{does-touches, does-work, Working, on-way-works, touches-does}
 use Rattle.rules.proofs.Reading.{rowsIn, bookIn}
 use Rattle.image.specs.Places.{rowAt}
 use Rattle.operations.specs.Operations.{whereWorking, StopsAt, NoStop}
@@ -50,21 +50,27 @@ module _ {site : Site} {r : Row} {i offset step turns id : ℕ} (w : LawfulRow s
   pub first-turn : i < hops r → offset < step
   first-turn l = omega (arith, h .offset-is, h .step-is, w .offsets .within (rowOffset r i) (at-in (r .offsets) i (omega (arith, w .offsets .count))))
 
-  pub hop-done : {node operation : ℕ} {old new : List ℕ} → Does node r i operation → Over (turns * step) (Repeated offset step operation (whereWorking operation id) turns) old new
+  pub hop-done : {node operation written : ℕ} {old new : List ℕ} → Does node r i operation → written ≡ onWay (r .way) operation
+      → Over (turns * step) (Repeated offset step written (whereWorking written id) turns) old new
       → Over (cycleSlots (site .plan)) (HopEntry i (site .plan .slots) node r) old new
-  hop-done {node} {operation} d a = over-same all-turns now back a
+  hop-done {node} {operation} {written} d e a = over-same all-turns now back a
     where
-      now : (slot o name : ℕ) → Repeated offset step operation (whereWorking operation id) turns slot o name → HopEntry i (site .plan .slots) node r slot o name
+      its-id : id ≡ whereWorking written id
+      its-id = working written id (subst Working (sym e) (on-way-works (r .way) operation (does-work d)))
+
+      now : (slot o name : ℕ) → Repeated offset step written (whereWorking written id) turns slot o name → HopEntry i (site .plan .slots) node r slot o name
       now slot o name x = record {
         takes = record { turn = x .turn; within = omega (arith, x .within, h .turns-is); at = x .slot-is ∙ ap₂ (λ (a b : ℕ). a + x .turn * b) (h .offset-is) (h .step-is) };
-        does = subst (Does node r i) (sym (x .operation-is)) d;
-        id-is = x .id-is ∙ sym (working operation id (does-work d .0) (does-work d .1)) ∙ h .id-is;
+        work = operation;
+        does = d;
+        operation-is = x .operation-is ∙ e;
+        id-is = x .id-is ∙ sym its-id ∙ h .id-is;
       }
 
-      back : (slot o name : ℕ) → HopEntry i (site .plan .slots) node r slot o name → Gives (Repeated offset step operation (whereWorking operation id) turns) slot
+      back : (slot o name : ℕ) → HopEntry i (site .plan .slots) node r slot o name → Gives (Repeated offset step written (whereWorking written id) turns) slot
       back slot o name x = (
-        operation,
-        whereWorking operation id,
+        written,
+        whereWorking written id,
         record {
           turn = x .takes .turn;
           within = omega (arith, x .takes .within, h .turns-is);
@@ -96,7 +102,8 @@ module _ {n S node place : ℕ} {r : Row} where
       over-then a b (λ slot o id h. record { hop = h .hop; within = omega (arith, h .leads, s .within); entry = h .entry })
       (λ slot o id h. record { hop = place; within = h .within; entry = h .entry }) (λ slot o id h. split slot o id h (its-hops s (h .within) (does-touches (h .entry .does))))
     where
-      split : (slot o id : ℕ) (h : RowEntry S node r slot o id) → (h .hop ≡ place) ⊎ (suc (h .hop) ≡ place) → Gives (ToEntry place S node r) slot ⊎ Gives (FromEntry place S node r) slot
+      split : (slot o id : ℕ) (h : RowEntry S node r slot o id)
+          → (h .hop ≡ place) ⊎ (suc (h .hop) ≡ place) → Gives (ToEntry place S node r) slot ⊎ Gives (FromEntry place S node r) slot
       split slot o id h (inl e) = inr (o, id, record { within = omega (arith, h .within); entry = subst (λ (k : ℕ). HopEntry k S node r slot o id) e (h .entry) })
       split slot o id h (inr e) = inl (o, id, record { hop = h .hop; leads = e; entry = h .entry })
 
@@ -143,10 +150,10 @@ module _ (s : List ℕ) (node : ℕ) where
     its-entry slot l = go (a .entries slot l) (b .entries slot l)
       where
         alone : ((o id : ℕ) → RowsEntry (planOf s .slots) node (rowsIn s) slot o id → ⊥) → {o id : ℕ} → Idle (planOf s) slot o id → Entry (bookIn s) node slot o id
-        alone f (sleeps d) = sleep d (λ r i x t. let q = touches-does (x .hop) t in f (q .0) (r .id) record {
+        alone f (sleeps d) = sleep d (λ r i x t. let q = touches-does (x .hop) t in f (onWay (r .way) (q .0)) (r .id) record {
           row = r;
           there = x .row;
-          entry = record { hop = i; within = x .hop; entry = record { takes = x .takes; does = q .1; id-is = refl } };
+          entry = record { hop = i; within = x .hop; entry = record { takes = x .takes; work = q .0; does = q .1; operation-is = refl; id-is = refl } };
         })
         alone f (controls c) = control c
 
@@ -159,7 +166,7 @@ module _ (s : List ℕ) (node : ℕ) where
         go x (given {operation} {id} y q) = (
           operation,
           id,
-          subst (Entry (bookIn s) node slot operation) (sym (y .entry .entry .id-is))
+          subst₂ (Entry (bookIn s) node slot) (sym (y .entry .entry .operation-is)) (sym (y .entry .entry .id-is))
               (works record { row = y .there; hop = y .entry .within; takes = y .entry .entry .takes } (y .entry .entry .does)),
           q,
         )

@@ -133,7 +133,8 @@ module _ {at does name : ℕ → ℕ} {n turns slot operation id : ℕ} {old mid
       (λ s o i h. record { turn = turns; within = omega arith; slot-is = h .slot-is ∙ e; operation-is = h .operation-is ∙ f; id-is = h .id-is ∙ g })
       (λ s o i h. last s o i h (ℕ-discrete (h .turn) turns))
     where
-      last : (s o i : ℕ) (h : InTurn at does name (turns + 1) s o i) → Dec (h .turn ≡ turns) → Gives (InTurn at does name turns) s ⊎ Gives (Only slot operation (whereWorking operation id)) s
+      last : (s o i : ℕ) (h : InTurn at does name (turns + 1) s o i)
+          → Dec (h .turn ≡ turns) → Gives (InTurn at does name turns) s ⊎ Gives (Only slot operation (whereWorking operation id)) s
       last s o i h (yes q) = inr (operation, whereWorking operation id, record { slot-is = h .slot-is ∙ ap at q ∙ sym e; operation-is = refl; id-is = refl })
       last s o i h (no q) =
           inl (o, i, record { turn = h .turn; within = omega (arith, h .within); slot-is = h .slot-is; operation-is = h .operation-is; id-is = h .id-is })

@@ -7,7 +7,7 @@ use Rattle.rules.specs.Words.{_∈_}
 use Rattle.rules.specs.Tiles.{Plan, cycleSlots, Data, Control, Takes, repeats}
 use Rattle.rules.specs.Book.{Row, hops, rowOffset}
 use Rattle.rules.specs.Image.{word, planOf}
-use Rattle.rules.specs.Table.{Does, TableOf}
+use Rattle.rules.specs.Table.{Does, onWay, TableOf}
 use Rattle.rules.proofs.Reading.{bookIn}
 use Rattle.image.specs.Places.{rowAt}
 use Rattle.operations.specs.Operations.{whereWorking, StopsAt}
@@ -69,10 +69,12 @@ pub record ControlBelow (plan : Plan) (n slot operation id : ℕ) : Type 0 where
   pub operation-is : operation ≡ 5
   pub id-is : id ≡ 0
 
--- what the node does in the slots of hop i of the row
+-- what the node does in the slots of hop i of the row, as it is on its way
 pub record HopEntry (i S node : ℕ) (r : Row) (slot operation id : ℕ) : Type 0 where
   pub takes : Takes S (r .period) (rowOffset r i) slot
-  pub does : Does node r i operation
+  pub work : ℕ
+  pub does : Does node r i work
+  pub operation-is : operation ≡ onWay (r .way) work
   pub id-is : id ≡ r .id
 
 -- in the hop of the row to a place of its route
@@ -110,9 +112,10 @@ InHop s at i operation old new = (node : ℕ) → Does node (rowAt s at) i opera
 abbrev pub AtStop : List ℕ → ℕ → ℕ → (ℕ → ℕ → Row → Entries) → List ℕ → List ℕ → Type 0
 AtStop s at place E old new = (node : ℕ) → StopsAt node (rowAt s at) place → InRow s at node E old new
 
--- the id, the slots of the period, the repeats and the hops of the row at a place of an image
+-- the id, the way, the slots of the period, the repeats and the hops of the row at a place of an image
 pub record StreamOf (s : List ℕ) (at : ℕ) (stream : Stream) : Type 0 where
   pub id-is : stream .id ≡ rowAt s at .id
+  pub way-is : stream .way ≡ rowAt s at .way
   pub step-is : stream .step ≡ rowAt s at .period * planOf s .slots
   pub turns-is : stream .turns ≡ repeats (rowAt s at .period)
   pub hops-is : stream .hops ≡ hops (rowAt s at)

@@ -84,9 +84,10 @@ fn blank(plan: Plan, out: &mut [u8])
     }
 }
 
-// A stream by how its entries repeat: its id, the slots of its period, how often it comes, and its hops.
+// A stream by how its entries repeat: its id and way, the slots of its period, how often it comes, and its hops.
 struct Stream {
     pub id: u16,
+    pub way: u8,
     pub step: usize,
     pub turns: usize,
     pub hops: usize,
@@ -100,25 +101,27 @@ fn stream_at(image: &[u8], at: usize, slots: Slot) -> Stream
     let period = image::period_at(image, at);
     Stream {
         id: image::id_at(image, at),
+        way: image::way_at(image, at),
         step: wide(period.0) * wide(slots.0),
         turns: wide(operations::repeats_of(period)),
         hops: image::hops_at(image, at),
     }
 }
 
-// Writes an operation in the slots of hop i of the row at a place.
+// Writes an operation, as it is on the row's way, in the slots of hop i of the row at a place.
 fn hop(image: &[u8], at: usize, stream: Stream, i: usize, operation: u8, out: &mut [u8])
     requires { ⌜ RowHere (now image) at × StreamOf (now image) at stream × (i < stream .hops) ⌝ }
-    requires { ⌜ tableLength (planOf (now image)) ≤ length (now out) ⌝ }
+    requires { ⌜ (operation ≤ 4) × (tableLength (planOf (now image)) ≤ length (now out)) ⌝ }
     ensures { λ r. ⌜ InHop (now (image .entry)) at i operation (now (out .entry)) (now (out .exit)) ⌝ }
 {
     let offset = image::offset_at(image, at, i);
+    let written = operations::on_way(stream.way, operation);
     repeat(
         out,
         wide(offset.0),
         stream.step,
         stream.turns,
-        operation,
+        written,
         stream.id,
     );
 }

@@ -1,7 +1,7 @@
--- The parts of an image with a row more, or a row less, are the image of that book.
+-- The parts of an image with rows more, or rows less, are the image of that book.
 use mathlib.Core.Path.{_≡_, refl, sym, _∙_, ap, ap₂}
 use mathlib.Core.List.{List, [], _∷_, _++_, append-assoc}
-use Prim.Native.Nat.{ℕ, zero, suc, _+_, _*_, _-_, _≤_, _<_}
+use Prim.Native.Nat.{ℕ, suc, _+_, _-_, _≤_}
 use native.Mathlib.Omega.{arith}
 use lib.ListN.{length, take, drop, length-append, length-drop}
 use lib.Seq.{take-at, drop-at, drop-drop}
@@ -47,37 +47,46 @@ module _ (b : Book) (xs ys : List Row) (split : b .rows ≡ xs ++ ys) where
     unfolding headed
     headed-encode n h =
         let f : at - 15 ≡ suc (length front) = omega (arith, place) in
-        let g : take (length front) (links ++ inTurn (encodeRow newest) (b .rows)) ≡ front = ap (take (length front)) body ∙ take-at front (inTurn (encodeRow newest) ys) (length front) refl in
+        let g : take (length front) (links ++ inTurn (encodeRow newest) (b .rows)) ≡ front = ap (take (length front)) body
+        ∙ take-at front (inTurn (encodeRow newest) ys) (length front) refl in
         let e : take (at - 15) (drop 15 (encode newest b)) ≡ 0 ∷ front = ap (λ (k : ℕ). take k (drop 15 (encode newest b))) f ∙ ap (λ (l : List ℕ). 0 ∷ l) g in
         ap (λ (l : List ℕ). take 12 (encode newest b) ++ (n ∷ word h) ++ l) e
 
-    -- a row more, in front of the rows that stand from the place on
-    pub row-more : (r : Row) → headed (encode newest b) at (length (b .rows) + 1) (hopsInAll (b .rows) + hops r) ++ encodeRow newest r ++ drop at (encode newest b) ≡ encode newest
-        (withRows b (xs ++ (r ∷ ys)))
-    row-more r =
-        let n : length (b .rows) + 1 ≡ length (xs ++ (r ∷ ys)) = omega (arith, ap length split, length-append xs ys, length-append xs (r ∷ ys)) in
-        let h : hopsInAll (b .rows) + hops r ≡ hopsInAll (xs ++ (r ∷ ys)) = omega (arith, ap hopsInAll split, total-append hops xs ys, total-append hops xs (r ∷ ys)) in
-        let t : front ++ encodeRow newest r ++ inTurn (encodeRow newest) ys ≡ links ++ inTurn (encodeRow newest) (xs ++ (r ∷ ys)) =
-        append-assoc front (encodeRow newest r) (inTurn (encodeRow newest) ys) ∙ append-assoc links (inTurn (encodeRow newest) xs) (encodeRow newest r ++ inTurn (encodeRow newest) ys)
-        ∙ ap (λ (l : List ℕ). links ++ l) (sym (in-turn-append (encodeRow newest) xs (r ∷ ys))) in
-        ap₂ (λ (a c : List ℕ). a ++ encodeRow newest r ++ c) (headed-encode (length (b .rows) + 1) (hopsInAll (b .rows) + hops r)) behind
-        ∙ ap₂ (λ (n h : ℕ). encodeHeader newest (b .site .plan) (nodes (b .site .links)) n h ++ (front ++ encodeRow newest r ++ inTurn (encodeRow newest) ys)) n h
-        ∙ ap (λ (l : List ℕ). encodeHeader newest (b .site .plan) (nodes (b .site .links)) (length (xs ++ (r ∷ ys))) (hopsInAll (xs ++ (r ∷ ys))) ++ l) t
+    -- rows more, in front of those that stand from the place on
+    pub rows-more : (new : List Row)
+        → headed (encode newest b) at (length (b .rows) + length new) (hopsInAll (b .rows) + hopsInAll new) ++ inTurn (encodeRow newest) new ++ drop at (encode newest b)
+        ≡ encode newest (withRows b (xs ++ (new ++ ys)))
+    rows-more new =
+        let n : length (b .rows) + length new ≡ length (xs ++ (new ++ ys)) = omega
+        (arith, ap length split, length-append xs ys, length-append xs (new ++ ys), length-append new ys) in
+        let h : hopsInAll (b .rows) + hopsInAll new ≡ hopsInAll (xs ++ (new ++ ys)) = omega
+        (arith, ap hopsInAll split, total-append hops xs ys, total-append hops xs (new ++ ys), total-append hops new ys) in
+        let t : front ++ inTurn (encodeRow newest) new ++ inTurn (encodeRow newest) ys ≡ links ++ inTurn (encodeRow newest) (xs ++ (new ++ ys)) =
+        append-assoc front (inTurn (encodeRow newest) new) (inTurn (encodeRow newest) ys)
+        ∙ ap (λ (l : List ℕ). front ++ l) (sym (in-turn-append (encodeRow newest) new ys))
+        ∙ append-assoc links (inTurn (encodeRow newest) xs) (inTurn (encodeRow newest) (new ++ ys))
+        ∙ ap (λ (l : List ℕ). links ++ l) (sym (in-turn-append (encodeRow newest) xs (new ++ ys))) in
+        ap₂ (λ (a c : List ℕ). a ++ inTurn (encodeRow newest) new ++ c) (headed-encode (length (b .rows) + length new) (hopsInAll (b .rows) + hopsInAll new)) behind
+        ∙ ap₂ (λ (n h : ℕ). encodeHeader newest (b .site .plan) (nodes (b .site .links)) n h ++ (front ++ inTurn (encodeRow newest) new ++ inTurn (encodeRow newest) ys)) n h
+        ∙ ap (λ (l : List ℕ). encodeHeader newest (b .site .plan) (nodes (b .site .links)) (length (xs ++ (new ++ ys))) (hopsInAll (xs ++ (new ++ ys))) ++ l) t
 
--- a row less: the first of those that stand from the place on
-pub row-less : (b : Book) (xs ys : List Row) (r : Row) (split : b .rows ≡ xs ++ (r ∷ ys)) (at next n h : ℕ) → at ≤ length (encode newest b)
-    → drop at (encode newest b) ≡ inTurn (encodeRow newest) (r ∷ ys)
-    → next ≡ at + length (encodeRow newest r) → n + 1 ≡ length (b .rows) → h + hops r ≡ hopsInAll (b .rows)
+-- rows less: the first of those that stand from the place on
+pub rows-less : (b : Book) (xs gone ys : List Row) (split : b .rows ≡ xs ++ (gone ++ ys)) (at next n h : ℕ) → at ≤ length (encode newest b)
+    → drop at (encode newest b) ≡ inTurn (encodeRow newest) (gone ++ ys)
+    → next ≡ at + length (inTurn (encodeRow newest) gone) → n + length gone ≡ length (b .rows) → h + hopsInAll gone ≡ hopsInAll (b .rows)
     → headed (encode newest b) at n h ++ drop next (encode newest b) ≡ encode newest (withRows b (xs ++ ys))
-row-less b xs ys r split at next n h inside behind e f g =
+rows-less b xs gone ys split at next n h inside behind e f g =
+    let bytes : List ℕ = inTurn (encodeRow newest) gone in
     let rest : drop next (encode newest b) ≡ inTurn (encodeRow newest) ys =
-    ap (λ (k : ℕ). drop k (encode newest b)) e ∙ sym (drop-drop (length (encodeRow newest r)) at (encode newest b)) ∙ ap (drop (length (encodeRow newest r))) behind
-    ∙ drop-at (encodeRow newest r) (inTurn (encodeRow newest) ys) (length (encodeRow newest r)) refl in
-    let n′ : n ≡ length (xs ++ ys) = omega (arith, ap length split, length-append xs ys, length-append xs (r ∷ ys)) in
-    let h′ : h ≡ hopsInAll (xs ++ ys) = omega (arith, ap hopsInAll split, total-append hops xs ys, total-append hops xs (r ∷ ys)) in
-    let t : front b xs (r ∷ ys) split ++ inTurn (encodeRow newest) ys ≡ encodeTopology (b .site .links) ++ inTurn (encodeRow newest) (xs ++ ys) =
+    ap (λ (k : ℕ). drop k (encode newest b)) e ∙ sym (drop-drop (length bytes) at (encode newest b))
+    ∙ ap (drop (length bytes)) (behind ∙ in-turn-append (encodeRow newest) gone ys)
+    ∙ drop-at bytes (inTurn (encodeRow newest) ys) (length bytes) refl in
+    let n′ : n ≡ length (xs ++ ys) = omega (arith, ap length split, length-append xs ys, length-append xs (gone ++ ys), length-append gone ys) in
+    let h′ : h ≡ hopsInAll (xs ++ ys) = omega
+    (arith, ap hopsInAll split, total-append hops xs ys, total-append hops xs (gone ++ ys), total-append hops gone ys) in
+    let t : front b xs (gone ++ ys) split ++ inTurn (encodeRow newest) ys ≡ encodeTopology (b .site .links) ++ inTurn (encodeRow newest) (xs ++ ys) =
     append-assoc (encodeTopology (b .site .links)) (inTurn (encodeRow newest) xs) (inTurn (encodeRow newest) ys)
     ∙ ap (λ (l : List ℕ). encodeTopology (b .site .links) ++ l) (sym (in-turn-append (encodeRow newest) xs ys)) in
-    ap₂ _++_ (headed-encode b xs (r ∷ ys) split at inside behind n h) rest
-    ∙ ap₂ (λ (n h : ℕ). encodeHeader newest (b .site .plan) (nodes (b .site .links)) n h ++ (front b xs (r ∷ ys) split ++ inTurn (encodeRow newest) ys)) n′ h′
+    ap₂ _++_ (headed-encode b xs (gone ++ ys) split at inside behind n h) rest
+    ∙ ap₂ (λ (n h : ℕ). encodeHeader newest (b .site .plan) (nodes (b .site .links)) n h ++ (front b xs (gone ++ ys) split ++ inTurn (encodeRow newest) ys)) n′ h′
     ∙ ap (λ (l : List ℕ). encodeHeader newest (b .site .plan) (nodes (b .site .links)) (length (xs ++ ys)) (hopsInAll (xs ++ ys)) ++ l) t

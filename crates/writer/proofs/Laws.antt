@@ -1,7 +1,7 @@
 -- Lists written over others, one behind the other.
 use mathlib.Core.Path.{_≡_, refl, sym, _∙_, ap}
 use mathlib.Core.List.{List, [], _∷_, _++_, append-assoc}
-use Prim.Native.Nat.{ℕ, zero, suc, _+_, _*_, _-_, _≤_, _<_}
+use Prim.Native.Nat.{ℕ, suc, _+_, _*_, _-_, _≤_, _<_}
 use native.Mathlib.Omega.{arith}
 use native.Mathlib.Nat.{zero-add}
 use native.Mathlib.Numerals.{add-one}
@@ -9,7 +9,6 @@ use lib.ListN.{length, getD, set, take, drop, length-append, length-drop}
 use lib.Seq.{take-at, take-suc, drop-append-add, drop-drop, length-take-le, append-snoc, paste-zero, set-split}
 use Rattle.rules.specs.Tiles.{Plan}
 use Rattle.rules.specs.Image.{newest, mark, word, inTurn, encodeHeader, encodeRow}
-use Rattle.rules.specs.Book.{Row}
 use Rattle.rules.proofs.Encoding.{length-words}
 use Rattle.writer.specs.Over.{over, headed}
 
@@ -23,7 +22,8 @@ unfolding over
 over-over d x y at e h q =
     let p = take at d ++ x in
     let n : length p ≡ e = simp (length-append, length-take-le at d h) (sym q) in
-    rw (take-at p (drop (at + length x) d) e n, ← n, drop-append-add p (drop (at + length x) d) (length y), drop-drop (length y) (at + length x) d, length-append x y, ← append-assoc (take at d) x y)
+    let rest : List ℕ = drop (at + length x) d in
+    rw (take-at p rest e n, ← n, drop-append-add p rest (length y), drop-drop (length y) (at + length x) d, length-append x y, ← append-assoc (take at d) x y)
     (let k : at + length x + length y ≡ at + (length x + length y) = omega arith in ap (λ (k : ℕ). p ++ y ++ drop k d) k)
 
 -- one part written, then another behind it
@@ -57,17 +57,19 @@ words-turn d s o o′ at i h l e f =
     rw (f, e, over-over d (inTurn word (take i s)) (word (getD s i 0)) at (at + 2 * i) (omega arith) n, add-one, take-suc s i 0 h, words-append)
 
 -- a row, part by part
-pub row-written : (d o₁ o₂ o₃ o₄ o₅ : List ℕ) (at id k : ℕ) (route offsets : List ℕ) → at ≤ length d → length route ≡ length offsets + 1
-    → o₁ ≡ over d at (word id) → o₂ ≡ over o₁ (at + 2) (k ∷ []) → o₃ ≡ over o₂ (at + 3) (length offsets ∷ []) → o₄ ≡ over o₃ (at + 4) route
-    → o₅ ≡ over o₄ (at + 4 + length route) (inTurn word offsets)
-    → o₅ ≡ over d at (encodeRow newest (record { id = id; period = k; route = route; offsets = offsets }))
-row-written d o₁ o₂ o₃ o₄ o₅ at id k route offsets h n p₁ p₂ p₃ p₄ p₅ =
-    let q₂ = then d o₁ o₂ (word id) (k ∷ []) at (at + 2) h p₁ refl p₂ in
-    let q₃ = then d o₂ o₃ (word id ++ (k ∷ [])) (length offsets ∷ []) at (at + 3) h q₂ refl p₃ in
-    let q₄ = then d o₃ o₄ (word id ++ (k ∷ []) ++ (length offsets ∷ [])) route at (at + 4) h q₃ refl p₄ in
-    let q₅ = then d o₄ o₅ (word id ++ (k ∷ []) ++ (length offsets ∷ []) ++ route) (inTurn word offsets) at (at + 4 + length route) h q₄ (omega arith) p₅ in
+pub row-written : (d o₁ o₂ o₃ o₄ o₅ o₆ : List ℕ) (at id way k : ℕ) (route offsets : List ℕ) → at ≤ length d → length route ≡ length offsets + 1
+    → o₁ ≡ over d at (word id) → o₂ ≡ over o₁ (at + 2) (way ∷ []) → o₃ ≡ over o₂ (at + 2 + 1) (k ∷ []) → o₄ ≡ over o₃ (at + 2 + 1 + 1) (length offsets ∷ [])
+    → o₅ ≡ over o₄ (at + 2 + 1 + 1 + 1) route → o₆ ≡ over o₅ (at + 2 + 1 + 1 + 1 + length route) (inTurn word offsets)
+    → o₆ ≡ over d at (encodeRow newest (record { id = id; way = way; period = k; route = route; offsets = offsets }))
+row-written d o₁ o₂ o₃ o₄ o₅ o₆ at id way k route offsets h n p₁ p₂ p₃ p₄ p₅ p₆ =
+    let named : List ℕ = word id ++ (way ∷ []) in
+    let q₂ = then d o₁ o₂ (word id) (way ∷ []) at (at + 2) h p₁ refl p₂ in
+    let q₃ = then d o₂ o₃ named (k ∷ []) at (at + 2 + 1) h q₂ (omega arith) p₃ in
+    let q₄ = then d o₃ o₄ (named ++ (k ∷ [])) (length offsets ∷ []) at (at + 2 + 1 + 1) h q₃ (omega arith) p₄ in
+    let q₅ = then d o₄ o₅ (named ++ (k ∷ length offsets ∷ [])) route at (at + 2 + 1 + 1 + 1) h q₄ (omega arith) p₅ in
+    let q₆ = then d o₅ o₆ (named ++ (k ∷ length offsets ∷ []) ++ route) (inTurn word offsets) at (at + 2 + 1 + 1 + 1 + length route) h q₅ (omega arith) p₆ in
     let e : length offsets ≡ length route - 1 = omega arith in
-    q₅ ∙ ap (λ (x : ℕ). over d at (word id ++ (k ∷ x ∷ []) ++ route ++ inTurn word offsets)) e
+    q₆ ∙ ap (λ (x : ℕ). over d at (named ++ (k ∷ x ∷ []) ++ route ++ inTurn word offsets)) e
 
 -- the front of an image, part by part
 pub head-written : (d o₁ o₂ o₃ o₄ s : List ℕ) (to n h : ℕ) → 15 ≤ length s → o₁ ≡ over d 0 (take 12 s) → o₂ ≡ over o₁ 12 (n ∷ []) → o₃ ≡ over o₂ 13 (word h)

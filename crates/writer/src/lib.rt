@@ -51,17 +51,31 @@ pub fn put_words(numbers: &[u16], out: &mut [u8], at: usize)
     }
 }
 
-// A row: id, K, hops, the nodes of the route, the offsets.
-pub fn put_row(out: &mut [u8], at: usize, id: u16, period: Tile, route: &[u8], offsets: &[u16])
+// A row: id, way, K, hops, the nodes of the route, the offsets.
+pub fn put_row(
+    out: &mut [u8],
+    at: usize,
+    id: u16,
+    way: u8,
+    period: Tile,
+    route: &[u8],
+    offsets: &[u16],
+)
     requires { ⌜ (length (now route) ≡ length (now offsets) + 1) × (length (now offsets) ≤ 15) × (period .0 < 256) ⌝ }
     requires { ⌜ at + (rowLength newest + 3 * length (now offsets)) ≤ length (now out) ⌝ }
-    ensures { λ _. ⌜ now (out .exit) ≡ over (now (out .entry)) at (encodeRow newest (record { id = id; period = period .0; route = now (route .entry); offsets = now (offsets .entry) })) ⌝ }
+    ensures { λ _. ⌜ now (out .exit) ≡ over (now (out .entry)) at
+        (encodeRow newest (record { id = id; way = way; period = period .0; route = now (route .entry); offsets = now (offsets .entry) })) ⌝ }
 {
     put_word(out, at, id);
-    put(out, at + 2, period.0 as u8);
-    put(out, at + 3, offsets.len() as u8);
-    put_part(route, out, at + 4);
-    put_words(offsets, out, at + 4 + route.len());
+    let way_at = at + 2;
+    put(out, way_at, way);
+    let period_at = way_at + 1;
+    put(out, period_at, period.0 as u8);
+    let hops_at = period_at + 1;
+    put(out, hops_at, offsets.len() as u8);
+    let route_at = hops_at + 1;
+    put_part(route, out, route_at);
+    put_words(offsets, out, route_at + route.len());
 }
 
 // The front of an image up to a place, with these counts of streams and hops.

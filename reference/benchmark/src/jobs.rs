@@ -1,34 +1,64 @@
 //! The jobs: each makes its calls, and shows what every call gave back.
 
 use crate::planners::{Planner, Said, Stream};
-use crate::site::{NODES, PLAN, streams, topology};
+use crate::site::{NODES, PLAN, doubled_streams, linked_topology, streams, topology};
+use reference::image;
+use reference::version::Version;
 
 /// A buffer that holds the longest image.
-const LONGEST_IMAGE: usize = 2384;
+const LONGEST_IMAGE: usize = 2448;
 
 /// A buffer that holds the longest table.
 const LONGEST_TABLE: usize = 9600;
+
+/// A buffer that holds the longest list of routes.
+const LONGEST_LIST: usize = 256;
 
 /// What the jobs start from.
 pub struct Site {
     topology: Vec<u8>,
     streams: Vec<Stream>,
+    /// Streams with a second route each.
+    doubled: Vec<Stream>,
     empty: Vec<u8>,
     full: Vec<u8>,
+    /// The full book in version 1.
+    older: Vec<u8>,
+    /// The book of the streams with second routes.
+    both: Vec<u8>,
+    /// The empty book of nodes that are all linked to each other.
+    linked: Vec<u8>,
 }
 
 impl Site {
     /// The site with its empty and its full book, which a planner makes.
     pub fn new(planner: &dyn Planner) -> Site {
-        let mut site =
-            Site { topology: topology(), streams: streams(), empty: Vec::new(), full: Vec::new() };
-        let mut image = [0; LONGEST_IMAGE];
-        let (number, length) = planner.new_book(&PLAN, &site.topology, &mut image);
-        assert_eq!(number, 0, "the empty book is made");
-        site.empty = image[..length].to_vec();
-        site.full = open_all(planner, &site, &mut |number, _| assert_eq!(number, 0));
+        let mut site = Site {
+            topology: topology(),
+            streams: streams(),
+            doubled: doubled_streams(),
+            empty: Vec::new(),
+            full: Vec::new(),
+            older: Vec::new(),
+            both: Vec::new(),
+            linked: empty_book(planner, &linked_topology()),
+        };
+        site.empty = empty_book(planner, &site.topology);
+        let mut done = |number: u8, _: &[u8]| assert_eq!(number, 0, "every stream has a place");
+        site.full = open_all(planner, &site.empty, &site.streams, &mut done);
+        site.both = open_all(planner, &site.empty, &site.doubled, &mut done);
+        let (_, book) = image::read(&site.full).expect("the full book is lawful");
+        site.older = image::write(Version::One, &book);
         site
     }
+}
+
+/// The empty book of a topology.
+fn empty_book(planner: &dyn Planner, topology: &[u8]) -> Vec<u8> {
+    let mut image = [0; LONGEST_IMAGE];
+    let (number, length) = planner.new_book(&PLAN, topology, &mut image);
+    assert_eq!(number, 0, "the empty book is made");
+    image[..length].to_vec()
 }
 
 /// Takes the number and the answer of a call.
@@ -39,14 +69,20 @@ pub struct Job {
     pub run: fn(&dyn Planner, &Site, Show),
 }
 
-pub const JOBS: [Job; 7] = [
+pub const JOBS: [Job; 13] = [
     Job { name: "new: the empty book", run: new },
     Job { name: "open: 64 streams, one after the other", run: open },
+    Job { name: "open: 32 streams with a second route, one after the other", run: open_doubled },
     Job { name: "check: the full book", run: check },
     Job { name: "rewrite: the full book", run: rewrite },
     Job { name: "expand: every node of the full book", run: expand },
     Job { name: "balance: every node of the full book", run: balance },
     Job { name: "close: 64 streams, one after the other", run: close },
+    Job { name: "close: 32 streams with a second route, one after the other", run: close_doubled },
+    Job { name: "close: each stream of the full book in version 1", run: close_older },
+    Job { name: "routes: from 32 nodes to one two across and two down", run: routes },
+    Job { name: "routes: from every node to one 3 to 6 hops away, empty book", run: far_routes },
+    Job { name: "routes: one list of 64 nodes all linked to each other", run: linked_routes },
 ];
 
 fn new(planner: &dyn Planner, site: &Site, show: Show) {
@@ -56,12 +92,16 @@ fn new(planner: &dyn Planner, site: &Site, show: Show) {
 }
 
 fn open(planner: &dyn Planner, site: &Site, show: Show) {
-    open_all(planner, site, show);
+    open_all(planner, &site.empty, &site.streams, show);
 }
 
-fn open_all(planner: &dyn Planner, site: &Site, show: Show) -> Vec<u8> {
+fn open_doubled(planner: &dyn Planner, site: &Site, show: Show) {
+    open_all(planner, &site.empty, &site.doubled, show);
+}
+
+fn open_all(planner: &dyn Planner, empty: &[u8], streams: &[Stream], show: Show) -> Vec<u8> {
     let call = |book: &[u8], stream: &Stream, out: &mut [u8]| planner.open(book, stream, out);
-    in_turn(&site.empty, &site.streams, call, show)
+    in_turn(empty, streams, call, show)
 }
 
 fn check(planner: &dyn Planner, site: &Site, show: Show) {
@@ -90,8 +130,47 @@ fn balance(planner: &dyn Planner, site: &Site, show: Show) {
 }
 
 fn close(planner: &dyn Planner, site: &Site, show: Show) {
+    close_all(planner, &site.full, &site.streams, show);
+}
+
+fn close_doubled(planner: &dyn Planner, site: &Site, show: Show) {
+    close_all(planner, &site.both, &site.doubled, show);
+}
+
+fn close_all(planner: &dyn Planner, book: &[u8], streams: &[Stream], show: Show) {
     let call = |book: &[u8], stream: &Stream, out: &mut [u8]| planner.close(book, stream.id, out);
-    in_turn(&site.full, &site.streams, call, show);
+    in_turn(book, streams, call, show);
+}
+
+fn close_older(planner: &dyn Planner, site: &Site, show: Show) {
+    let mut out = [0; LONGEST_IMAGE];
+    for stream in &site.streams {
+        let said = planner.close(&site.older, stream.id, &mut out);
+        show_bytes(show, said, &out);
+    }
+}
+
+fn routes(planner: &dyn Planner, site: &Site, show: Show) {
+    for stream in &site.doubled {
+        list(planner, &site.both, stream.source, stream.destination, show);
+    }
+}
+
+fn far_routes(planner: &dyn Planner, site: &Site, show: Show) {
+    for source in 0..NODES {
+        list(planner, &site.empty, source, (source + 19) % NODES, show);
+    }
+}
+
+fn linked_routes(planner: &dyn Planner, site: &Site, show: Show) {
+    list(planner, &site.linked, 0, NODES - 1, show);
+}
+
+fn list(planner: &dyn Planner, book: &[u8], source: u8, destination: u8, show: Show) {
+    let mut out = [0; LONGEST_LIST];
+    let ((number, length), more) = planner.routes(book, source, destination, &mut out);
+    show(number, &out[..length]);
+    show(number, &[u8::from(more)]);
 }
 
 /// Makes a call for each stream, each on the image that the one before wrote.

@@ -1,6 +1,7 @@
 //! The three planners behind one interface.
 
 use reference::calls;
+use reference::change::Open;
 
 /// What a call gives back: its number, and the length of its answer.
 pub type Said = (u8, usize);
@@ -14,6 +15,7 @@ pub trait Planner {
     fn close(&self, book: &[u8], id: u16, out: &mut [u8]) -> Said;
     fn expand(&self, book: &[u8], node: u8, out: &mut [u8]) -> Said;
     fn balance(&self, book: &[u8], node: u8) -> (u8, [u32; 3]);
+    fn routes(&self, book: &[u8], source: u8, destination: u8, out: &mut [u8]) -> (Said, bool);
 }
 
 /// The arguments of a new book beside its topology.
@@ -32,12 +34,13 @@ pub struct Stream {
     pub source: u8,
     pub destination: u8,
     pub period: u16,
+    pub second: bool,
 }
 
 /// A planner with the C interface of `include/lindurask.h`, under these names.
 macro_rules! planner_in_c {
     ($planner:ident, $module:ident, $new:literal, $check:literal, $rewrite:literal, $open:literal,
-     $close:literal, $expand:literal, $balance:literal) => {
+     $close:literal, $expand:literal, $balance:literal, $routes:literal) => {
         mod $module {
             unsafe extern "C" {
                 #[link_name = $new]
@@ -72,6 +75,7 @@ macro_rules! planner_in_c {
                     source: u8,
                     destination: u8,
                     period: u16,
+                    second: bool,
                     out: *mut u8,
                     out_len: usize,
                     length: *mut usize,
@@ -102,6 +106,17 @@ macro_rules! planner_in_c {
                     data: *mut u32,
                     used: *mut u32,
                     free: *mut u32,
+                ) -> u8;
+                #[link_name = $routes]
+                pub fn routes(
+                    book: *const u8,
+                    book_len: usize,
+                    source: u8,
+                    destination: u8,
+                    out: *mut u8,
+                    out_len: usize,
+                    length: *mut usize,
+                    more: *mut u8,
                 ) -> u8;
             }
         }
@@ -142,11 +157,22 @@ macro_rules! planner_in_c {
             }
 
             fn open(&self, book: &[u8], stream: &Stream, out: &mut [u8]) -> Said {
-                let Stream { id, source, destination, period } = *stream;
+                let Stream { id, source, destination, period, second } = *stream;
                 let (image, size) = (book.as_ptr(), book.len());
+                let (room, most) = (out.as_mut_ptr(), out.len());
                 said(|length| unsafe {
-                    let (room, most) = (out.as_mut_ptr(), out.len());
-                    $module::open(image, size, id, source, destination, period, room, most, length)
+                    $module::open(
+                        image,
+                        size,
+                        id,
+                        source,
+                        destination,
+                        period,
+                        second,
+                        room,
+                        most,
+                        length,
+                    )
                 })
             }
 
@@ -171,6 +197,22 @@ macro_rules! planner_in_c {
                     unsafe { $module::balance(image, size, node, &mut data, &mut used, &mut free) };
                 (number, [data, used, free])
             }
+
+            fn routes(
+                &self,
+                book: &[u8],
+                source: u8,
+                destination: u8,
+                out: &mut [u8],
+            ) -> (Said, bool) {
+                let (image, size) = (book.as_ptr(), book.len());
+                let (room, most) = (out.as_mut_ptr(), out.len());
+                let mut more = u8::MAX;
+                let said = said(|length| unsafe {
+                    $module::routes(image, size, source, destination, room, most, length, &mut more)
+                });
+                (said, more == 1)
+            }
         }
     };
 }
@@ -184,7 +226,8 @@ planner_in_c!(
     "lindurask_open",
     "lindurask_close",
     "lindurask_expand",
-    "lindurask_balance"
+    "lindurask_balance",
+    "lindurask_routes"
 );
 
 planner_in_c!(
@@ -196,7 +239,8 @@ planner_in_c!(
     "fast_open",
     "fast_close",
     "fast_expand",
-    "fast_balance"
+    "fast_balance",
+    "fast_routes"
 );
 
 /// The number that a call gives, and the length that it sets.
@@ -223,8 +267,8 @@ impl Planner for Reference {
     }
 
     fn open(&self, book: &[u8], stream: &Stream, out: &mut [u8]) -> Said {
-        let Stream { id, source, destination, period } = *stream;
-        calls::open(book, id, source, destination, period, out)
+        let Stream { id, source, destination, period, second } = *stream;
+        calls::open(book, Open { id, source, destination, period, second }, out)
     }
 
     fn close(&self, book: &[u8], id: u16, out: &mut [u8]) -> Said {
@@ -238,5 +282,10 @@ impl Planner for Reference {
     fn balance(&self, book: &[u8], node: u8) -> (u8, [u32; 3]) {
         let (number, data, used, free) = calls::balance(book, node);
         (number, [data, used, free])
+    }
+
+    fn routes(&self, book: &[u8], source: u8, destination: u8, out: &mut [u8]) -> (Said, bool) {
+        let (number, length, more) = calls::routes(book, source, destination, out);
+        ((number, length), more)
     }
 }

@@ -1,4 +1,4 @@
-//! The site of the jobs: an 8 × 8 grid, tiles of 32 slots, 64 streams of mixed periods.
+//! The site of the jobs: an 8 × 8 grid, tiles of 32 slots, 64 streams of mixed periods, or 32 with a second route.
 
 use crate::planners::{Plan, Stream};
 
@@ -26,6 +26,11 @@ fn row(node: u8) -> u64 {
     row
 }
 
+/// The rows of as many nodes, all linked to each other.
+pub fn linked_topology() -> Vec<u8> {
+    (0..NODES).flat_map(|node| (!(1_u64 << node)).to_be_bytes()).collect()
+}
+
 /// The periods, in tiles, that the streams take in turn.
 const PERIODS: [u16; 11] = [100, 20, 50, 10, 5, 2, 100, 20, 50, 10, 5];
 
@@ -40,5 +45,18 @@ fn stream(i: u16, source: u16) -> Stream {
         source: source as u8,
         destination: ((source + 36) % 64) as u8,
         period: PERIODS[usize::from(i) % PERIODS.len()],
+        second: false,
     }
+}
+
+/// Streams with a second route, in order of arrival: two across and two down, 4 hops on either route.
+pub fn doubled_streams() -> Vec<Stream> {
+    (0..32).map(|i| doubled_stream(i, (i * 61 % 64) as u8)).collect()
+}
+
+fn doubled_stream(i: u16, source: u8) -> Stream {
+    let on = |place: u8| if place + 2 < SIDE { place + 2 } else { place - 2 };
+    let destination = on(source % SIDE) + SIDE * on(source / SIDE);
+    let period = PERIODS[usize::from(i) % PERIODS.len()];
+    Stream { id: i * 37 % 64 * 5 + 1, source, destination, period, second: true }
 }

@@ -2,7 +2,9 @@
 #![allow(dead_code)]
 
 use reference::book::Book;
-use reference::stream::Stream;
+use reference::change::Open;
+use reference::row::{FIRST_ROUTE, Row, SECOND_ROUTE};
+use reference::version::Version;
 use reference::{calls, image};
 
 /// Longer than any answer.
@@ -72,35 +74,66 @@ pub fn refused(room: usize, call: impl FnOnce(&mut [u8]) -> (u8, usize)) -> u8 {
     number
 }
 
+/// A stream with one route.
+pub fn plain(id: u16, source: u8, destination: u8, period: u16) -> Open {
+    Open { id, source, destination, period, second: false }
+}
+
+/// A stream with a second route.
+pub fn doubled(id: u16, source: u8, destination: u8, period: u16) -> Open {
+    Open { second: true, ..plain(id, source, destination, period) }
+}
+
 pub fn opened(book: &[u8], id: u16, source: u8, destination: u8, period: u16) -> Vec<u8> {
-    written(|out| calls::open(book, id, source, destination, period, out))
+    written(|out| calls::open(book, plain(id, source, destination, period), out))
 }
 
 pub fn open_refused(book: &[u8], id: u16, source: u8, destination: u8, period: u16) -> u8 {
-    refused(ROOM, |out| calls::open(book, id, source, destination, period, out))
+    refused(ROOM, |out| calls::open(book, plain(id, source, destination, period), out))
 }
 
 pub fn closed(book: &[u8], id: u16) -> Vec<u8> {
     written(|out| calls::close(book, id, out))
 }
 
-/// The stream with this id, as the book has it.
-pub fn stream(book: &[u8], id: u16) -> Stream {
-    let book = read(book);
-    book.streams.into_iter().find(|stream| stream.id == id).expect("the id is in the book")
+/// The first route of this stream, as the book has it.
+pub fn stream(book: &[u8], id: u16) -> Row {
+    route_of(book, id, FIRST_ROUTE)
+}
+
+/// The second route of this stream, as the book has it.
+pub fn second(book: &[u8], id: u16) -> Row {
+    route_of(book, id, SECOND_ROUTE)
+}
+
+fn route_of(book: &[u8], id: u16, route: u8) -> Row {
+    let mut rows = read(book).rows.into_iter();
+    rows.find(|row| row.key() == (id, route)).expect("the row is in the book")
 }
 
 pub fn read(book: &[u8]) -> Book {
-    image::read(book).expect("the book is lawful")
+    image::read(book).expect("the book is lawful").1
+}
+
+/// The book's image in this version.
+pub fn stored(version: Version, book: &[u8]) -> Vec<u8> {
+    image::write(version, &read(book))
 }
 
 /// The image of this book with more rows, whether lawful or not.
-pub fn with_rows(book: &[u8], rows: Vec<Stream>) -> Vec<u8> {
+pub fn with_rows(book: &[u8], rows: Vec<Row>) -> Vec<u8> {
     let mut book = read(book);
-    book.streams.extend(rows);
-    image::write(&book)
+    book.rows.extend(rows);
+    image::write(Version::NEWEST, &book)
 }
 
-pub fn row(id: u16, period: u8, route: &[u8], offsets: &[u16]) -> Stream {
-    Stream { id, period, route: route.to_vec(), offsets: offsets.to_vec() }
+/// A first route.
+pub fn row(id: u16, period: u8, nodes: &[u8], offsets: &[u16]) -> Row {
+    let (nodes, offsets) = (nodes.to_vec(), offsets.to_vec());
+    Row { id, route: FIRST_ROUTE, period, nodes, offsets }
+}
+
+/// A second route.
+pub fn row_2(id: u16, period: u8, nodes: &[u8], offsets: &[u16]) -> Row {
+    Row { route: SECOND_ROUTE, ..row(id, period, nodes, offsets) }
 }

@@ -1,9 +1,9 @@
 //! The parts of the tiles: the ground of each kind of tile, and the hops of each stream.
 
 use super::sketch::{part_name, Sketch, HEAD, ROW};
-use crate::book::Stream;
+use crate::book::Way;
 use crate::page::hops::{hops, slot_of, tile_of, Hop};
-use crate::page::identity::{colour, name, title};
+use crate::page::identity::{colour, dashes, name, title};
 use crate::page::markup::{joined, length};
 use std::collections::BTreeSet;
 
@@ -30,12 +30,12 @@ impl Sketch<'_> {
         };
         let nodes = (0..self.book.links.len()).map(number).collect::<String>();
         let grounds = [true, false].map(|downlink| self.ground(downlink)).concat();
-        let streams = (0..self.book.streams.len()).map(|row| self.stream(row)).collect::<String>();
+        let ways = (0..self.book.ways.len()).map(|row| self.way(row)).collect::<String>();
         format!(
             "<svg class=\"defs\" width=\"0\" height=\"0\" aria-hidden=\"true\"><defs>\n{HATCH}\
              <g id=\"nodes\" class=\"node-names\">\
              <text x=\"-{BESIDE_ROW}\" y=\"{NUMBERS}\">node</text>{nodes}</g>\n\
-             {grounds}{streams}</defs></svg>\n"
+             {grounds}{ways}</defs></svg>\n"
         )
     }
 
@@ -78,23 +78,23 @@ impl Sketch<'_> {
         (0..usize::from(self.book.slots)).map(number).collect()
     }
 
-    /// The hops of a stream, in one group for each tile of its period that has any.
-    fn stream(&self, row: usize) -> String {
-        let stream = &self.book.streams[row];
+    /// The hops of a route, in one group for each tile of its period that has any.
+    fn way(&self, row: usize) -> String {
+        let way = &self.book.ways[row];
         let tile_of = |offset: u16| tile_of(self.book, offset);
-        let tiles = stream.offsets.iter().map(|&offset| tile_of(offset)).collect::<BTreeSet<_>>();
-        let colour = colour(self.book, row);
+        let tiles = way.offsets.iter().map(|&offset| tile_of(offset)).collect::<BTreeSet<_>>();
+        let class = colour(self.book, row) + dashes(way);
         let part = |&tile: &u16| {
-            let within = hops(stream).filter(|hop| tile_of(hop.offset) == tile);
-            let cells = within.map(|hop| self.hop(stream, &hop)).collect::<String>();
-            format!("<g id=\"{}\" class=\"{colour}\">{cells}</g>\n", part_name(row, tile))
+            let within = hops(way).filter(|hop| tile_of(hop.offset) == tile);
+            let cells = within.map(|hop| self.hop(way, &hop)).collect::<String>();
+            format!("<g id=\"{}\" class=\"{class}\">{cells}</g>\n", part_name(row, tile))
         };
         tiles.iter().map(part).collect()
     }
 
     /// The two cells of a hop: one node sends, the other receives.
-    fn hop(&self, stream: &Stream, hop: &Hop) -> String {
-        let is_last = hop.place + 1 == stream.offsets.len();
+    fn hop(&self, way: &Way, hop: &Hop) -> String {
+        let is_last = hop.place + 1 == way.offsets.len();
         let sends = if hop.place == 0 { "sends from above" } else { "forwards from buffer" };
         let receives = if is_last { "receives for above" } else { "receives to buffer" };
         let Hop { from, to, offset, .. } = *hop;
@@ -102,13 +102,13 @@ impl Sketch<'_> {
         format!(
             "<g><title>{}, offset {offset}: node {from} {sends}, node {to} {receives}</title>\
              {}{}</g>",
-            title(stream),
-            self.cell("sends", slot, from, stream),
-            self.cell("receives", slot, to, stream)
+            title(way),
+            self.cell("sends", slot, from, way),
+            self.cell("receives", slot, to, way)
         )
     }
 
-    fn cell(&self, class: &str, slot: u16, node: u8, stream: &Stream) -> String {
+    fn cell(&self, class: &str, slot: u16, node: u8, way: &Way) -> String {
         let (left, top) = (usize::from(slot) * self.column, HEAD + usize::from(node) * ROW);
         format!(
             "<g class=\"{class}\"><rect x=\"{}\" y=\"{}\" width=\"{}\" height=\"{}\"/>\
@@ -119,7 +119,7 @@ impl Sketch<'_> {
             ROW - 2 * INSET,
             length(left as f64 + self.column as f64 / 2.0),
             top + BASE,
-            name(stream)
+            name(way)
         )
     }
 }

@@ -1,6 +1,6 @@
 //! The tiles of the grid, each put together from parts that are drawn once.
 
-use crate::book::{Book, Stream};
+use crate::book::{Book, Way};
 use crate::page::hops::tile_of;
 use crate::page::identity::name;
 use crate::page::traffic::names;
@@ -31,7 +31,7 @@ pub struct Sketch<'a> {
 
 impl<'a> Sketch<'a> {
     pub fn new(book: &'a Book) -> Sketch<'a> {
-        let names = book.streams.iter().map(|stream| name(stream).chars().count());
+        let names = book.ways.iter().map(|way| name(way).chars().count());
         let column = COLUMN.max(names.max().unwrap_or(0) * CHARACTER + BESIDE_NAME);
         let height = HEAD + book.links.len() * ROW;
         Sketch { book, column, width: column * usize::from(book.slots), height }
@@ -39,10 +39,9 @@ impl<'a> Sketch<'a> {
 
     /// The rows of the book with a hop in a tile.
     fn at_work(&self, tile: u16) -> Vec<usize> {
-        let is_here =
-            |stream: &Stream, &offset: &u16| tile_of(self.book, offset) == tile % stream.period;
-        let rows = self.book.streams.iter().enumerate();
-        let at_work = rows.filter(|(_, stream)| stream.offsets.iter().any(|o| is_here(stream, o)));
+        let is_here = |way: &Way, &offset: &u16| tile_of(self.book, offset) == tile % way.period;
+        let rows = self.book.ways.iter().enumerate();
+        let at_work = rows.filter(|(_, way)| way.offsets.iter().any(|o| is_here(way, o)));
         at_work.map(|(row, _)| row).collect()
     }
 
@@ -60,7 +59,7 @@ impl<'a> Sketch<'a> {
             names => format!("streams {names}"),
         };
         let part = |&row: &usize| {
-            let part = part_name(row, tile % self.book.streams[row].period);
+            let part = part_name(row, tile % self.book.ways[row].period);
             format!("<use href=\"#{part}\"/>")
         };
         format!(

@@ -43,7 +43,8 @@ returns c =
     let st = c .before .before .before in
     let l = c .before .before .loop in
     subst (λ (n : ℕ). DataSlots (thePlan (st .args .plan)) (l .sum * n)) (sym (c .wide322 .ensures .0))
-    (data-slots (thePlan (st .args .plan)) (st .pre) (l .inv .2 ∙ ap (λ (n : ℕ). sumBelow n (dataIn (thePlan (st .args .plan)))) (le-antisymm (l .inv .0) (c .before .loop-test .left))))
+    (data-slots (thePlan (st .args .plan)) (st .pre)
+    (l .inv .2 ∙ ap (λ (n : ℕ). sumBelow n (dataIn (thePlan (st .args .plan)))) (le-antisymm (l .inv .0) (c .before .loop-test .left))))
 
 pub data-slots-spec : {M : Type 1} → statement M
 data-slots-spec =

@@ -20,7 +20,8 @@ mul-result c =
 
 returns : tie.Need-returns
 returns c =
-    let turns = c .before .before .wide32 .ensures .0 ∙ c .before .before .before .repeats-of .ensures .0 ∙ ap repeats (c .before .before .before .before .period-at .ensures .0) in
+    let turns = c .before .before .wide32 .ensures .0 ∙ c .before .before .before .repeats-of .ensures .0
+    ∙ ap repeats (c .before .before .before .before .period-at .ensures .0) in
     let stop = stop-at (c .before .before .before .before .before .before .before .before .stop-of .ensures) (c .before .before .before .before .before .before .stop .given .1) in
     row-used stop turns (c .before .hops-at .ensures .0) (c .ends .ensures .0)
 

@@ -7,7 +7,8 @@ use Rattle.clash.proofs.reach_of.Tie as tie
 returns : tie.Need-returns
 returns c =
     let b = c .before .before .before .before .before .before .before .before .before in
-    reach-law (b .pre) (c .before .before .before .before .before .insert .ensures) (c .before .before .before .before .insert2 .ensures) (c .before .before .union .ensures) (c .union2 .ensures)
+    reach-law (b .pre) (c .before .before .before .before .before .insert .ensures) (c .before .before .before .before .insert2 .ensures) (c .before .before .union .ensures)
+    (c .union2 .ensures)
 
 pub reach-of-spec : {M : Type 1} → statement M
 reach-of-spec =

@@ -13,7 +13,7 @@ returns c = reply-refused (c .before .if1 .taken) (λ z. omega arith) (c .refuse
 
 take-out-requires : tie.Need-take-out-requires
 take-out-requires c κs =
-    (c .before .before .before .before .before .before .before .before .pre, subst (SpotOf _ _) (c .before .before .at .given .1) (c .before .before .before .before .find .ensures))
+    let f = c .before .before .before .before in (f .before .before .before .before .pre, subst (SpotOf _ _) (c .before .before .at .given .1) (f .find .ensures))
 
 returns-2 : tie.Need-returns-2
 returns-2 c =

@@ -1,7 +1,7 @@
 -- The rows are passed while their ids are lower.
 use native.Mathlib.Omega.{arith}
 use borrow.Author.Needs.{needs}
-use mathlib.Core.Path.{_≡_, refl, sym, _∙_, subst}
+use mathlib.Core.Path.{refl, sym, _∙_, subst}
 use Prim.Native.Nat.{ℕ, _<_}
 use Rattle.image.proofs.Stands.{stands-row}
 use Rattle.reader.specs.Cuts.{CutAt}
@@ -79,7 +79,8 @@ loop-less c = omega arith
 loop-again : tie.Need-loop-again Inv-loop μ-loop
 loop-again c =
     let row = subst (CutAt (c .before .before .before .before .before .before .before .before .before .before .before .args .image .now)
-    (c .before .before .before .before .before .before .before .loop .at)) (c .before .before .before .here .given .1) (c .before .before .before .before .before .row-here .ensures) in
+    (c .before .before .before .before .before .before .before .loop .at)) (c .before .before .before .here .given .1)
+    (c .before .before .before .before .before .row-here .ensures) in
     let l : c .before .before .before .here .given .0 .0 < c .before .before .before .before .before .before .before .before .before .before .before .args .id = omega
     (arith, c .before .if1 .left, c .if2 .left) in
     passed-next (c .before .before .before .before .before .before .loop-test .taken) (c .before .before .before .before .before .before .before .loop .inv) (row .2)

@@ -1,25 +1,33 @@
--- A row has 5 bytes and 3 for each hop.
+-- A row is as long as its version and its hop count say.
+use native.Mathlib.Omega.{arith}
 use borrow.Author.Needs.{needs}
 use Rattle.image.proofs.Places.{no-front, tests-whole}
 use Rattle.image.proofs.is_whole.Statement.{statement}
 use Rattle.image.proofs.is_whole.Tie as tie
 
 returns : tie.Need-returns
-returns c = no-front _ _ (c .before .before .pre) (c .if1 .taken)
+returns c = no-front _ _ (c .before .before .pre) (omega (arith, c .if1 .taken))
 
 returns-2 : tie.Need-returns-2
-returns-2 c =
-    tests-whole _ _ (c .before .before .before .before .pre) _ (c .count .ensures .0) (c .before .before .if1 .left)
+returns-2 c = no-front _ _ (c .before .before .before .before .pre) (omega (arith, c .if2 .taken, c .before .hops-place-in .ensures .0))
+
+returns-3 : tie.Need-returns-3
+returns-3 c =
+    let start = c .before .before .before .before .before .before in
+    tests-whole (start .args .image .now) (start .args .at) (start .pre) _ _ (c .before .before .before .hops-place-in .ensures .0) (c .count .ensures .0)
+    (c .before .before .if2 .left)
 
 pub is-whole-spec : {M : Type 1} → statement M
-is-whole-spec =
-    tie.close
-    (tie.spec
+is-whole-spec = tie.close (tie.spec
     (λ c. search needs)
     returns
+    (λ c κs. search needs)
+    (λ c. search needs)
+    returns-2
+    (λ c. search needs)
     (λ c. search needs)
     (λ c. search needs)
     (λ c κs. search needs)
     (λ c. search needs)
     (λ c. search needs)
-    returns-2)
+    returns-3)

@@ -1,18 +1,20 @@
--- A row is 5 bytes and 3 for each hop.
+-- A row is as long as its version and its hop count say.
 use native.Mathlib.Omega.{arith}
 use borrow.Author.Needs.{needs}
-use Rattle.image.specs.Places.{nextAt}
+use Rattle.image.proofs.Places.{next-stated}
 use Rattle.image.proofs.next.Statement.{statement}
 use Rattle.image.proofs.next.Tie as tie
 
 returns : tie.Need-returns
-unfolding nextAt
-returns c = let w = c .before .before .before .pre in (omega arith, omega arith)
+returns c =
+    let start = c .before .before .before .before in
+    let e = next-stated (start .args .image .now) (start .args .at) _ _ (c .before .before .hops-place-in .ensures .0) (c .count .ensures .0) in
+    (e, omega (arith, e, start .pre .fits))
 
 pub next-spec : {M : Type 1} → statement M
-next-spec =
-    tie.close
-    (tie.spec
+next-spec = tie.close (tie.spec
+    (λ c κs. search needs)
+    (λ c. search needs)
     (λ c. search needs)
     (λ c. search needs)
     (λ c κs. search needs)

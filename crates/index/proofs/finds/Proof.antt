@@ -28,7 +28,8 @@ returns : tie.Need-returns Inv-loop μ-loop
 returns c =
     let w = c .before .before .before .before .before .loop .inv in
     let more = c .before .before .before .before .loop-test .taken in
-    said-yes (finds-within (c .before .before .before .before .before .before .before .before .args .repeats) more (finds-here (w .0) more (c .before .in-reach .ensures) (c .if1 .taken)))
+    said-yes (finds-within (c .before .before .before .before .before .before .before .before .args .repeats) more
+    (finds-here (w .0) more (c .before .in-reach .ensures) (c .if1 .taken)))
 
 loop-again : tie.Need-loop-again Inv-loop μ-loop
 loop-again c =

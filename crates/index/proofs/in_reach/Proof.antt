@@ -1,5 +1,4 @@
 -- What is in one of the two parts is in reach, as one that sends or one that receives.
-use mathlib.Core.Path.{_≡_}
 use mathlib.Core.Logic.{_⊎_, inl, inr, ⊎-elim}
 use Prim.Native.Nat.{ℕ}
 use borrow.Author.Needs.{needs}

@@ -8,7 +8,6 @@ use Rattle.rules.specs.Image.{linksOf, hearingOf, RowsOf}
 use Rattle.rules.proofs.Tests.{fails}
 use Rattle.rules.proofs.Hearing.{heard-links}
 use Rattle.rules.proofs.Reading.{rowsIn}
-use Rattle.rows.specs.Frame.{ReadFrom}
 use Rattle.rows.proofs.Walks.{links-read, nodes-read, topology-read}
 use Rattle.lawful.proofs.Verdicts.{unsound, no-rows, meeting-hops, lawful-book}
 use Rattle.lawful.proofs.body_verdict.Statement.{statement}
@@ -38,7 +37,8 @@ rows-hold-requires c κs = let p = c .before .before .before .before .before .pr
 sound-here : (c : tie.Else1) → let s = c .before .before .before .before .before .args .image .now in SoundTopologies (linksOf s) (hearingOf s)
 sound-here c =
     let p = c .before .before .before .before .before .pre in
-    heard-links _ (subst SoundTopology (topology-read (links-read (p .1) (p .2) (c .before .before .before .sets .ensures))) (c .before .sound .ensures .yes (not-false _ (c .if1 .left))))
+    heard-links _ (subst SoundTopology (topology-read (links-read (p .1) (p .2) (c .before .before .before .sets .ensures)))
+    (c .before .sound .ensures .yes (not-false _ (c .if1 .left))))
 
 returns-2 : tie.Need-returns-2
 returns-2 c =
@@ -55,14 +55,18 @@ hops-meet-requires c κs =
     record {
       framed = p .1;
       header = p .2;
-      hearing-read = record { rows-are = links-read (p .1) (p .2) (c .before .before .before .before .before .before .sets .ensures) .links-are; sound = sound-here (c .before .before .before) };
+      hearing-read = record {
+        rows-are = links-read (p .1) (p .2) (c .before .before .before .before .before .before .sets .ensures) .links-are;
+        sound = sound-here (c .before .before .before);
+      };
       rows = rows-here (c .before);
     }
 
 returns-3 : tie.Need-returns-3
 returns-3 c =
     let p = c .before .before .before .before .before .before .before .before .before .before .pre in
-    meeting-hops _ (p .0) (p .1) (sound-here (c .before .before .before .before .before)) (rows-here (c .before .before .before)) (c .before .hops-meet .ensures .met .yes (c .if3 .taken))
+    meeting-hops _ (p .0) (p .1) (sound-here (c .before .before .before .before .before)) (rows-here (c .before .before .before))
+    (c .before .hops-meet .ensures .met .yes (c .if3 .taken))
 
 returns-4 : tie.Need-returns-4
 returns-4 c =

@@ -1,9 +1,9 @@
 -- The tests are made in the order of the refusals.
-use native.Mathlib.Omega.{arith}
+use mathlib.Core.Path.{sym, _∙_}
 use borrow.Author.Needs.{needs}
 use borrow.Author.Tests.{not-true, not-false}
 use Rattle.rules.proofs.Tests.{fails}
-use Rattle.lawful.proofs.Verdicts.{short, unmarked, out-of-range, wrong-length}
+use Rattle.lawful.proofs.Verdicts.{stated, short, unmarked, out-of-range, wrong-length}
 use Rattle.lawful.proofs.verdict.Statement.{statement}
 use Rattle.lawful.proofs.verdict.Tie as tie
 
@@ -16,20 +16,23 @@ returns-2 c = unmarked _ (c .before .before .if1 .left) (fails (c .before .is-ma
 returns-3 : tie.Need-returns-3
 returns-3 c =
     out-of-range _ (c .before .before .before .before .before .if1 .left)
-    (c .before .before .before .before .is-marked .ensures .yes (not-false _ (c .before .before .before .if2 .left))) (fails (c .before .fields-in-range .ensures) (not-true _ (c .if3 .taken)))
+    (c .before .before .before .before .is-marked .ensures .yes (not-false _ (c .before .before .before .if2 .left)))
+    (fails (c .before .fields-in-range .ensures) (not-true _ (c .if3 .taken)))
 
 returns-4 : tie.Need-returns-4
 returns-4 c =
     wrong-length _ (c .before .before .before .before .before .before .before .if1 .left)
     (c .before .before .before .before .before .before .is-marked .ensures .yes (not-false _ (c .before .before .before .before .before .if2 .left)))
-    (c .before .before .before .fields-in-range .ensures .yes (not-false _ (c .before .before .if3 .left))) (λ e. omega arith)
+    (c .before .before .before .fields-in-range .ensures .yes (not-false _ (c .before .before .if3 .left)))
+    (λ e. c .if4 .taken (e ∙ sym (stated (c .before .before .before .before .read .ensures) (c .before .image-length .ensures))))
 
 body-verdict-requires : tie.Need-body-verdict-requires
 body-verdict-requires c κs =
-    let fields = c .before .before .before .before .fields-in-range .ensures .yes (not-false _ (c .before .before .before .if3 .left)) in (
+    let fields = c .before .before .before .before .fields-in-range .ensures .yes (not-false _ (c .before .before .before .if3 .left)) in
+    let header = c .before .before .before .before .before .read .ensures in (
       c .before .before .before .before .before .before .before .is-marked .ensures .yes (not-false _ (c .before .before .before .before .before .before .if2 .left)),
-      record { fields = fields; size = omega arith },
-      c .before .before .before .before .before .read .ensures,
+      record { fields = fields; size = c .before .if4 .left ∙ stated header (c .before .before .image-length .ensures) },
+      header,
     )
 
 pub verdict-spec : {M : Type 1} → statement M

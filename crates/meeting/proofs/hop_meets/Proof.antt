@@ -2,7 +2,8 @@
 use native.Mathlib.Omega.{arith}
 use Prim.Native.Nat.{_+_}
 use borrow.Author.Needs.{needs}
-use Rattle.meeting.proofs.Reaching.{node-small, hop-in-index, between-here, hop-marked}
+use Rattle.rows.proofs.Walks.{node-small}
+use Rattle.meeting.proofs.Reaching.{hop-in-index, between-here, hop-marked}
 use Rattle.meeting.proofs.hop_meets.Statement.{statement}
 use Rattle.meeting.proofs.hop_meets.Tie as tie
 
@@ -17,8 +18,8 @@ mark-requires c κs =
     let p = a .pre in (
       p .3,
       hop-in-index (p .0) (p .2) (c .before .before .offset-at .ensures .0),
-      omega (arith, node-small (p .0) (a .args .i) (omega arith)),
-      omega (arith, node-small (p .0) (a .args .i + 1) (omega arith)),
+      omega (arith, node-small (p .0 .framed) (p .0 .row) (a .args .i) (omega arith)),
+      omega (arith, node-small (p .0 .framed) (p .0 .row) (a .args .i + 1) (omega arith)),
     )
 
 returns : tie.Need-returns

@@ -12,10 +12,12 @@ find-requires : tie.Need-find-requires
 find-requires c κs = c .before .before .pre .image .newest .lawful
 
 open-new-requires : tie.Need-open-new-requires
-open-new-requires c κs = record {
-  asked = c .before .before .before .before .before .before .before .pre;
-  vacant = subst (SpotOf _ _) (c .before .before .at .given .1) (c .before .before .before .before .find .ensures);
-}
+open-new-requires c κs =
+    record {
+      asked = c .before .before .before .before .before .before .before .before .pre;
+      vacant = subst (SpotOf _ _) (c .before .before .before .at .given .1)
+          (c .before .before .before .before .before .find .ensures);
+    }
 
 returns : tie.Need-returns
 returns c =
@@ -24,8 +26,8 @@ returns c =
 
 returns-2 : tie.Need-returns-2
 returns-2 c =
-    reply-next (λ k. vacant-unknown (subst (SpotOf _ _) (c .before .before .before .before .before .at .given .1) (c .before .before .before .before .before .before .before .find .ensures)) k)
-    (c .before .before .open-new .ensures)
+    reply-next (λ k. vacant-unknown (subst (SpotOf _ _) (c .before .before .before .before .before .before .at .given .1)
+    (c .before .before .before .before .before .before .before .before .find .ensures)) k) (c .before .before .open-new .ensures)
 
 pub open-asked-spec : {M : Type 1} → statement M
 open-asked-spec =

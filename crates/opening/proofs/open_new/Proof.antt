@@ -5,10 +5,8 @@ use mathlib.Core.List.{List}
 use Prim.Native.Nat.{ℕ, _+_}
 use lib.ListN.{length, take}
 use lib.Seq.{length-take-le}
-use Rattle.rules.specs.Placing.Planned.{one}
 use Rattle.rules.proofs.Cases.{far-some}
 use Rattle.answers.proofs.Replies.{reply-refused, reply-next}
-use Rattle.opening.proofs.Routed.{routed-new}
 use Rattle.opening.proofs.Planned.{hops-most, nodes-most, links-inside, same-links, asked, planned-route, planned-none, planned-far}
 use borrow.Author.Needs.{needs}
 use Rattle.opening.proofs.open_new.Statement.{statement}
@@ -43,46 +41,43 @@ add-end c = omega (arith, hops-most _ _ _ _ (c .before .plan .result) (c .before
 
 array-share-prefix-rows-2 : tie.Need-array-share-prefix-rows-2
 array-share-prefix-rows-2 c =
-    let a = c .before .before .before .before .before .before .before .before .before in
-    let rows : List ℕ = c .before .before .before .before .before .before .sets .result in
-    let ok = c .before .before .before .before .before .before .sets .ok in
+    let a = c .before .before .before .before .before .before .before .before .before .before in
+    let rows : List ℕ = c .before .before .before .before .before .before .before .sets .result in
+    let ok = c .before .before .before .before .before .before .before .sets .ok in
     let n : length rows ≡ 64 = search needs in
     omega (arith, nodes-most (a .pre .asked))
 
 slice-aggregate-open-routed : tie.Need-slice-aggregate-open-routed
 slice-aggregate-open-routed c =
-    let a = c .before .before .before .before .before .before .before .before .before .before in
-    let rows : List ℕ = c .before .before .before .before .before .before .before .sets .result in
-    let ok = c .before .before .before .before .before .before .before .sets .ok in
+    let a = c .before .before .before .before .before .before .before .before .before .before .before in
+    let rows : List ℕ = c .before .before .before .before .before .before .before .before .sets .result in
+    let ok = c .before .before .before .before .before .before .before .before .sets .ok in
     let n : length rows ≡ 64 = search needs in
     sym (length-take-le (a .args .book .nodes) rows (omega (arith, nodes-most (a .pre .asked))))
 
 array-share-prefix-nodes : tie.Need-array-share-prefix-nodes
 array-share-prefix-nodes c =
-    let planned = c .before .before .before .before .before .plan in
+    let planned = c .before .before .before .before .before .before .plan in
     let few = hops-most _ _ _ _ (planned .result) (planned .ensures) in
     let n : length (planned .result .nodes) ≡ 16 = search needs in
     omega arith
 
 slice-aggregate-open-routed-2 : tie.Need-slice-aggregate-open-routed-2
 slice-aggregate-open-routed-2 c =
-    let planned = c .before .before .before .before .before .before .plan in
+    let planned = c .before .before .before .before .before .before .before .plan in
     let few = hops-most _ _ _ _ (planned .result) (planned .ensures) in
     let n : length (planned .result .nodes) ≡ 16 = search needs in
     sym (length-take-le (planned .result .hops + 1) (planned .result .nodes) (omega arith))
 
 open-routed-requires : tie.Need-open-routed-requires
 open-routed-requires c κs =
-    let a = c .before .before .before .before .before .before .before .before .before .before .before .before in
-    let route = planned-route (a .pre .asked) (c .before .before .before .before .before .before .before .before .before .sets .ensures)
-    (c .before .before .before .before .before .before .before .plan .result) (c .before .before .before .before .before .before .before .plan .ensures)
-    (c .before .before .before .enum-told3 .given .1) in
+    let a = c .before .before .before .before .before .before .before .before .before .before .before .before .before in
     record {
       new = a .pre;
-      heard = same-links (a .pre .asked)
-          (c .before .before .before .before .before .before .before .before .before .sets .ensures);
-      path = route .is .between .path;
-      few = route .is .most;
+      linked = same-links (a .pre .asked) (c .before .before .before .before .before .before .before .before .before .before .sets .ensures);
+      planned = planned-route (a .pre .asked) (c .before .before .before .before .before .before .before .before .before .before .sets .ensures)
+          (c .before .before .before .before .before .before .before .before .plan .result) (c .before .before .before .before .before .before .before .before .plan .ensures)
+          (c .before .before .before .before .enum-told3 .given .1);
     }
 
 returns : tie.Need-returns
@@ -96,16 +91,12 @@ returns-2 : tie.Need-returns-2
 returns-2 c =
     let a = c .before .before .before .before .before .before .before .before .before .before in
     let planned = c .before .before .before .before .before .plan in
-    let far = planned-far (a .pre .asked) (c .before .before .before .before .before .before .before .sets .ensures) (planned .result) (planned .ensures) (c .before .enum-told2 .given .1) in
+    let far = planned-far (a .pre .asked) (c .before .before .before .before .before .before .before .sets .ensures) (planned .result) (planned .ensures)
+    (c .before .enum-told2 .given .1) in
     reply-next (far-some far) (reply-refused far (λ z. omega arith) (c .refused2 .ensures .0) (c .refused2 .ensures .1))
 
 returns-3 : tie.Need-returns-3
-returns-3 c =
-    let a = c .before .before .before .before .before .before .before .before .before .before .before .before .before .before .before in
-    let route = planned-route (a .pre .asked) (c .before .before .before .before .before .before .before .before .before .before .before .before .sets .ensures)
-    (c .before .before .before .before .before .before .before .before .before .before .plan .result)
-    (c .before .before .before .before .before .before .before .before .before .before .plan .ensures) (c .before .before .before .before .before .before .enum-told3 .given .1) in
-    routed-new (a .args .image .now) _ _ (one route) (c .before .before .open-routed .ensures)
+returns-3 c = c .before .before .open-routed .ensures
 
 pub open-new-spec : {M : Type 1} → statement M
 open-new-spec =

@@ -12,9 +12,9 @@ read-requires c κs = stored-long (c .before .before .pre .newest .lawful)
 
 open-asked-requires : tie.Need-open-asked-requires
 open-asked-requires c κs =
-    let start = c .before .before .before .before .before .before .before .before in
-    judged-beside (c .before .before .before .before .before .read .ensures)
-    (subst (JudgedBy _ _) (c .before .before .place .given .1) (c .before .before .before .before .judge .ensures)) (start .pre)
+    judged-beside (c .before .before .before .before .before .before .read .ensures)
+    (subst (JudgedBy _ _) (c .before .before .before .place .given .1) (c .before .before .before .before .before .judge .ensures))
+    (c .before .before .before .before .before .before .before .before .before .pre)
 
 returns : tie.Need-returns
 returns c =
@@ -23,9 +23,9 @@ returns c =
 
 returns-2 : tie.Need-returns-2
 returns-2 c =
-    let arm = c .before .before .before in
-    judged-opens (arm .before .before .before .before .before .read .ensures)
-    (subst (JudgedBy _ _) (arm .before .before .place .given .1) (arm .before .before .before .before .judge .ensures)) (c .before .before .open-asked .ensures)
+    judged-opens (c .before .before .before .before .before .before .before .before .before .read .ensures)
+    (subst (JudgedBy _ _) (c .before .before .before .before .before .before .place .given .1)
+    (c .before .before .before .before .before .before .before .before .judge .ensures)) (c .before .before .open-asked .ensures)
 
 pub open-on-spec : {M : Type 1} → statement M
 open-on-spec =

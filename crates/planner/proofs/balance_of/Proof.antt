@@ -21,7 +21,8 @@ returns-2 c =
     (c .before .before .before .before .read .ensures) _ (c .before .if2 .taken) (e .0) (e .1) (e .2) (e .3)
 
 count-requires : tie.Need-count-requires
-count-requires c κs = (c .before .before .before .before .before .verdict .ensures .stored (c .before .before .before .before .if1 .left), c .before .before .before .read .ensures)
+count-requires c κs =
+    (c .before .before .before .before .before .verdict .ensures .stored (c .before .before .before .before .if1 .left), c .before .before .before .read .ensures)
 
 returns-3 : tie.Need-returns-3
 returns-3 c =

@@ -20,7 +20,8 @@ returns-2 c =
     (c .before .before .before .before .read .ensures) _ _ (c .before .if2 .taken) (c .refused2 .ensures .0) (c .refused2 .ensures .1)
 
 table-length-requires : tie.Need-table-length-requires
-table-length-requires c κs = plan-held (c .before .before .before .before .before .verdict .ensures .stored (c .before .before .before .before .if1 .left)) (c .before .before .before .read .ensures)
+table-length-requires c κs =
+    plan-held (c .before .before .before .before .before .verdict .ensures .stored (c .before .before .before .before .if1 .left)) (c .before .before .before .read .ensures)
 
 returns-3 : tie.Need-returns-3
 returns-3 c =

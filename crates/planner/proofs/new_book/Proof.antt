@@ -1,12 +1,10 @@
 -- A new book is refused by its own number, or is written.
 use mathlib.Core.Path.{_≡_, sym, subst}
-use mathlib.Core.List.{List}
-use Prim.Native.Nat.{ℕ}
 use native.Mathlib.Omega.{arith}
 use borrow.Author.Tests.{not-true, not-false}
 use lib.ListN.{length, take}
 use lib.Seq.{length-take-le}
-use Rattle.rules.specs.Topology.{Topology, NodesInRange, SoundTopology}
+use Rattle.rules.specs.Topology.{NodesInRange, SoundTopology}
 use Rattle.rules.specs.Tiles.{PlanInRange}
 use Rattle.rules.specs.Image.{topologyAt}
 use Rattle.rules.specs.Periods.{thePlan}

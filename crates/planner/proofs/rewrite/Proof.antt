@@ -8,7 +8,9 @@ returns : tie.Need-returns
 returns c = rewrite-refused (c .before .before .verdict .ensures) (c .before .if1 .taken) (c .refused .ensures .0) _ (c .refused .ensures .1)
 
 returns-2 : tie.Need-returns-2
-returns-2 c = rewrite-short (c .before .before .before .verdict .ensures .stored (c .before .before .if1 .left)) _ (c .before .if2 .taken) (c .refused2 .ensures .0) (c .refused2 .ensures .1)
+returns-2 c =
+    rewrite-short (c .before .before .before .verdict .ensures .stored (c .before .before .if1 .left)) _ (c .before .if2 .taken) (c .refused2 .ensures .0)
+    (c .refused2 .ensures .1)
 
 returns-3 : tie.Need-returns-3
 returns-3 c =

@@ -42,7 +42,8 @@ loop-again : tie.Need-loop-again Inv-loop μ-loop
 loop-again c =
     let b = c .before .before .before .before in
     let d = b .before .before .before in
-    search-more _ _ _ _ (d .before .before .before .before .before .pre .0) (d .loop .inv) (b .before .intersection .ensures) (omega arith) (c .before .before .before .neighbours .ensures)
+    search-more _ _ _ _ (d .before .before .before .before .before .pre .0) (d .loop .inv) (b .before .intersection .ensures) (omega arith)
+    (c .before .before .before .neighbours .ensures)
     (c .before .before .intersection2 .ensures) (b .if1 .left) (c .difference2 .ensures)
 
 goes-on-requires : tie.Need-goes-on-requires Inv-loop μ-loop

@@ -47,7 +47,8 @@ returns-4 c =
     let start = c .before .before .before .before .before .before .before .before .before .before .before .before in
     let here = c .before .before .before .before .before .before in
     let n = c .before .before .before .before .node-at .ensures .0 in
-    said-no (λ p. at-fails _ _ (here .loop .inv .1) (λ h. fails (c .before .has .ensures) (not-true _ (c .if4 .taken)) (rw n h)) (omega (arith, whole-sized _ _ (start .pre .0))) (p .route))
+    said-no (λ p. at-fails _ _ (here .loop .inv .1) (λ h. fails (c .before .has .ensures) (not-true _ (c .if4 .taken)) (rw n h))
+    (omega (arith, whole-sized _ _ (start .pre .0))) (p .route))
 
 loop-again : tie.Need-loop-again Inv-loop μ-loop
 loop-again c =

@@ -1,23 +1,24 @@
 -- Each part of a row is tested.
 use mathlib.Core.Path.{subst, _≡_, sym, _∙_}
-use native.Mathlib.Omega.{arith}
 use borrow.Author.Needs.{needs}
+use borrow.Author.Tests.{not-true, not-false}
 use Rattle.rules.specs.Book.{LawfulRow}
 use Rattle.rules.specs.Periods.{thePlan}
 use Rattle.rules.specs.Tiles.{periodAt, Period}
-use Rattle.rules.proofs.Tests.{said-no, part-failed}
+use Rattle.rules.proofs.Tests.{fails, said-no, part-failed}
 use Rattle.bitset.specs.Rows.{topology}
 use Rattle.image.specs.Places.{rowAt}
 use Rattle.rows.specs.Walk.{judging}
 use Rattle.rules.proofs.Periods.{found-at, found-nowhere}
-use Rattle.rows.proofs.Single.{tests-row-rest}
+use Rattle.rows.proofs.Single.{lawful-key, tests-row-rest}
 use Rattle.rows.proofs.row_holds.Statement.{statement}
 use Rattle.rows.proofs.row_holds.Tie as tie
 
 returns : tie.Need-returns
 returns c =
     let start = c .before .before .before .before in
-    said-no (λ (w : (LawfulRow (judging (thePlan (start .args .plan)) (topology (start .args .links .now))) (rowAt (start .args .image .now) (start .args .at)))). omega arith)
+    said-no (λ (w : (LawfulRow (judging (thePlan (start .args .plan)) (topology (start .args .links .now))) (rowAt (start .args .image .now) (start .args .at)))).
+    fails (c .before .key-holds .ensures) (not-true _ (c .if1 .taken)) (lawful-key w))
 
 offsets-hold-requires : tie.Need-offsets-hold-requires
 offsets-hold-requires c κs =
@@ -30,7 +31,9 @@ returns-2 c =
     let p = found-at (c .before .before .before .before .before .before .place-of .ensures) (c .before .before .before .before .period .given .1) in
     let e : periodAt (c .before .before .before .before .period .given .0 .0) ≡ rowAt (start .args .image .now)
     (start .args .at) .period = p .1 ∙ c .before .before .before .before .before .before .before .period-at .ensures .0 in
-    tests-row-rest (p .0, e) (omega arith) (omega arith) (c .before .before .route-holds .ensures .yes (c .before .if2 .taken)) (c .offsets-hold .ensures)
+    let named = c .before .before .before .before .before .before .before .before in
+    tests-row-rest (p .0, e) (named .before .key-holds .ensures .yes (not-false _ (named .if1 .left)))
+    (c .before .before .route-holds .ensures .yes (c .before .if2 .taken)) (c .offsets-hold .ensures)
 
 returns-3 : tie.Need-returns-3
 returns-3 c =

@@ -14,11 +14,11 @@ shr-if1 c = tile-place _ _ (c .before .before .pre)
 
 returns : tie.Need-returns
 returns c =
-    (control-down (thePlan (c .before .before .before .before .args .plan)) (c .before .before .before .before .args .tile .0) (c .before .if1 .taken), c .before .before .before .before .pre .down)
+    let e = c .before .before .before .before in (control-down (thePlan (e .args .plan)) (e .args .tile .0) (c .before .if1 .taken), e .pre .down)
 
 returns-2 : tie.Need-returns-2
 returns-2 c =
-    (control-up (thePlan (c .before .before .before .before .args .plan)) (c .before .before .before .before .args .tile .0) (c .before .if1 .left), c .before .before .before .before .pre .up)
+    let e = c .before .before .before .before in (control-up (thePlan (e .args .plan)) (e .args .tile .0) (c .before .if1 .left), e .pre .up)
 
 pub control-slots-spec : {M : Type 1} → statement M
 control-slots-spec = tie.close (tie.spec rem-at shr-if1 returns returns-2)

@@ -1,5 +1,5 @@
 -- The slots of a period are its tiles' slots.
-use mathlib.Core.Path.{refl, ap}
+use mathlib.Core.Path.{ap}
 use Prim.Native.Nat.{ℕ, _*_}
 use native.Mathlib.Omega.{arith}
 use native.Mathlib.Nat.{mul-le-mul-right}
@@ -9,7 +9,10 @@ use Rattle.rules.proofs.span.Statement.{statement}
 use Rattle.rules.proofs.span.Tie as tie
 
 mul-t4 : tie.Need-mul-t4
-mul-t4 c = omega (arith, span-fits (c .before .before .before .args .s .0) (c .before .before .period-at .result .0) (c .before .before .before .pre .0) (c .before .before .period-at .ensures .1))
+mul-t4 c =
+    let e = c .before .before .before in
+    let p = c .before .before .period-at in
+    omega (arith, span-fits (e .args .s .0) (p .result .0) (e .pre .0) (p .ensures .1))
 
 returns : tie.Need-returns
 returns c = (

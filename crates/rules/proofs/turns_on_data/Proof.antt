@@ -43,8 +43,9 @@ returns : tie.Need-returns Inv-loop μ-loop
 returns c =
     let e = c .before .before .before .before .before .before .before .before .before in
     let s = c .before .before .before .before .before .before .span .ensures .0 in
+    let f = c .before .before .before .before .before .before .before in
     said-no (not-on-data (thePlan (e .args .plan)) (e .pre .0 .some) (periodAt (e .args .i)) (e .args .o .0) (c .before .before .before .before .before .loop .turn)
-    (omega (arith, c .before .before .before .before .before .before .before .fewer .ensures .1, c .before .before .before .before .before .before .before .before .repeats-at .ensures .0))
+    (omega (arith, f .fewer .ensures .1, f .before .repeats-at .ensures .0))
     (λ d. fails (c .before .is-data .ensures) (not-true _ (c .if1 .taken))
     (subst (λ (x : ℕ). Data (thePlan (e .args .plan)) (e .args .o .0 + c .before .before .before .before .before .loop .turn * x)) (sym s) d)))
 

@@ -9,7 +9,7 @@ returns : tie.Need-returns
 returns c =
     let m = c .before .before .before .before .before .if1 .taken in
     let last = c .before .before .before .before .before .before .before .before .pre .0 .1 .hops-is in
-    λ node s. to-done m (c .before .before .hop .ensures node (arrives s m last (c .before .before .before .before .arriving .ensures)))
+    λ node s. to-done m (c .before .before .hop .ensures node (arrives s m last (c .before .before .before .before .arriving .ensures .0)))
 
 pub arrive-spec : {M : Type 1} → statement M
 arrive-spec =

@@ -10,7 +10,7 @@ returns : tie.Need-returns
 returns c =
     let last = c .before .before .before .before .before .before .before .before .before .pre .0 .1 .hops-is in
     let m = c .before .before .before .before .before .if1 .taken in
-    λ node s. from-done (omega (arith, m, last)) (c .before .before .hop .ensures node (leaves s (c .before .before .before .before .leaving .ensures)))
+    λ node s. from-done (omega (arith, m, last)) (c .before .before .hop .ensures node (leaves s (c .before .before .before .before .leaving .ensures .0)))
 
 returns-2 : tie.Need-returns-2
 returns-2 c = λ node s. from-none (omega (arith, c .if1 .left, c .before .before .before .before .pre .0 .1 .hops-is))

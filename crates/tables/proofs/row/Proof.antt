@@ -11,7 +11,9 @@ visit-requires c κs =
     (st .pre .0, (stop-at (c .before .before .before .before .stop-of .ensures) (c .before .before .stop .given .1) .within, st .pre .1))
 
 returns : tie.Need-returns
-returns c = c .before .before .visit .ensures _ (stop-at (c .before .before .before .before .before .before .before .stop-of .ensures) (c .before .before .before .before .before .stop .given .1))
+returns c =
+    let stop = stop-at (c .before .before .before .before .before .before .before .stop-of .ensures) (c .before .before .before .before .before .stop .given .1) in
+    c .before .before .visit .ensures _ stop
 
 returns-2 : tie.Need-returns-2
 returns-2 c = row-none (stop-none (c .before .before .stop-of .ensures) (c .enum-told .given .1))

@@ -8,21 +8,23 @@ use Rattle.rules.specs.Tiles.{Period, repeats}
 use Rattle.tables.proofs.stream_at.Statement.{statement}
 use Rattle.tables.proofs.stream_at.Tie as tie
 
-mul-t8 : tie.Need-mul-t8
-mul-t8 c =
-    let k : c .before .wide .result ≤ 256 = omega (arith, c .before .wide .ensures .0, c .before .before .before .period-at .ensures .1) in
-    let s : c .wide2 .result ≤ 32 = omega (arith, c .wide2 .ensures .0, c .before .before .before .before .before .pre .2) in
+mul-t9 : tie.Need-mul-t9
+mul-t9 c =
+    let k : c .before .wide .result ≤ 256 = omega (arith, c .before .wide .ensures .0, c .before .before .before .before .period-at .ensures .1) in
+    let s : c .wide2 .result ≤ 32 = omega (arith, c .wide2 .ensures .0, c .before .before .before .before .before .before .pre .2) in
     omega (arith, mul-le-mul k s)
 
 repeats-of-requires : tie.Need-repeats-of-requires
-repeats-of-requires c κs = subst Period (sym (c .before .before .before .period-at .ensures .0)) (c .before .before .before .before .before .pre .0 .lawful .period)
+repeats-of-requires c κs =
+    subst Period (sym (c .before .before .before .before .period-at .ensures .0)) (c .before .before .before .before .before .before .pre .0 .lawful .period)
 
 returns : tie.Need-returns
 returns c =
-    let st = c .before .before .before .before .before .before .before .before in
-    let p = c .before .before .before .before .before .before .period-at .ensures .0 in
+    let st = c .before .before .before .before .before .before .before .before .before in
+    let p = c .before .before .before .before .before .before .before .period-at .ensures .0 in
     record {
-      id-is = c .before .before .before .before .before .id-at .ensures .0;
+      id-is = c .before .before .before .before .before .before .id-at .ensures .0;
+      way-is = c .before .before .before .before .before .way-at .ensures .0;
       step-is = ap₂ _*_ (c .before .before .before .before .wide .ensures .0 ∙ p) (c .before .before .before .wide2 .ensures .0 ∙ st .pre .1);
       turns-is = c .before .wide3 .ensures .0 ∙ c .before .before .repeats-of .ensures .0 ∙ ap repeats p;
       hops-is = c .hops-at .ensures .0;
@@ -36,7 +38,8 @@ stream-at-spec =
     (λ c κs. search needs)
     (λ c κs. search needs)
     (λ c κs. search needs)
-    mul-t8
+    (λ c κs. search needs)
+    mul-t9
     repeats-of-requires
     (λ c κs. search needs)
     (λ c κs. search needs)

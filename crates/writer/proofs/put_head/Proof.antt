@@ -25,7 +25,8 @@ returns c =
     let streams = hops .before .before .before .before in
     let front = streams .before .before .before .before in
     let a = front .before .before .before .before .before in
-    head-written _ _ _ _ _ (a .args .image .now) (a .args .to) _ _ (omega (arith, a .pre)) (front .put-part .ensures) (streams .put .ensures) (hops .put-word .ensures) (rest .put-part2 .ensures)
+    head-written _ _ _ _ _ (a .args .image .now) (a .args .to) _ _ (omega (arith, a .pre)) (front .put-part .ensures) (streams .put .ensures) (hops .put-word .ensures)
+    (rest .put-part2 .ensures)
 
 pub put-head-spec : {M : Type 1} → statement M
 put-head-spec =

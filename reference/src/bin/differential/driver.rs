@@ -2,11 +2,12 @@
 //! to the planner under test.
 
 use crate::dice::Dice;
-use crate::events::event;
+use crate::events::events;
+use crate::second_events::second_events;
 use crate::tally::Tally;
 use reference::calls::MAX_LISTED;
 use reference::frame::{Answer, Call, Request};
-use reference::image::LONGEST_IMAGE;
+use reference::version::Version;
 use std::sync::mpsc::SyncSender;
 
 /// A request and what the reference says to it.
@@ -63,7 +64,7 @@ impl Room {
             Room::Spare(more) => length + more,
             Room::Full if call == Call::Expand => LONGEST_TABLE,
             Room::Full if call == Call::Routes => LONGEST_LIST,
-            Room::Full => LONGEST_IMAGE as u16,
+            Room::Full => Version::NEWEST.longest_image() as u16,
             Room::Most => 16384,
         }
     }
@@ -102,9 +103,8 @@ impl Driver {
         }
         let expected = request.answer();
         self.tally.add(self.family, request.call, expected.number);
-        if let Some(name) = event(&request, &expected) {
-            self.tally.add_event(name);
-        }
+        self.tally.add_events(events(&request, &expected));
+        self.tally.add_events(second_events(&request, &expected));
         let exchange = Exchange { family: self.family, request, expected: expected.clone() };
         self.batch.push(exchange);
         if self.batch.len() == BATCH {

@@ -1,19 +1,58 @@
 //! What must have happened in a run, beside every number of every call.
 
+use reference::book::Book;
 use reference::calls::MAX_LISTED;
 use reference::frame::{Answer, Call, Request};
+use reference::image;
 use reference::refusal::DONE;
+use reference::version::Version;
 
 const NO_ROUTE: &str = "route lists without a route";
 const FEW_ROUTES: &str = "route lists of 1 to 31";
 const ALL_LISTED: &str = "route lists of just 32";
 const MORE_EXIST: &str = "route lists where more exist";
+const OLDER_READ: &str = "calls done on a book of an older version";
+const OLDER_KEPT: &str = "older versions kept by a rewrite";
+const OLDER_CHANGED: &str = "older versions written in the newest by a change";
+const SECOND_OPENED: &str = "second routes opened";
+const BOTH_CLOSED: &str = "streams closed with both their routes";
 
-pub const EVENTS: [&str; 4] = [NO_ROUTE, FEW_ROUTES, ALL_LISTED, MORE_EXIST];
+pub const EVENTS: [&str; 9] = [
+    NO_ROUTE,
+    FEW_ROUTES,
+    ALL_LISTED,
+    MORE_EXIST,
+    OLDER_READ,
+    OLDER_KEPT,
+    OLDER_CHANGED,
+    SECOND_OPENED,
+    BOTH_CLOSED,
+];
 
-/// The event of a call, if it has one.
-pub fn event(request: &Request, answer: &Answer) -> Option<&'static str> {
-    (request.call == Call::Routes && answer.number == DONE).then(|| routes_event(answer))
+/// The events of one call.
+pub fn events(request: &Request, answer: &Answer) -> Vec<&'static str> {
+    if answer.number != DONE {
+        return Vec::new();
+    }
+    // The bytes of a new book are its links.
+    let Ok((version, book)) = image::read(&request.bytes) else { return Vec::new() };
+    let older = version < Version::NEWEST;
+    let mut events = match request.call {
+        Call::Routes => vec![routes_event(answer)],
+        Call::Rewrite if older => vec![OLDER_KEPT],
+        Call::Open | Call::Close if older => vec![OLDER_CHANGED],
+        _ => Vec::new(),
+    };
+    if older {
+        events.push(OLDER_READ);
+    }
+    if request.call == Call::Open && request.second {
+        events.push(SECOND_OPENED);
+    }
+    if request.call == Call::Close && rows_of(&book, request.id) == 2 {
+        events.push(BOTH_CLOSED);
+    }
+    events
 }
 
 fn routes_event(answer: &Answer) -> &'static str {
@@ -30,4 +69,9 @@ fn routes_event(answer: &Answer) -> &'static str {
         (MAX_LISTED, _) => ALL_LISTED,
         _ => FEW_ROUTES,
     }
+}
+
+/// The rows of a stream.
+fn rows_of(book: &Book, id: u16) -> usize {
+    book.rows.iter().filter(|row| row.id == id).count()
 }

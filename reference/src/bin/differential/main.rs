@@ -6,8 +6,9 @@
 //! `differential --self` puts them to the reference itself.
 //!
 //! It fails on the first differences, and where an answer number that the
-//! documents make possible for a call, or an event of `events`, was never reached. `--cases` sets how many
-//! calls are thrown beside the fixed ones.
+//! documents make possible for a call, or one of `events` and `second_events`,
+//! was never reached. `--cases` sets how many calls are thrown beside the fixed
+//! ones.
 
 mod dice;
 mod driver;
@@ -15,6 +16,7 @@ mod events;
 mod families;
 mod planner;
 mod requests;
+mod second_events;
 mod site;
 mod tally;
 

@@ -158,11 +158,14 @@ fn difference(call: u64, exchange: &Exchange, answer: &Answer) -> String {
 
 /// The request in words, with its book.
 fn show(exchange: &Exchange) -> String {
-    let Request { call, id, node, destination, period, s, c, kinds, d, u, n, .. } =
-        exchange.request;
+    let Request { call, id, node, destination, period, second, .. } = exchange.request;
+    let Request { s, c, kinds, d, u, n, .. } = exchange.request;
     let arguments = match call {
         Call::New => format!("S={s} C={c} kinds={kinds:#b} D={d} U={u} N={n}"),
-        _ => format!("id {id}, node or source {node}, destination {destination}, period {period}"),
+        _ => format!(
+            "id {id}, node or source {node}, destination {destination}, period {period}, \
+             second {second}"
+        ),
     };
     let Request { bytes, room, fill, .. } = &exchange.request;
     let hex: String = bytes.iter().map(|byte| format!("{byte:02X}")).collect();

@@ -33,6 +33,11 @@ pub fn open(book: &[u8], id: u16, source: u8, destination: u8, period: u16) -> R
     Request { id, node: source, destination, period, ..on(Call::Open, book) }
 }
 
+/// An open that also asks for a second route.
+pub fn open_with_second(book: &[u8], id: u16, source: u8, destination: u8, period: u16) -> Request {
+    Request { second: true, ..open(book, id, source, destination, period) }
+}
+
 pub fn close(book: &[u8], id: u16) -> Request {
     Request { id, ..on(Call::Close, book) }
 }
@@ -82,7 +87,8 @@ pub fn any(dice: &mut Dice, call: Call, book: &[u8], ids: &[u16]) -> Request {
 fn any_open(dice: &mut Dice, book: &[u8], nodes: u8, ids: &[u16]) -> Request {
     let id = any_id(dice, ids, 6);
     let (source, destination) = any_ends(dice, nodes);
-    open(book, id, source, destination, any_period(dice))
+    let second = dice.chance(35);
+    Request { second, ..open(book, id, source, destination, any_period(dice)) }
 }
 
 /// A source and a destination, now and then the same node.

@@ -1,12 +1,15 @@
 //! Sites: tile plans, topologies and the books made of them.
 
 use crate::dice::Dice;
-use reference::book::Book;
+use reference::book::{Book, MAX_HOPS, MAX_ROUTE_HOPS, MAX_ROWS};
+use reference::change::{self, Open};
+use reference::image;
 use reference::placing::first_placing;
 use reference::plan::{PERIODS, PLAN_TILES, Plan};
 use reference::route::planners_route;
-use reference::stream::Stream;
+use reference::row::{FIRST_ROUTE, Row};
 use reference::topology::Topology;
+use reference::version::Version;
 
 /// Plan A of document 01.
 pub fn plan_a() -> Plan {
@@ -124,30 +127,59 @@ pub fn any_topology(dice: &mut Dice) -> Topology {
 }
 
 pub fn empty_book(plan: Plan, topology: Topology) -> Book {
-    Book { plan, topology, streams: Vec::new() }
+    Book { plan, topology, rows: Vec::new() }
 }
 
+/// The versions that can hold the book.
+pub fn versions(book: &Book) -> Vec<Version> {
+    Version::ALL.into_iter().filter(|version| version.fits(book)).collect()
+}
+
+/// The image in every version that can hold the book.
+pub fn images(book: &Book) -> Vec<Vec<u8>> {
+    versions(book).into_iter().map(|version| image::write(version, book)).collect()
+}
+
+/// The image in one of the versions that can hold the book.
+pub fn any_image(dice: &mut Dice, book: &Book) -> Vec<u8> {
+    image::write(dice.pick(&versions(book)), book)
+}
+
+/// The ids of the rows.
 pub fn ids(book: &Book) -> Vec<u16> {
-    book.streams.iter().map(|stream| stream.id).collect()
+    book.rows.iter().map(|row| row.id).collect()
 }
 
-/// Opens a stream as the planner does; false where it has no route or placing.
+/// Opens a stream as the planner does, past the limits of a book if need be;
+/// false where it has no route or placing.
 pub fn add_stream(book: &mut Book, id: u16, source: u8, destination: u8, period: u8) -> bool {
-    let Ok(route) = planners_route(&book.topology, source, destination) else { return false };
-    let Some(offsets) = first_placing(book, &route, period) else { return false };
-    book.add(Stream { id, period, route, offsets });
+    let Ok(nodes) = planners_route(&book.topology, source, destination) else { return false };
+    let Some(offsets) = first_placing(book, &nodes, period) else { return false };
+    book.add(Row { id, route: FIRST_ROUTE, period, nodes, offsets });
     true
 }
 
-/// Opens up to `tries` streams between thrown nodes.
+/// Opens a stream with a second route; false where it is refused.
+pub fn add_with_second(book: &mut Book, id: u16, source: u8, destination: u8, period: u8) -> bool {
+    let asked = Open { id, source, destination, period: u16::from(period), second: true };
+    let opened = change::open(book, asked);
+    let done = opened.is_ok();
+    *book = opened.unwrap_or_else(|_| book.clone());
+    done
+}
+
+/// Opens up to `tries` streams between thrown nodes, some with a second route.
 pub fn load(dice: &mut Dice, book: &mut Book, tries: usize) {
     for _ in 0..tries {
         let nodes = usize::from(book.topology.nodes());
         let (source, destination) = (dice.below(nodes) as u8, dice.below(nodes) as u8);
         let id = dice.between(1, 999) as u16;
-        let room = book.streams.len() < 64 && book.hops() + 15 <= 512;
-        if source != destination && room && !book.holds(id) {
-            add_stream(book, id, source, destination, dice.pick(&PERIODS));
+        let period = dice.pick(&PERIODS);
+        let room = book.rows.len() < MAX_ROWS && book.hops() + MAX_ROUTE_HOPS <= MAX_HOPS;
+        if dice.chance(25) {
+            add_with_second(book, id, source, destination, period);
+        } else if source != destination && room && !book.holds(id) {
+            add_stream(book, id, source, destination, period);
         }
     }
 }

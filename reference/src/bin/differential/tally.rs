@@ -1,12 +1,13 @@
 //! How often each answer number of each call was reached.
 
 use crate::events::EVENTS;
+use crate::second_events::SECOND_EVENTS;
 use reference::frame::Call;
 use std::collections::BTreeMap;
 use std::fmt::Write;
 
 /// The highest answer number.
-const HIGHEST: usize = 17;
+const HIGHEST: usize = 18;
 
 #[derive(Default)]
 pub struct Tally {
@@ -22,12 +23,17 @@ fn possible(call: Call) -> &'static [u8] {
         Call::New => &[0, 10, 11, 12],
         Call::Check => &[0, 10, 11, 13, 14, 15, 16],
         Call::Rewrite => &[0, 10, 11, 12, 13, 14, 15, 16],
-        Call::Open => &[0, 1, 2, 4, 5, 6, 7, 8, 9, 10, 11, 12, 13, 14, 15, 16, 17],
+        Call::Open => &[0, 1, 2, 4, 5, 6, 7, 8, 9, 10, 11, 12, 13, 14, 15, 16, 17, 18],
         Call::Close => &[0, 1, 3, 10, 11, 12, 13, 14, 15, 16],
         Call::Expand => &[0, 4, 10, 11, 12, 13, 14, 15, 16],
         Call::Balance => &[0, 4, 10, 11, 13, 14, 15, 16],
         Call::Routes => &[0, 4, 5, 10, 11, 12, 13, 14, 15, 16],
     }
+}
+
+/// The events that every run must reach.
+fn all_events() -> impl Iterator<Item = &'static str> {
+    EVENTS.into_iter().chain(SECOND_EVENTS)
 }
 
 impl Tally {
@@ -39,8 +45,10 @@ impl Tally {
         }
     }
 
-    pub fn add_event(&mut self, name: &'static str) {
-        *self.events.entry(name).or_default() += 1;
+    pub fn add_events(&mut self, names: Vec<&'static str>) {
+        for name in names {
+            *self.events.entry(name).or_default() += 1;
+        }
     }
 
     /// All calls so far.
@@ -51,7 +59,7 @@ impl Tally {
     /// The pairs that were not reached and are possible, or were reached and
     /// are not, and the events that were not reached.
     pub fn faults(&self) -> Vec<String> {
-        let missed = EVENTS.into_iter().filter(|name| !self.events.contains_key(name));
+        let missed = all_events().filter(|name| !self.events.contains_key(name));
         let mut faults: Vec<String> = missed.map(|name| format!("never: {name}")).collect();
         for call in Call::ALL {
             for number in 0..=HIGHEST as u8 {
@@ -89,7 +97,7 @@ impl Tally {
     /// One line for each family, and one for each event.
     pub fn families(&self) -> String {
         let line = |(name, calls): (&str, u64)| format!("{calls:>8} {name}\n");
-        let events = EVENTS.map(|name| (name, self.events.get(name).copied().unwrap_or(0)));
+        let events = all_events().map(|name| (name, self.events.get(name).copied().unwrap_or(0)));
         self.families.iter().copied().chain(events).map(line).collect()
     }
 

@@ -3,24 +3,28 @@
 use crate::dice::Dice;
 use crate::driver::{Driver, Room};
 use crate::requests::{self, BOOK_CALLS};
-use crate::site::{add_stream, empty_book, grid, ids, line, load, of_links, open_plan, plan_a};
+use crate::site::{
+    add_stream, add_with_second, empty_book, grid, ids, line, load, of_links, open_plan, plan_a,
+    versions,
+};
 use reference::book::Book;
 use reference::image;
 use reference::plan::Plan;
+use reference::version::Version;
 
 pub fn ask(driver: &mut Driver, dice: &mut Dice) {
-    for book in small_books() {
-        cut_and_grown(driver, dice, &book);
-        every_value(driver, dice, &book);
+    for (version, book) in small_books() {
+        cut_and_grown(driver, dice, version, &book);
+        every_value(driver, dice, version, &book);
     }
-    for book in larger_books(dice) {
-        cut_and_grown(driver, dice, &book);
-        every_bit(driver, dice, &book);
+    for (version, book) in larger_books(dice) {
+        cut_and_grown(driver, dice, version, &book);
+        every_bit(driver, dice, version, &book);
     }
 }
 
 /// Books short enough to try every value at every byte.
-fn small_books() -> Vec<Book> {
+fn small_books() -> Vec<(Version, Book)> {
     // P11.
     let mut pair = empty_book(plan_a(), line(2));
     add_stream(&mut pair, 7, 1, 0, 2);
@@ -34,11 +38,21 @@ fn small_books() -> Vec<Book> {
     add_stream(&mut triangle, 0x0102, 0, 1, 5);
     add_stream(&mut triangle, 0x0201, 2, 1, 10);
     add_stream(&mut triangle, 0xFFFF, 1, 0, 20);
-    vec![pair, two_ways, triangle]
+    // A stream with both its routes beside one without.
+    let square = of_links(4, [(0, 1), (0, 2), (1, 3), (2, 3)]);
+    let mut both_ways = empty_book(open_plan(2), square);
+    add_with_second(&mut both_ways, 3, 0, 3, 5);
+    add_stream(&mut both_ways, 4, 1, 2, 10);
+    let mut books: Vec<(Version, Book)> =
+        versions(&pair).into_iter().map(|version| (version, pair.clone())).collect();
+    books.push((Version::One, two_ways));
+    books.push((Version::One, triangle));
+    books.push((Version::NEWEST, both_ways));
+    books
 }
 
 /// Books that are changed bit by bit.
-fn larger_books(dice: &mut Dice) -> Vec<Book> {
+fn larger_books(dice: &mut Dice) -> Vec<(Version, Book)> {
     let mut crowded = empty_book(open_plan(2), grid(3, 9));
     load(dice, &mut crowded, 14);
     let wide = Plan { s: 8, c: 4, kinds: 0b0110, d: 1, u: 2 };
@@ -46,7 +60,7 @@ fn larger_books(dice: &mut Dice) -> Vec<Book> {
     add_stream(&mut long, 300, 0, 15, 100);
     add_stream(&mut long, 200, 15, 0, 50);
     add_stream(&mut long, 400, 4, 11, 20);
-    vec![crowded, long]
+    vec![(Version::NEWEST, crowded), (Version::One, long.clone()), (Version::NEWEST, long)]
 }
 
 /// Every call in turn, mostly with a buffer that holds the answer.
@@ -56,8 +70,8 @@ fn ask_next(driver: &mut Driver, dice: &mut Dice, turn: usize, image: &[u8], ids
     driver.ask(requests::any(dice, call, image, ids), room);
 }
 
-fn cut_and_grown(driver: &mut Driver, dice: &mut Dice, book: &Book) {
-    let (image, ids) = (image::write(book), ids(book));
+fn cut_and_grown(driver: &mut Driver, dice: &mut Dice, version: Version, book: &Book) {
+    let (image, ids) = (image::write(version, book), ids(book));
     for length in 0..image.len() {
         driver.ask(requests::check(&image[..length]), Room::Nothing);
         ask_next(driver, dice, length, &image[..length], &ids);
@@ -70,8 +84,8 @@ fn cut_and_grown(driver: &mut Driver, dice: &mut Dice, book: &Book) {
     }
 }
 
-fn every_value(driver: &mut Driver, dice: &mut Dice, book: &Book) {
-    let (mut image, ids) = (image::write(book), ids(book));
+fn every_value(driver: &mut Driver, dice: &mut Dice, version: Version, book: &Book) {
+    let (mut image, ids) = (image::write(version, book), ids(book));
     for place in 0..image.len() {
         let kept = image[place];
         for change in 1..=255 {
@@ -82,8 +96,8 @@ fn every_value(driver: &mut Driver, dice: &mut Dice, book: &Book) {
     }
 }
 
-fn every_bit(driver: &mut Driver, dice: &mut Dice, book: &Book) {
-    let (mut image, ids) = (image::write(book), ids(book));
+fn every_bit(driver: &mut Driver, dice: &mut Dice, version: Version, book: &Book) {
+    let (mut image, ids) = (image::write(version, book), ids(book));
     for place in 0..image.len() {
         for bit in 0..8 {
             image[place] ^= 1 << bit;

@@ -2,13 +2,19 @@
 
 use super::new_image;
 use crate::driver::{Driver, Room};
-use crate::requests::{balance, check, close, expand, open, rewrite};
-use crate::site::{line, of_links, open_plan, plan_a};
+use crate::requests::{balance, check, close, expand, open, open_with_second, rewrite, routes};
+use crate::site::{empty_book, images, line, of_links, open_plan, plan_a};
 use reference::plan::Plan;
 
 pub fn ask(driver: &mut Driver) {
-    on_line_a(driver);
-    on_two_nodes(driver);
+    new_image(driver, &plan_a(), &line(4));
+    for empty in images(&empty_book(plan_a(), line(4))) {
+        on_line_a(driver, empty);
+    }
+    new_image(driver, &plan_a(), &line(2));
+    for empty in images(&empty_book(plan_a(), line(2))) {
+        on_two_nodes(driver, &empty);
+    }
     on_a_square(driver);
     tiles_the_other_way_round(driver);
     long_lines(driver);
@@ -16,8 +22,7 @@ pub fn ask(driver: &mut Driver) {
 }
 
 /// P1 to P5, P9 and the balance listing.
-fn on_line_a(driver: &mut Driver) {
-    let empty = new_image(driver, &plan_a(), &line(4));
+fn on_line_a(driver: &mut Driver, empty: Vec<u8>) {
     driver.ask(open(&empty, 1, 3, 0, 1), Room::Full);
     let p2 = driver.ask(open(&empty, 1, 3, 0, 2), Room::Full).written().to_vec();
     let p3 = driver.ask(open(&p2, 2, 0, 3, 2), Room::Full).written().to_vec();
@@ -35,16 +40,19 @@ fn on_line_a(driver: &mut Driver) {
 }
 
 /// P10 and P11.
-fn on_two_nodes(driver: &mut Driver) {
-    let empty = new_image(driver, &plan_a(), &line(2));
-    driver.ask(open(&empty, 7, 1, 0, 2), Room::Exact);
+fn on_two_nodes(driver: &mut Driver, empty: &[u8]) {
+    driver.ask(rewrite(empty), Room::Exact);
+    let p11 = driver.ask(open(empty, 7, 1, 0, 2), Room::Exact).written().to_vec();
+    driver.ask(rewrite(&p11), Room::Exact);
 }
 
-/// P7.
+/// P7, and the square's other side as the second route.
 fn on_a_square(driver: &mut Driver) {
     let square = of_links(4, [(0, 1), (0, 2), (1, 3), (2, 3)]);
     let empty = new_image(driver, &open_plan(4), &square);
     driver.ask(open(&empty, 1, 0, 3, 100), Room::Exact);
+    driver.ask(open_with_second(&empty, 1, 0, 3, 100), Room::Exact);
+    driver.ask(routes(&empty, 0, 3), Room::Exact);
 }
 
 /// P1 where only the second repeat finds the control slot.

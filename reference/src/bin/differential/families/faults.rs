@@ -1,33 +1,39 @@
 //! Several faults at once, so that the order of the numbers decides.
 
 use crate::driver::{Driver, Room};
-use crate::requests::{balance, check, close, expand, open, rewrite};
-use crate::site::{add_stream, empty_book, line, of_links, open_plan, plan_a};
-use reference::book::Book;
+use crate::requests::{balance, check, close, expand, open, open_with_second, rewrite, routes};
+use crate::site::{add_stream, empty_book, line, of_links, open_plan, plan_a, versions};
+use reference::book::{Book, MAX_ROWS};
 use reference::image;
-use reference::stream::Stream;
+use reference::row::{FIRST_ROUTE, Row};
+use reference::version::{HEADER_LENGTH, HOP_BYTES, Version};
 
 pub fn ask(driver: &mut Driver) {
     for faults in 0..128 {
-        let image = faulty_image(faults);
-        for room in [Room::Nothing, Room::Spare(5)] {
-            ask_all(driver, &image, room);
+        for version in Version::ALL {
+            let image = faulty_image(version, faults);
+            for room in [Room::Nothing, Room::Spare(5)] {
+                ask_all(driver, &image, room);
+            }
         }
     }
     for book in request_books() {
-        requests_with_faults(driver, &image::write(&book));
-        recounted(driver, image::write(&book));
+        requests_with_faults(driver, &image::write(Version::NEWEST, &book));
+        for version in versions(&book) {
+            recounted(driver, version, image::write(version, &book));
+        }
     }
 }
 
-/// Every two counts of streams and hops that give the same length.
-fn recounted(driver: &mut Driver, mut image: Vec<u8>) {
-    let rows_length = image.len() - 16 - 8 * usize::from(image[11]);
-    for streams in 0..=64 {
-        let Some(hops_length) = rows_length.checked_sub(5 * streams) else { break };
-        if hops_length % 3 == 0 {
-            image[12] = streams as u8;
-            image[13..15].copy_from_slice(&(hops_length as u16 / 3).to_be_bytes());
+/// Every two counts of rows and hops that give the same length.
+fn recounted(driver: &mut Driver, version: Version, mut image: Vec<u8>) {
+    let rows_length = image.len() - version.image_length(image[11], 0, 0);
+    for rows in 0..=MAX_ROWS {
+        let Some(hops_length) = rows_length.checked_sub(version.row_bytes() * rows) else { break };
+        if hops_length % HOP_BYTES == 0 {
+            let hops = (hops_length / HOP_BYTES) as u16;
+            image[12] = rows as u8;
+            image[13..15].copy_from_slice(&hops.to_be_bytes());
             driver.ask(check(&image), Room::Nothing);
             driver.ask(rewrite(&image), Room::Spare(5));
         }
@@ -35,20 +41,21 @@ fn recounted(driver: &mut Driver, mut image: Vec<u8>) {
 }
 
 /// An image with one fault for each bit of `faults`.
-fn faulty_image(faults: u8) -> Vec<u8> {
+fn faulty_image(version: Version, faults: u8) -> Vec<u8> {
     let fault = |bit: u8| faults >> bit & 1 == 1;
     let mut book = empty_book(plan_a(), line(4));
     let offset = if fault(0) { 2 } else { 3 };
-    book.add(Stream { id: 1, period: 2, route: vec![0, 1], offsets: vec![2] });
-    book.add(Stream { id: 2, period: 2, route: vec![2, 3], offsets: vec![offset] });
-    let mut image = image::write(&book);
+    book.add(one_hop(1, [0, 1], 2));
+    let second_row = image::write(version, &book).len();
+    book.add(one_hop(2, [2, 3], offset));
+    let mut image = image::write(version, &book);
     if fault(1) {
         // The second row's id is the first's.
-        image[16 + 32 + 8 + 1] = 1;
+        image[second_row + 1] = 1;
     }
     if fault(2) {
         // Node 0 is linked to itself.
-        image[16 + 7] |= 1;
+        image[HEADER_LENGTH + 7] |= 1;
     }
     if fault(3) {
         image.push(0);
@@ -57,12 +64,18 @@ fn faulty_image(faults: u8) -> Vec<u8> {
         image[15] = 1;
     }
     if fault(5) {
-        image[4] = 2;
+        // Version 0.
+        image[4] = 0;
     }
     if fault(6) {
         image.truncate(15);
     }
     image
+}
+
+/// A row of one hop, period 2.
+fn one_hop(id: u16, nodes: [u8; 2], offset: u16) -> Row {
+    Row { id, route: FIRST_ROUTE, period: 2, nodes: nodes.to_vec(), offsets: vec![offset] }
 }
 
 /// Every call, with its arguments in order and with all of them wrong.
@@ -71,6 +84,8 @@ fn ask_all(driver: &mut Driver, image: &[u8], room: Room) {
     driver.ask(rewrite(image), room);
     for (id, source, destination, period) in [(3, 0, 3, 100), (0, 255, 255, 3)] {
         driver.ask(open(image, id, source, destination, period), room);
+        driver.ask(open_with_second(image, id, source, destination, period), room);
+        driver.ask(routes(image, source, destination), room);
         driver.ask(close(image, id), room);
         driver.ask(expand(image, source), room);
         driver.ask(balance(image, source), room);
@@ -114,10 +129,17 @@ fn requests_with_faults(driver: &mut Driver, image: &[u8]) {
                 for room in rooms {
                     driver.ask(open(image, id, source, destination, period), room);
                 }
+                let request = open_with_second(image, id, source, destination, period);
+                driver.ask(request, Room::Exact);
             }
         }
         for room in rooms {
             driver.ask(close(image, id), room);
+        }
+    }
+    for (source, destination) in nodes_in_and_out() {
+        for room in rooms {
+            driver.ask(routes(image, source, destination), room);
         }
     }
     for node in [0, 3, 4, 63, 64, 255] {

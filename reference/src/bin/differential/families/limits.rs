@@ -1,24 +1,31 @@
-//! Books at each limit: 64 streams, 512 hops, the longest image, 64 nodes,
+//! Books at each limit: 64 rows, 512 hops, the longest image, 64 nodes,
 //! 15-hop routes, one slot a tile, no data slots at all.
 
 use crate::dice::Dice;
 use crate::driver::{Driver, Room};
-use crate::requests::{self, BOOK_CALLS, balance, check, close, expand, open, rewrite};
+use crate::requests::{
+    self, BOOK_CALLS, balance, check, close, expand, open, open_with_second, rewrite, routes,
+};
 use crate::site::{
-    add_stream, complete, empty_book, grid, ids, line, load, of_links, open_plan, plan_a,
+    add_stream, any_image, complete, empty_book, grid, ids, images, line, load, of_links,
+    open_plan, plan_a,
 };
 use reference::book::Book;
 use reference::image;
 use reference::plan::{PERIODS, PLAN_TILES, Plan};
+use reference::version::Version;
 
 pub fn ask(driver: &mut Driver, dice: &mut Dice) {
     for book in full_books() {
-        around(driver, dice, &book);
+        for image in images(&book) {
+            around(driver, dice, &book, image);
+        }
     }
     changed_longest_book(driver, dice);
     too_many(driver);
     for book in edge_books(dice) {
-        around(driver, dice, &book);
+        let image = any_image(dice, &book);
+        around(driver, dice, &book, image);
     }
     distances(driver);
     every_plan(driver, dice);
@@ -33,7 +40,7 @@ fn loaded(streams: u16, hops: u8) -> Book {
     book
 }
 
-/// Books with no stream or no hop to spare, and with one or two.
+/// Books with no row or no hop to spare, and with one or two.
 fn full_books() -> Vec<Book> {
     vec![
         loaded(64, 8),
@@ -49,8 +56,7 @@ fn full_books() -> Vec<Book> {
 
 /// Every call, with buffers around the answer's length, and opens of a length
 /// around what is left.
-fn around(driver: &mut Driver, dice: &mut Dice, book: &Book) {
-    let image = image::write(book);
+fn around(driver: &mut Driver, dice: &mut Dice, book: &Book, image: Vec<u8>) {
     let nodes = book.topology.nodes();
     for room in [Room::OneShort, Room::Exact, Room::Spare(1), Room::Full, Room::Most] {
         driver.ask(rewrite(&image), room);
@@ -75,36 +81,37 @@ fn around(driver: &mut Driver, dice: &mut Dice, book: &Book) {
 
 /// The longest image, changed at thrown bytes of each of its parts.
 fn changed_longest_book(driver: &mut Driver, dice: &mut Dice) {
-    let image = image::write(&loaded(64, 8));
-    for (start, end) in [(0, 16), (16, 528), (528, 557), (528, image.len())] {
+    let image = image::write(Version::NEWEST, &loaded(64, 8));
+    let rows = Version::NEWEST.image_length(64, 0, 0);
+    let parts = [(0, 16), (16, rows), (rows, rows + 30), (rows, image.len())];
+    for (start, end) in parts {
         for _ in 0..60 {
             let mut changed = image.clone();
             changed[dice.between(start, end - 1)] ^= 1 << dice.below(8);
             driver.ask(check(&changed), Room::Nothing);
         }
     }
-    for length in [16, 527, 528, image.len() - 1] {
+    for length in [16, rows - 1, rows, image.len() - 1] {
         driver.ask(check(&image[..length]), Room::Nothing);
     }
 }
 
-/// 65 streams, 513 hops and 65 nodes, each in an image of the length its
-/// header gives.
+/// 65 rows, 513 hops, a route of 16 hops and 65 nodes, each in an image of the
+/// length its header gives.
 fn too_many(driver: &mut Driver) {
-    let mut streams = loaded(64, 1);
-    add_stream(&mut streams, 7, 40, 41, 100);
+    let mut rows = loaded(64, 1);
+    add_stream(&mut rows, 7, 40, 41, 100);
     let mut hops = loaded(34, 15);
     add_stream(&mut hops, 7, 40, 43, 100);
     let mut long_route = empty_book(open_plan(4), line(20));
     let mut far = long_route.clone();
     add_stream(&mut far, 7, 0, 15, 100);
-    let mut stream = far.streams[0].clone();
-    stream.route.push(16);
-    stream.offsets.push(15);
-    long_route.add(stream);
+    let mut row = far.rows[0].clone();
+    row.nodes.push(16);
+    row.offsets.push(15);
+    long_route.add(row);
     let nodes = Book { topology: of_links(65, []), ..loaded(1, 1) };
-    for book in [streams, hops, long_route, nodes] {
-        let image = image::write(&book);
+    for image in [rows, hops, long_route, nodes].iter().flat_map(images) {
         driver.ask(check(&image), Room::Nothing);
         driver.ask(rewrite(&image), Room::Full);
     }
@@ -141,10 +148,11 @@ fn edge_books(dice: &mut Dice) -> Vec<Book> {
 /// Routes of every length up to and past 15 hops, in lines and in grids.
 fn distances(driver: &mut Driver) {
     for topology in [line(64), grid(2, 64), grid(4, 64), grid(8, 64)] {
-        let image = image::write(&empty_book(open_plan(4), topology));
+        let image = image::write(Version::NEWEST, &empty_book(open_plan(4), topology));
         for node in 1..64 {
             driver.ask(open(&image, 1, 0, node, 100), Room::Exact);
-            driver.ask(open(&image, 1, 63, 63 - node, 20), Room::Exact);
+            driver.ask(open_with_second(&image, 1, 63, 63 - node, 20), Room::Exact);
+            driver.ask(routes(&image, 0, node), Room::Exact);
         }
     }
 }
@@ -155,7 +163,7 @@ fn every_plan(driver: &mut Driver, dice: &mut Dice) {
         for c in PLAN_TILES {
             let kinds = (dice.bits() & ((1 << c) - 1)) as u16;
             let plan = Plan { s, c, kinds, d: s / 2, u: s / 3 };
-            let image = image::write(&empty_book(plan, line(3)));
+            let image = any_image(dice, &empty_book(plan, line(3)));
             for period in PERIODS {
                 let request = open(&image, 9, 0, 2, u16::from(period));
                 let answer = driver.ask(request, Room::Exact);

@@ -9,6 +9,7 @@ mod near_misses;
 mod noise;
 mod pairs;
 mod route_lists;
+mod second_routes;
 mod sequences;
 mod unusual;
 
@@ -38,6 +39,8 @@ pub fn fixed(driver: &mut Driver, dice: &mut Dice) {
     limits::ask(driver, dice);
     driver.family("every two hops and every two periods");
     pairs::ask(driver, dice);
+    driver.family("second routes");
+    second_routes::ask(driver, dice);
     driver.family("lists of routes");
     route_lists::ask(driver);
 }

@@ -5,11 +5,12 @@ use super::unusual::unusual_book;
 use crate::dice::Dice;
 use crate::driver::{Driver, Room};
 use crate::requests::{self, BOOK_CALLS, check};
-use crate::site::{any_plan, any_topology, empty_book, ids, load};
+use crate::site::{any_image, any_plan, any_topology, empty_book, ids, load, versions};
 use reference::book::Book;
 use reference::image;
 use reference::plan::PERIODS;
-use reference::stream::Stream;
+use reference::row::Row;
+use reference::version::{HOP_BYTES, Version};
 
 pub fn ask(driver: &mut Driver, dice: &mut Dice) {
     let book = busy_book(dice);
@@ -33,7 +34,7 @@ fn busy_book(dice: &mut Dice) -> Book {
             load(dice, &mut book, 12);
             book
         };
-        if book.streams.len() >= 2 {
+        if book.rows.len() >= 2 {
             return book;
         }
     }
@@ -47,14 +48,17 @@ fn step_away(dice: &mut Dice, book: &Book) -> Vec<u8> {
         1 => change_link(dice, &mut book),
         2 => change_rows(dice, &mut book),
         3..=7 => {
-            let place = dice.below(book.streams.len());
+            let place = dice.below(book.rows.len());
             let other = dice.pick(&ids(&book));
-            let longest = book.plan.period_slots(book.streams[place].period);
-            change_row(dice, &mut book.streams[place], other, longest as u16);
+            let longest = book.plan.period_slots(book.rows[place].period);
+            change_row(dice, &mut book.rows[place], other, longest as u16);
         }
-        _ => return recounted(dice, image::write(&book)),
+        _ => {
+            let version = dice.pick(&versions(&book));
+            return recounted(dice, version, image::write(version, &book));
+        }
     }
-    image::write(&book)
+    any_image(dice, &book)
 }
 
 /// Another plan in range: rows may now take control slots or be too late.
@@ -79,73 +83,80 @@ fn change_link(dice: &mut Dice, book: &mut Book) {
     }
 }
 
-/// Two rows changed about, one twice, or one again under another id.
+/// Two rows changed about, one twice, one left out, or one again under another
+/// id.
 fn change_rows(dice: &mut Dice, book: &mut Book) {
-    let (a, b) = (dice.below(book.streams.len()), dice.below(book.streams.len()));
-    match dice.below(3) {
-        0 => book.streams.swap(a, b),
-        1 => book.streams.insert(a, book.streams[a].clone()),
+    let (a, b) = (dice.below(book.rows.len()), dice.below(book.rows.len()));
+    match dice.below(4) {
+        0 => book.rows.swap(a, b),
+        1 => book.rows.insert(a, book.rows[a].clone()),
+        2 => drop(book.rows.remove(a)),
         _ => {
             // The same stream under a second id meets the first everywhere.
-            let id = book.streams[a].id;
+            let id = book.rows[a].id;
             if id < 65535 && !book.holds(id + 1) {
-                book.add(Stream { id: id + 1, ..book.streams[a].clone() });
+                book.add(Row { id: id + 1, ..book.rows[a].clone() });
             }
         }
     }
 }
 
 /// One field of one row changed; `longest` is the row's K×S.
-fn change_row(dice: &mut Dice, row: &mut Stream, other_id: u16, longest: u16) {
+fn change_row(dice: &mut Dice, row: &mut Row, other_id: u16, longest: u16) {
     let hop = dice.below(row.offsets.len());
-    let node = dice.below(row.route.len());
-    match dice.below(12) {
+    let node = dice.below(row.nodes.len());
+    match dice.below(13) {
         0 => row.id = dice.pick(&[0, 1, 65535, other_id, row.id ^ 1, row.id ^ 256]),
         1 => row.period = dice.pick(&PERIODS),
         2 => row.period = dice.pick(&[0, 3, 4, 25, 99, 101, 200, 255]),
-        3 => row.route.reverse(),
-        4 => row.route[node] = [dice.below(64) as u8, 63, 64, 255][dice.below(4)],
-        5 => row.route[node] = row.route[dice.below(row.route.len())],
+        3 => row.nodes.reverse(),
+        4 => row.nodes[node] = [dice.below(64) as u8, 63, 64, 255][dice.below(4)],
+        5 => row.nodes[node] = row.nodes[dice.below(row.nodes.len())],
         6 => row.offsets[hop] = row.offsets[hop].wrapping_add(1),
         7 => row.offsets[hop] = row.offsets[hop].wrapping_sub(1),
         8 => row.offsets[hop] = dice.pick(&[longest - 1, longest, longest + 1, 65535]),
         9 => row.offsets[hop] = row.offsets[dice.below(row.offsets.len())],
         10 => row.offsets[hop] = dice.below(usize::from(longest)) as u16,
+        11 => row.route = dice.pick(&[0, 1, 2, 2, 3, 255]),
         _ => shorten(dice, row),
     }
 }
 
 /// The first or the last hop cut off, which may leave none.
-fn shorten(dice: &mut Dice, row: &mut Stream) {
+fn shorten(dice: &mut Dice, row: &mut Row) {
     if dice.chance(50) {
-        row.route.remove(0);
+        row.nodes.remove(0);
         row.offsets.remove(0);
     } else {
-        row.route.pop();
+        row.nodes.pop();
         row.offsets.pop();
     }
 }
 
 /// Counts changed so that the length stays right: three rows more or fewer
-/// for five hops fewer or more, or a hop count of one row.
-fn recounted(dice: &mut Dice, mut image: Vec<u8>) -> Vec<u8> {
-    let streams = image[12];
+/// for as many hops fewer or more, or a hop count of one row.
+fn recounted(dice: &mut Dice, version: Version, mut image: Vec<u8>) -> Vec<u8> {
+    let rows = image[12];
     let hops = u16::from_be_bytes([image[13], image[14]]);
-    let first_row = 16 + 8 * usize::from(image[11]);
-    let (streams, hops) = match dice.below(4) {
-        0 if hops >= 5 => (streams + 3, hops - 5),
-        1 if streams >= 3 => (streams - 3, hops + 5),
+    // A row without its hops has the bytes of a third as many hops.
+    let three_rows = version.row_bytes() as u16;
+    let (rows, hops) = match dice.below(4) {
+        0 if hops >= three_rows => (rows + 3, hops - three_rows),
+        1 if rows >= 3 => (rows - 3, hops + three_rows),
         2 => {
-            image[first_row + 3] = dice.pick(&[0, 1, 2, 3, 14, 15, 16, 17, 255]);
-            (streams, hops)
+            // The hop count stands before the source, the last of these bytes.
+            let first_row = version.image_length(image[11], 0, 0);
+            let hop_count = first_row + version.row_bytes() - 2;
+            image[hop_count] = dice.pick(&[0, 1, 2, 3, 14, 15, 16, 17, 255]);
+            (rows, hops)
         }
         _ => {
-            // One hop more than there is, and three bytes to make up for it.
-            image.extend([0; 3]);
-            (streams, hops + 1)
+            // One hop more than there is, and bytes to make up for it.
+            image.extend([0; HOP_BYTES]);
+            (rows, hops + 1)
         }
     };
-    image[12] = streams;
+    image[12] = rows;
     image[13..15].copy_from_slice(&hops.to_be_bytes());
     image
 }

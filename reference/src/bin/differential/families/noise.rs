@@ -4,7 +4,9 @@ use crate::dice::Dice;
 use crate::driver::{Driver, Room};
 use crate::requests::{self, BOOK_CALLS};
 use crate::site::{any_plan, any_topology, empty_book};
+use reference::book::{MAX_HOPS, MAX_ROWS};
 use reference::image;
+use reference::version::Version;
 
 pub fn ask(driver: &mut Driver, dice: &mut Dice) {
     let image = noisy_image(dice);
@@ -13,9 +15,10 @@ pub fn ask(driver: &mut Driver, dice: &mut Dice) {
 }
 
 fn noisy_image(dice: &mut Dice) -> Vec<u8> {
-    let empty = image::write(&empty_book(any_plan(dice), any_topology(dice)));
-    let (streams, hops) = (dice.between(0, 64), dice.between(0, 512));
-    let right_length = empty.len() + 5 * streams + 3 * hops;
+    let version = dice.pick(&Version::ALL);
+    let empty = image::write(version, &empty_book(any_plan(dice), any_topology(dice)));
+    let (rows, hops) = (dice.between(0, MAX_ROWS), dice.between(0, MAX_HOPS));
+    let right_length = version.image_length(empty[11], rows, hops);
     let (kept, length) = match dice.below(6) {
         0 => (0, dice.between(0, 4096)),
         1 => (5, dice.between(5, 4096)),
@@ -27,7 +30,7 @@ fn noisy_image(dice: &mut Dice) -> Vec<u8> {
     let mut image: Vec<u8> = (0..length).map(|_| dice.byte()).collect();
     image[..kept].copy_from_slice(&empty[..kept]);
     if kept >= 16 {
-        image[12] = streams as u8;
+        image[12] = rows as u8;
         image[13..15].copy_from_slice(&(hops as u16).to_be_bytes());
     }
     image

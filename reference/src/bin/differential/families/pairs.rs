@@ -4,11 +4,10 @@
 use crate::dice::Dice;
 use crate::driver::{Driver, Room};
 use crate::requests::{self, BOOK_CALLS, check, open};
-use crate::site::{empty_book, line, open_plan};
+use crate::site::{any_image, empty_book, line, open_plan};
 use reference::book::Book;
-use reference::image;
 use reference::plan::{PERIODS, Plan};
-use reference::stream::Stream;
+use reference::row::{FIRST_ROUTE, Row};
 
 const NODES: u8 = 6;
 
@@ -35,14 +34,15 @@ fn ask_pair(driver: &mut Driver, dice: &mut Dice, one: ([u8; 2], u8), two: ([u8;
         let offset = other_offset(dice, &book.plan, (0, two.1), one.1);
         add_row(&mut book, 1, one, offset);
         let ([source, destination], period) = two;
-        let request = open(&image::write(&book), 2, source, destination, u16::from(period));
+        let image = any_image(dice, &book);
+        let request = open(&image, 2, source, destination, u16::from(period));
         driver.ask(request, Room::Exact);
     } else {
         let offset = dice.below(book.plan.period_slots(one.1));
         let other = other_offset(dice, &book.plan, (offset, one.1), two.1);
         add_row(&mut book, 1, one, offset);
         add_row(&mut book, 2, two, other);
-        let image = image::write(&book);
+        let image = any_image(dice, &book);
         driver.ask(check(&image), Room::Nothing);
         if dice.chance(15) {
             let call = dice.pick(&BOOK_CALLS);
@@ -51,9 +51,9 @@ fn ask_pair(driver: &mut Driver, dice: &mut Dice, one: ([u8; 2], u8), two: ([u8;
     }
 }
 
-fn add_row(book: &mut Book, id: u16, (route, period): ([u8; 2], u8), offset: usize) {
-    let route = route.to_vec();
-    book.streams.push(Stream { id, period, route, offsets: vec![offset as u16] });
+fn add_row(book: &mut Book, id: u16, (nodes, period): ([u8; 2], u8), offset: usize) {
+    let (nodes, offsets) = (nodes.to_vec(), vec![offset as u16]);
+    book.rows.push(Row { id, route: FIRST_ROUTE, period, nodes, offsets });
 }
 
 /// For a given offset and period, an offset of another period: mostly one that

@@ -3,21 +3,23 @@
 
 use crate::driver::{Driver, Room};
 use crate::requests::routes;
-use crate::site::{complete, empty_book, fan, grid, line, of_links, open_plan, ring};
+use crate::site::{complete, empty_book, fan, grid, images, line, of_links, open_plan, ring};
 use reference::image;
 use reference::topology::Topology;
+use reference::version::Version;
 
 pub fn ask(driver: &mut Driver) {
     for middles in [0, 1, 2, 30, 31, 32, 33, 34, 62] {
-        let image = image::write(&empty_book(open_plan(1), fan(middles)));
-        around(driver, &image, 0, 1);
-        around(driver, &image, 1, 0);
+        for image in images(&empty_book(open_plan(1), fan(middles))) {
+            around(driver, &image, 0, 1);
+            around(driver, &image, 1, 0);
+        }
     }
     for topology in small_sites() {
         every_pair(driver, topology);
     }
     for topology in [complete(64), grid(8, 64), two_knots()] {
-        let image = image::write(&empty_book(open_plan(1), topology));
+        let image = image::write(Version::NEWEST, &empty_book(open_plan(1), topology));
         for node in [1, 2, 7, 8, 9, 31, 32, 62, 63] {
             around(driver, &image, 0, node);
             around(driver, &image, node, 0);
@@ -35,7 +37,7 @@ fn around(driver: &mut Driver, image: &[u8], source: u8, destination: u8) {
 /// Every source and destination.
 fn every_pair(driver: &mut Driver, topology: Topology) {
     let nodes = topology.nodes();
-    let image = image::write(&empty_book(open_plan(1), topology));
+    let image = image::write(Version::NEWEST, &empty_book(open_plan(1), topology));
     for (source, destination) in (0..nodes).flat_map(|a| (0..nodes).map(move |b| (a, b))) {
         driver.ask(routes(&image, source, destination), Room::Exact);
     }

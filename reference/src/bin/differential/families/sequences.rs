@@ -5,9 +5,11 @@ use super::new_image;
 use crate::dice::Dice;
 use crate::driver::{Driver, Room};
 use crate::requests;
-use crate::site::{any_plan, any_topology, ids};
+use crate::site::{any_image, any_plan, any_topology, empty_book, ids};
 use reference::frame::Call;
 use reference::image;
+use reference::plan::Plan;
+use reference::topology::Topology;
 
 /// What a sequence is like.
 struct Habit {
@@ -22,7 +24,7 @@ struct Habit {
 /// A short sequence on any site.
 pub fn quiet(driver: &mut Driver, dice: &mut Dice) {
     let (plan, topology) = (any_plan(dice), any_topology(dice));
-    let book = new_image(driver, &plan, &topology);
+    let book = first_image(driver, dice, &plan, &topology);
     let habit = Habit { steps: dice.between(10, 40), opens: 50, slow: false };
     walk(driver, dice, book, habit);
 }
@@ -35,10 +37,17 @@ pub fn crowded(driver: &mut Driver, dice: &mut Dice) {
     }
     plan.d = plan.d.min(plan.s / 2);
     plan.u = plan.u.min(plan.s / 2);
-    let book = new_image(driver, &plan, &topology);
+    let book = first_image(driver, dice, &plan, &topology);
     let slow = dice.chance(40);
     let steps = if slow { dice.between(100, 200) } else { dice.between(40, 120) };
     walk(driver, dice, book, Habit { steps, opens: 85, slow });
+}
+
+/// A new book, or an empty one of any version.
+fn first_image(driver: &mut Driver, dice: &mut Dice, plan: &Plan, topology: &Topology) -> Vec<u8> {
+    let new = new_image(driver, plan, topology);
+    let older = any_image(dice, &empty_book(plan.clone(), topology.clone()));
+    if dice.chance(50) { new } else { older }
 }
 
 /// A few calls of all kinds on this book.
@@ -65,5 +74,5 @@ fn walk(driver: &mut Driver, dice: &mut Dice, book: Vec<u8>, habit: Habit) {
 
 /// The ids of the book's streams.
 fn ids_in(book: &[u8]) -> Vec<u16> {
-    image::read(book).map(|book| ids(&book)).unwrap_or_default()
+    image::read(book).map(|(_, book)| ids(&book)).unwrap_or_default()
 }

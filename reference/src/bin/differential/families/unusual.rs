@@ -5,16 +5,17 @@ use super::sequences::stroll;
 use crate::dice::Dice;
 use crate::driver::{Driver, Room};
 use crate::requests::{check, rewrite};
-use crate::site::{any_plan, any_topology, empty_book};
-use reference::book::Book;
+use crate::site::{any_image, any_plan, any_topology, empty_book};
+use reference::book::{Book, MAX_HOPS, MAX_SHORT_HOPS};
 use reference::hop::hops_of;
-use reference::image;
 use reference::placing::serving_offsets;
 use reference::plan::PERIODS;
-use reference::stream::Stream;
+use reference::route::{have_common_middle, short_routes};
+use reference::row::{FIRST_ROUTE, Row, SECOND_ROUTE};
 
 pub fn ask(driver: &mut Driver, dice: &mut Dice) {
-    let image = image::write(&unusual_book(dice));
+    let book = unusual_book(dice);
+    let image = any_image(dice, &book);
     driver.ask(check(&image), Room::Nothing);
     driver.ask(rewrite(&image), Room::any(dice));
     stroll(driver, dice, image);
@@ -25,6 +26,9 @@ pub fn unusual_book(dice: &mut Dice) -> Book {
     let mut book = empty_book(any_plan(dice), any_topology(dice));
     for _ in 0..dice.between(1, 12) {
         add_unusual_row(dice, &mut book);
+        if dice.chance(30) {
+            add_unusual_second(dice, &mut book);
+        }
     }
     book
 }
@@ -33,13 +37,33 @@ pub fn unusual_book(dice: &mut Dice) -> Book {
 fn add_unusual_row(dice: &mut Dice, book: &mut Book) {
     let any_id = dice.between(1, 65535) as u16;
     let id = dice.pick(&[any_id, any_id, 1, 2, 255, 256, 65535]);
-    let route = roundabout_route(dice, book);
+    let nodes = roundabout_route(dice, book);
     let period = dice.pick(&PERIODS);
-    if book.holds(id) || route.len() < 2 || book.hops() + route.len() > 512 {
+    if book.holds(id) || nodes.len() < 2 || book.hops() + nodes.len() > MAX_HOPS {
         return;
     }
-    if let Some(offsets) = late_offsets(dice, book, &route, period) {
-        book.add(Stream { id, period, route, offsets });
+    if let Some(offsets) = late_offsets(dice, book, &nodes, period) {
+        book.add(Row { id, route: FIRST_ROUTE, period, nodes, offsets });
+    }
+}
+
+/// Adds a second route to a row that has none, unless the throw leads nowhere.
+fn add_unusual_second(dice: &mut Dice, book: &mut Book) {
+    let single = |row: &&Row| book.rows.iter().filter(|other| other.id == row.id).count() == 1;
+    let firsts: Vec<Row> = book.rows.iter().filter(single).cloned().collect();
+    if firsts.is_empty() || book.hops() + MAX_SHORT_HOPS > MAX_HOPS {
+        return;
+    }
+    let Row { id, period, nodes: first, .. } = firsts[dice.below(firsts.len())].clone();
+    let (source, destination) = (first[0], first[first.len() - 1]);
+    let mut others = short_routes(&book.topology, source, destination, 200);
+    others.retain(|nodes| *nodes != first && !have_common_middle(nodes, &first));
+    if others.is_empty() {
+        return;
+    }
+    let nodes = others.swap_remove(dice.below(others.len()));
+    if let Some(offsets) = late_offsets(dice, book, &nodes, period) {
+        book.add(Row { id, route: SECOND_ROUTE, period, nodes, offsets });
     }
 }
 

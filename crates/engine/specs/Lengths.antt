@@ -1,0 +1,14 @@
+-- How long the parts of framed calls and of their answers are.
+use Prim.Native.Nat.{ℕ}
+
+-- bytes of a call before its book or topology
+abbrev pub headLength : ℕ
+headLength = 44
+
+-- bytes of an answer before its output buffer
+abbrev pub replyLength : ℕ
+replyLength = 13
+
+-- the longest output buffer
+abbrev pub mostRoom : ℕ
+mostRoom = 16384

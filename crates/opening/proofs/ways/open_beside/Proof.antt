@@ -1,0 +1,65 @@
+-- The second route beside the planner's: refused by 18, or the stream opened on both.
+use mathlib.Core.Path.{_≡_, sym}
+use Prim.Native.Nat.{_+_}
+use native.Mathlib.Omega.{arith}
+use lib.ListN.{length}
+use lib.Seq.{length-take-le}
+use borrow.Author.Tests.{not-true, not-false}
+use Rattle.rules.specs.Periods.{theAsked}
+use Rattle.opening.proofs.Routed.{routed-new, second-refused}
+use Rattle.opening.proofs.Planned.{any-route}
+use Rattle.opening.proofs.Seconds.{second-asked, second-few, second-missing, second-planned, second-routes}
+use borrow.Author.Needs.{needs}
+use Rattle.opening.proofs.ways.open_beside.Statement.{statement}
+use Rattle.opening.proofs.ways.open_beside.Tie as tie
+
+second-requires : tie.Need-second-requires
+second-requires c κs = second-asked (c .before .before .before .before .before .pre)
+
+add-end : tie.Need-add-end
+add-end c = omega (arith, second-few (c .before .before .before .before .before .before .before .pre) (c .before .second .ensures))
+
+returns : tie.Need-returns
+returns c =
+    let a = c .before .before .before .before .before .before .before .before .before .before in
+    let w = a .pre .planned in
+    second-refused (a .args .image .now) (theAsked (a .args .q)) (a .args .first .now) (a .pre .asked-two) (any-route (w .new .asked .image .newest .lawful) _ (w .planned))
+    (second-missing (a .pre) (c .before .before .before .before .second .ensures) (not-true _ (c .before .if1 .taken))) (c .refused .ensures .0) (c .refused .ensures .1)
+
+array-share-prefix-nodes : tie.Need-array-share-prefix-nodes
+array-share-prefix-nodes c =
+    let few = second-few (c .before .before .before .before .before .before .before .before .before .before .pre) (c .before .before .before .before .second .ensures) in
+    let n : length (c .before .before .before .before .second .result .nodes) ≡ 16 = search needs in
+    omega arith
+
+slice-aggregate-open-both : tie.Need-slice-aggregate-open-both
+slice-aggregate-open-both c =
+    let few = second-few (c .before .before .before .before .before .before .before .before .before .before .before .pre)
+    (c .before .before .before .before .before .second .ensures) in
+    let n : length (c .before .before .before .before .before .second .result .nodes) ≡ 16 = search needs in
+    sym (length-take-le (c .before .before .before .before .before .second .result .hops + 1) (c .before .before .before .before .before .second .result .nodes) (omega arith))
+
+open-both-requires : tie.Need-open-both-requires
+open-both-requires c κs =
+    second-routes (c .before .before .before .before .before .before .before .before .before .before .before .before .pre)
+    (c .before .before .before .before .before .before .second .ensures) (not-false _ (c .before .before .before .if1 .left))
+
+returns-2 : tie.Need-returns-2
+returns-2 c =
+    let a = c .before .before .before .before .before .before .before .before .before .before .before .before .before .before .before in
+    routed-new (a .args .image .now) _ _ (second-planned (a .pre) (c .before .before .before .before .before .before .before .before .before .second .ensures)
+    (not-false _ (c .before .before .before .before .before .before .if1 .left))) (c .before .before .open-both .ensures)
+
+pub open-beside-spec : {M : Type 1} → statement M
+open-beside-spec =
+    tie.close
+    (tie.spec
+    second-requires
+    add-end
+    (λ c κs. search needs)
+    returns
+    array-share-prefix-nodes
+    slice-aggregate-open-both
+    open-both-requires
+    (λ c. search needs)
+    returns-2)

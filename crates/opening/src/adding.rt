@@ -1,0 +1,100 @@
+// Writes the image of a book in the newest version with the rows of a stream more.
+ghost use mathlib.Core.Path.{_≡_};
+ghost use mathlib.Core.List.{[], _∷_};
+ghost use Prim.Native.Nat.{_+_, _*_, _≤_};
+ghost use lib.ListN.{length};
+ghost use Rattle.rules.specs.Topology.{mostRouteHops};
+ghost use Rattle.rules.specs.Periods.{theAsked};
+ghost use Rattle.rules.specs.Book.{mostStreams, mostHops};
+ghost use Rattle.rules.specs.Image.{newest, rowLength, streamsOf, hopsOf};
+ghost use Rattle.rules.proofs.Reading.{NewestImage};
+ghost use Rattle.opening.specs.Open.{PutsIn};
+ghost use Rattle.opening.specs.Puts.{mostRowBytes, SomeVacant, PutsRows, rowOn, OnePut, TwoPut};
+use answers::Answer;
+use image::Book;
+use rules::Asked;
+
+// The bytes of the longest row,
+const LONGEST_ROW: usize = 51;
+
+// and of the two rows of a stream.
+const LONGEST_ROWS: usize = 102;
+
+// The ways of a stream: its first route,
+const FIRST: u8 = 1;
+
+// and its second.
+const SECOND: u8 = 2;
+
+// Writes the image with rows more at the place: so many, of so many hops.
+fn put_in(image: &[u8], at: usize, new: &[u8], rows: usize, hops: usize, out: &mut [u8]) -> Answer
+    requires { ⌜ NewestImage (now image) × SomeVacant (now image) at × (length (now new) ≤ mostRowBytes) ⌝ }
+    requires { ⌜ (streamsOf (now image) + rows ≤ mostStreams) × (hopsOf (now image) + hops ≤ mostHops) ⌝ }
+    ensures { λ r. ⌜ PutsRows (now (image .entry)) at (now (new .entry)) rows hops (now (out .entry)) (r .number) (r .length) (now (out .exit)) ⌝ }
+{
+    let book = Book::read(image);
+    let size = new.len();
+    let length = image.len() + size;
+    if out.len() < length {
+        return answers::refused(12);
+    }
+    writer::put_head(
+        image,
+        out,
+        at,
+        (book.streams + rows) as u8,
+        (book.hops + hops) as u16,
+    );
+    writer::put_part(new, out, at);
+    writer::put_part(&image[at..], out, at + size);
+    answers::done(length)
+}
+
+// The bytes of a row of so many hops.
+fn row_size(hops: usize) -> usize
+    requires { ⌜ hops ≤ mostRouteHops ⌝ }
+    ensures { λ r. ⌜ (r ≡ rowLength newest + 3 * hops) × (r ≤ 51) ⌝ }
+{
+    image::row_length(image::NEWEST) + image::HOP * hops
+}
+
+// Writes the image with the row of a stream on one route.
+pub fn put_one(
+    image: &[u8],
+    at: usize,
+    q: Asked,
+    route: &[u8],
+    offsets: &[u16],
+    out: &mut [u8],
+) -> Answer
+    requires { ⌜ OnePut (now image) at (theAsked q) (now route) (now offsets) ⌝ }
+    ensures { λ r. ⌜ PutsIn (now (image .entry)) (rowOn (theAsked q) 1 (now (route .entry)) (now (offsets .entry)) ∷ []) (now (out .entry)) (r .number) (r .length) (now (out .exit)) ⌝ }
+{
+    let hops = offsets.len();
+    let size = row_size(hops);
+    let mut new = [0u8; LONGEST_ROW];
+    writer::put_row(&mut new, 0, q.id, FIRST, q.period, route, offsets);
+    put_in(image, at, &new[..size], 1, hops, out)
+}
+
+// Writes the image with the rows of a stream on two routes.
+pub fn put_two(
+    image: &[u8],
+    at: usize,
+    q: Asked,
+    first: &[u8],
+    offsets: &[u16],
+    second: &[u8],
+    others: &[u16],
+    out: &mut [u8],
+) -> Answer
+    requires { ⌜ TwoPut (now image) at (theAsked q) (now first) (now offsets) (now second) (now others) ⌝ }
+    ensures { λ r. ⌜ PutsIn (now (image .entry)) (rowOn (theAsked q) 1 (now (first .entry)) (now (offsets .entry)) ∷ rowOn (theAsked q) 2 (now (second .entry)) (now (others .entry)) ∷ []) (now (out .entry)) (r .number) (r .length) (now (out .exit)) ⌝ }
+{
+    let size = row_size(offsets.len());
+    let all = size + row_size(others.len());
+    let mut new = [0u8; LONGEST_ROWS];
+    writer::put_row(&mut new, 0, q.id, FIRST, q.period, first, offsets);
+    writer::put_row(&mut new, size, q.id, SECOND, q.period, second, others);
+    put_in(image, at, &new[..all], 2, offsets.len() + others.len(), out)
+}

@@ -1,0 +1,33 @@
+-- The hops of a placing, marked one after the other.
+use mathlib.Core.Path.{subst}
+use mathlib.Core.Bool.{Bool}
+use mathlib.Core.List.{List}
+use Prim.Native.Nat.{ℕ, _+_, _<_}
+use native.Mathlib.Numerals.{add-one}
+use native.Mathlib.Omega.{arith}
+use lib.ListN.{length, getD}
+use Rattle.rules.specs.Tiles.{periodAt}
+use Rattle.rules.proofs.Lists.{at-in}
+use Rattle.rules.proofs.Periods.{at-period}
+use Rattle.clash.specs.declared.Reach.{Reach}
+use Rattle.index.specs.declared.Repeats.{Repeats}
+use Rattle.index.specs.Turns.{RepeatsOf, InIndex}
+use Rattle.index.specs.Marks.{Adds, HopsTake, Marks}
+use Rattle.index.proofs.Rows.{hops-more}
+use Rattle.index.proofs.Turns.{in-index}
+use Rattle.placing.specs.Marking.{Markable, rowOn}
+
+module _ {S place : ℕ} {route offsets : List ℕ} (w : Markable S place route offsets) {repeats : Repeats} (v : RepeatsOf S (periodAt place) repeats) where
+  pub hop-inside : (i : ℕ) → i < length offsets → InIndex repeats (getD offsets i 0)
+  hop-inside i l = in-index v (w .few) (at-period place (w .period)) (w .within (getD offsets i 0) (at-in offsets i l))
+
+  pub node-small : (i : ℕ) → i < length offsets + 1 → getD route i 0 < 64
+  node-small i l = w .known (getD route i 0) (at-in route i (omega (arith, w .count)))
+
+pub marked-more : {S K : ℕ} {route offsets before after index : List ℕ} {repeats : Repeats} {reach : Reach} {t : Bool} (v : RepeatsOf S K repeats) (i id way : ℕ)
+    → Adds (HopsTake S (rowOn id way K route offsets) i) before index
+    → Marks repeats (getD offsets i 0) (record { from = getD route i 0; to = getD route (i + 1) 0 }) reach index after t
+    → Adds (HopsTake S (rowOn id way K route offsets) (i + 1)) before after
+marked-more {S} {K} {route} {offsets} {before} {after} {index} {repeats} {reach} {t} v i id way a m =
+    hops-more S (rowOn id way K route offsets) i v a
+    (subst (λ (j : ℕ). Marks repeats (getD offsets i 0) (record { from = getD route i 0; to = getD route j 0 }) reach index after t) (add-one i) m .adds)

@@ -1,0 +1,27 @@
+-- A placing that is marked in an index.
+use mathlib.Core.Path.{_≡_}
+use mathlib.Core.List.{List}
+use Prim.Native.Nat.{ℕ, _+_, _*_, _<_, _≤_}
+use lib.ListN.{length}
+use Rattle.rules.specs.Words.{_∈_}
+use Rattle.rules.specs.Tiles.{periodAt}
+use Rattle.rules.specs.Topology.{hopCount}
+use Rattle.rules.specs.Periods.{InList}
+use Rattle.rules.specs.Book.{Row}
+use Rattle.index.specs.Marks.{Adds, HopsTake}
+
+-- a route over at most 64 nodes, with an offset within the period for each hop
+pub record Markable (S place : ℕ) (route offsets : List ℕ) : Type 0 where
+  pub few : S ≤ 32
+  pub period : InList place
+  pub count : length route ≡ length offsets + 1
+  pub known : (a : ℕ) → a ∈ route → a < 64
+  pub within : (o : ℕ) → o ∈ offsets → o < periodAt place * S
+
+-- the row on it, whichever its id and way
+abbrev pub rowOn : ℕ → ℕ → ℕ → List ℕ → List ℕ → Row
+rowOn id way K route offsets = record { id = id; way = way; period = K; route = route; offsets = offsets }
+
+-- the hops of that row were marked
+abbrev pub Marked : ℕ → ℕ → List ℕ → List ℕ → List ℕ → List ℕ → Type 0
+Marked S place route offsets before after = (id way : ℕ) → Adds (HopsTake S (rowOn id way (periodAt place) route offsets) (hopCount route)) before after

@@ -1,0 +1,38 @@
+// A placing, marked in the index.
+ghost use mathlib.Core.Path.{_≡_};
+ghost use lib.ListN.{length};
+ghost use Rattle.index.specs.Index.{indexLength};
+ghost use Rattle.placing.specs.Marking.{Markable, Marked};
+use clash::Reach;
+use rules::Node;
+use rules::Slot;
+
+// Marks the hops of a route that has these offsets in every slot that they take.
+pub fn mark(
+    slots: Slot,
+    place: usize,
+    route: &[u8],
+    offsets: &[u16],
+    index: &mut [u64; index::WORDS],
+)
+    requires { ⌜ Markable (slots .0) place (now route) (now offsets) × (length (now index) ≡ indexLength) ⌝ }
+    ensures { λ _. ⌜ Marked (slots .0) place (now (route .entry)) (now (offsets .entry)) (now (index .entry)) (now (index .exit)) ⌝ }
+{
+    let repeats = index::repeats_of(slots, place);
+    let mut i: usize = 0;
+    while i < offsets.len() {
+        let nobody = Reach {
+            senders: 0,
+            receivers: 0,
+        };
+        index::mark(
+            index,
+            repeats,
+            Slot(offsets[i]),
+            Node(route[i]),
+            Node(route[i + 1]),
+            nobody,
+        );
+        i += 1;
+    }
+}

@@ -1,0 +1,58 @@
+-- The front is written, then row by row.
+use native.Mathlib.Omega.{arith}
+use borrow.Author.Needs.{needs}
+use mathlib.Core.Path.{refl}
+use Rattle.image.proofs.Stands.{stored-length, stands-row}
+use Rattle.transcribing.proofs.Copied.{Copied, front-fits, copied-start, copied-room, copied-next, copied-end}
+use Rattle.transcribing.proofs.transcribe.Statement.{statement}
+use Rattle.transcribing.proofs.transcribe.Tie as tie
+
+abbrev Inv-loop : tie.InvT-loop
+Inv-loop image out₀ at₀ to₀ left₀ out at to left = Copied image out at to left
+
+abbrev μ-loop : tie.MeasureT-loop
+μ-loop image out₀ at₀ to₀ left₀ out at to left = left
+
+read-requires : tie.Need-read-requires Inv-loop μ-loop
+read-requires c κs = omega (arith, stored-length (c .before .pre))
+
+put-front-requires : tie.Need-put-front-requires Inv-loop μ-loop
+put-front-requires c κs =
+    let f = front-fits (c .before .before .before .before .pre) (c .before .before .read .ensures) (c .before .rows-start .ensures) in
+    (f .0, f .1, omega (arith, f .2))
+
+loop-holds : tie.Need-loop-holds Inv-loop μ-loop
+loop-holds c =
+    let a = c .before .before .before .before .before in
+    copied-start (a .pre) (a .args .out .now) (omega (arith, c .put-front .kept .1 .0))
+    (c .before .before .before .read .ensures) (c .before .before .rows-start .ensures) refl (c .put-front .ensures)
+
+put-again-requires : tie.Need-put-again-requires Inv-loop μ-loop
+put-again-requires c κs =
+    let k = c .before .before .loop .inv in
+    (stands-row (c .before .loop-test .taken) (k .stands) .whole, copied-room (c .before .loop-test .taken) k)
+
+loop-again : tie.Need-loop-again Inv-loop μ-loop
+loop-again c =
+    let turn = c .before .before .before in
+    copied-next (turn .loop-test .taken) (turn .before .loop .inv) (c .before .put-again .kept .1 .1 .0) (c .next .ensures .0) (c .before .put-again .ensures)
+
+returns : tie.Need-returns Inv-loop μ-loop
+returns c = copied-end (c .loop-test .left) (c .before .loop .inv)
+
+pub transcribe-spec : {M : Type 1} → statement M
+transcribe-spec =
+    tie.close
+    (tie.spec
+    Inv-loop
+    μ-loop
+    read-requires
+    (λ c κs. search needs)
+    put-front-requires
+    loop-holds
+    put-again-requires
+    (λ c κs. stands-row (c .before .before .loop-test .taken) (c .before .before .before .loop .inv .stands) .whole)
+    (λ c. omega arith)
+    (λ c. omega arith)
+    loop-again
+    returns)

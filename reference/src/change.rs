@@ -1,0 +1,58 @@
+//! Changes of a book: a stream opened, a stream closed.
+
+use crate::book::{Book, MAX_HOPS, MAX_ROWS};
+use crate::placing::first_placing;
+use crate::plan::period_of;
+use crate::refusal::{Refusal, refuse_if};
+use crate::route::{planners_route, second_route};
+use crate::row::{FIRST_ROUTE, Row, SECOND_ROUTE};
+
+/// A stream asked for.
+#[derive(Clone, Copy, Debug, PartialEq, Eq)]
+pub struct Open {
+    pub id: u16,
+    pub source: u8,
+    pub destination: u8,
+    pub period: u16,
+    /// The stream shall have a second route.
+    pub second: bool,
+}
+
+/// The book with the stream.
+pub fn open(book: &Book, asked: Open) -> Result<Book, Refusal> {
+    let Open { id, source, destination, period, second } = asked;
+    refuse_if(id == 0, Refusal::IdIsZero)?;
+    refuse_if(source.max(destination) >= book.topology.nodes(), Refusal::NoSuchNode)?;
+    refuse_if(source == destination, Refusal::SourceIsDestination)?;
+    let period = period_of(period).ok_or(Refusal::NoSuchPeriod)?;
+    refuse_if(book.holds(id), Refusal::IdInBook)?;
+    let first = planners_route(&book.topology, source, destination)?;
+    let mut routes = vec![(FIRST_ROUTE, first.clone())];
+    if second {
+        let second = second_route(&book.topology, &first).ok_or(Refusal::NoSecondRoute)?;
+        routes.push((SECOND_ROUTE, second));
+    }
+    refuse_if(is_full_for(book, &routes), Refusal::BookIsFull)?;
+    // Each route is placed beside the book with those before it.
+    let mut book = book.clone();
+    for (route, nodes) in routes {
+        let offsets = first_placing(&book, &nodes, period).ok_or(Refusal::NoPlacing)?;
+        book.add(Row { id, route, period, nodes, offsets });
+    }
+    Ok(book)
+}
+
+/// With these routes the rows would pass 64, or the hops 512.
+fn is_full_for(book: &Book, routes: &[(u8, Vec<u8>)]) -> bool {
+    let new_hops: usize = routes.iter().map(|(_, nodes)| nodes.len() - 1).sum();
+    book.rows.len() + routes.len() > MAX_ROWS || book.hops() + new_hops > MAX_HOPS
+}
+
+/// The book without the stream.
+pub fn close(book: &Book, id: u16) -> Result<Book, Refusal> {
+    refuse_if(id == 0, Refusal::IdIsZero)?;
+    refuse_if(!book.holds(id), Refusal::IdNotInBook)?;
+    let mut book = book.clone();
+    book.remove(id);
+    Ok(book)
+}

@@ -1,0 +1,154 @@
+//! A request: one call with all its arguments, and what the reference says.
+
+use crate::calls;
+use crate::change::Open;
+use crate::frame::{Answer, Call, END, REQUEST_HEADER};
+use std::io::{self, Read, Write};
+
+/// One call with all its arguments.
+#[derive(Clone, Debug, PartialEq, Eq)]
+pub struct Request {
+    pub call: Call,
+    pub id: u16,
+    /// The source of an open or a route list, the node of an expand or a
+    /// balance.
+    pub node: u8,
+    pub destination: u8,
+    pub period: u16,
+    /// An open asks for a second route.
+    pub second: bool,
+    pub s: u8,
+    pub c: u8,
+    pub kinds: u16,
+    pub d: u8,
+    pub u: u8,
+    pub n: u8,
+    /// The links of a new book, the book of any other call.
+    pub bytes: Vec<u8>,
+    /// Length of the output buffer.
+    pub room: u16,
+    /// What every byte of the output buffer is before the call.
+    pub fill: u8,
+}
+
+impl Request {
+    /// A request with every field 0 and no bytes.
+    pub fn blank(call: Call) -> Request {
+        Request {
+            call,
+            id: 0,
+            node: 0,
+            destination: 0,
+            period: 0,
+            second: false,
+            s: 0,
+            c: 0,
+            kinds: 0,
+            d: 0,
+            u: 0,
+            n: 0,
+            bytes: Vec::new(),
+            room: 0,
+            fill: 0,
+        }
+    }
+
+    pub fn write(&self, output: &mut impl Write) -> io::Result<()> {
+        let mut header = [0; REQUEST_HEADER];
+        let mut put = |place: usize, field: &[u8]| {
+            header[place..place + field.len()].copy_from_slice(field);
+        };
+        put(0, &[self.call as u8]);
+        put(1, &self.id.to_be_bytes());
+        put(3, &[self.node, self.destination]);
+        put(5, &self.period.to_be_bytes());
+        put(7, &[self.s, self.c]);
+        put(9, &self.kinds.to_be_bytes());
+        put(11, &[self.d, self.u, self.n]);
+        put(14, &(self.bytes.len() as u16).to_be_bytes());
+        put(16, &self.room.to_be_bytes());
+        put(18, &[self.fill, u8::from(self.second)]);
+        output.write_all(&header)?;
+        output.write_all(&self.bytes)
+    }
+
+    /// Reads a request; none at the end of the stream.
+    pub fn read(input: &mut impl Read) -> io::Result<Option<Request>> {
+        let mut header = [0; REQUEST_HEADER];
+        if !fill_or_end(input, &mut header)? || header[0] == END {
+            return Ok(None);
+        }
+        let number = |place: usize| u16::from_be_bytes([header[place], header[place + 1]]);
+        let mut bytes = vec![0; usize::from(number(14))];
+        input.read_exact(&mut bytes)?;
+        Ok(Some(Request {
+            call: Call::of_number(header[0])?,
+            id: number(1),
+            node: header[3],
+            destination: header[4],
+            period: number(5),
+            second: header[19] != 0,
+            s: header[7],
+            c: header[8],
+            kinds: number(9),
+            d: header[11],
+            u: header[12],
+            n: header[13],
+            bytes,
+            room: number(16),
+            fill: header[18],
+        }))
+    }
+
+    /// What the reference says to this request.
+    pub fn answer(&self) -> Answer {
+        let mut out = vec![self.fill; usize::from(self.room)];
+        let (number, counts) = self.call_reference(&mut out);
+        Answer { number, counts, out }
+    }
+
+    /// Makes the call: the number, and the length or the three counts.
+    fn call_reference(&self, out: &mut [u8]) -> (u8, [u32; 3]) {
+        let book = &self.bytes;
+        let (number, length) = match self.call {
+            Call::New => {
+                calls::new(self.s, self.c, self.kinds, self.d, self.u, self.n, &self.bytes, out)
+            }
+            Call::Check => calls::check(book),
+            Call::Rewrite => calls::rewrite(book, out),
+            Call::Open => calls::open(book, self.open(), out),
+            Call::Close => calls::close(book, self.id, out),
+            Call::Expand => calls::expand(book, self.node, out),
+            Call::Balance => {
+                let (number, data, used, free) = calls::balance(book, self.node);
+                return (number, [data, used, free]);
+            }
+            Call::Routes => {
+                let (number, length, more) = calls::routes(book, self.node, self.destination, out);
+                return (number, [length as u32, u32::from(more), 0]);
+            }
+        };
+        (number, [length as u32, 0, 0])
+    }
+
+    /// The stream that an open asks for.
+    fn open(&self) -> Open {
+        Open {
+            id: self.id,
+            source: self.node,
+            destination: self.destination,
+            period: self.period,
+            second: self.second,
+        }
+    }
+}
+
+/// Fills the buffer; false if the input ends before its first byte.
+fn fill_or_end(input: &mut impl Read, buffer: &mut [u8]) -> io::Result<bool> {
+    let first = input.read(&mut buffer[..1])?;
+    if first == 0 {
+        return Ok(false);
+    }
+    input.read_exact(&mut buffer[1..])?;
+    Ok(true)
+}

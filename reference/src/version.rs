@@ -1,0 +1,63 @@
+//! The versions of an image, and what each of them stores.
+
+use crate::book::{Book, MAX_HOPS, MAX_ROWS};
+use crate::row::FIRST_ROUTE;
+use crate::topology::NODES;
+
+/// Bytes before all else.
+pub const HEADER_LENGTH: usize = 16;
+
+/// Bytes of a row for each of its hops: a node and an offset.
+pub const HOP_BYTES: usize = 3;
+
+/// A version of the image; the value is its number.
+#[derive(Clone, Copy, Debug, PartialEq, Eq, PartialOrd, Ord)]
+#[repr(u16)]
+pub enum Version {
+    /// Document 01's image.
+    One = 1,
+    /// Rows say which route of their stream they are.
+    Two = 2,
+}
+
+impl Version {
+    pub const ALL: [Version; 2] = [Version::One, Version::Two];
+
+    /// The version in which new and changed books are written.
+    pub const NEWEST: Version = Version::Two;
+
+    pub fn of_number(number: u16) -> Option<Version> {
+        Version::ALL.into_iter().find(|&version| version as u16 == number)
+    }
+
+    /// A byte for the route follows the id.
+    pub fn stores_route(self) -> bool {
+        self >= Version::Two
+    }
+
+    /// What the book holds can be said in this version.
+    pub fn fits(self, book: &Book) -> bool {
+        self.stores_route() || book.rows.iter().all(|row| row.route == FIRST_ROUTE)
+    }
+
+    /// Bytes of a row beside those of its hops: id, route, K, hop count and
+    /// the source.
+    pub fn row_bytes(self) -> usize {
+        2 + usize::from(self.stores_route()) + 1 + 1 + 1
+    }
+
+    /// Bytes of the topology of a site with so many nodes.
+    pub fn topology_bytes(self, nodes: u8) -> usize {
+        8 * usize::from(nodes)
+    }
+
+    /// The length of an image with so many nodes, rows and hops.
+    pub fn image_length(self, nodes: u8, rows: usize, hops: usize) -> usize {
+        HEADER_LENGTH + self.topology_bytes(nodes) + self.row_bytes() * rows + HOP_BYTES * hops
+    }
+
+    /// The length of the longest image.
+    pub fn longest_image(self) -> usize {
+        self.image_length(*NODES.end(), MAX_ROWS, MAX_HOPS)
+    }
+}
