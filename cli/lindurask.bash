@@ -2,7 +2,7 @@
 _lindurask() {
     local word=${COMP_WORDS[COMP_CWORD]} before=${COMP_WORDS[COMP_CWORD - 1]} command=${COMP_WORDS[1]-} choices=
     COMPREPLY=()
-    local commands='new check show open close quote routes table balance replan page help'
+    local commands='new check show open close quote routes table balance diff replan page help'
     if [ "$COMP_CWORD" = 1 ]; then
         mapfile -t COMPREPLY < <(compgen -W "$commands --help --version" -- "$word")
         return
@@ -12,7 +12,7 @@ _lindurask() {
         return
     fi
     case $command in
-    check | quote | routes | table | balance) choices='--json --help' ;;
+    check | quote | routes | table | balance | diff) choices='--json --help' ;;
     show) choices='--stream --node --no-lists --json --help' ;;
     *) choices=--help ;;
     esac

@@ -1,7 +1,7 @@
 //! Answers for programs, in JSON.
 
 use crate::book::{Balance, Book, Loss, Stream, Way};
-use crate::trouble::{meaning, Trouble};
+use crate::trouble::Trouble;
 use std::fmt::Display;
 
 /// A text in quotes.
@@ -86,11 +86,10 @@ pub fn refusal(number: u8, words: &str) -> Vec<(&'static str, String)> {
 
 /// The object that stands for an answer that is a refusal; none for other trouble.
 pub fn trouble(trouble: &Trouble) -> Option<String> {
-    let Trouble::Refused { number, about, words } = trouble else { return None };
-    let words = words.as_deref().unwrap_or_else(|| meaning(*number));
-    let mut fields = refusal(*number, words);
-    if !about.is_empty() {
-        fields.push(("about", string(about)));
+    let said = trouble.refusal()?;
+    let mut fields = refusal(said.number, said.meaning());
+    if !said.about.is_empty() {
+        fields.push(("about", string(&said.about)));
     }
     Some(object(fields) + "\n")
 }

@@ -4,6 +4,7 @@ mod book;
 mod colour;
 mod commands;
 mod describe;
+mod difference;
 mod engine;
 mod files;
 mod frame;

@@ -53,6 +53,20 @@ impl Entry {
         }
     }
 
+    /// What the node does, in words.
+    pub fn words(self) -> String {
+        let (does, how) = match self.plain() {
+            0 => return "sleeps".into(),
+            1 => ("sends", "from above"),
+            2 => ("receives", "to buffer"),
+            3 => ("forwards", "from buffer"),
+            4 => ("receives", "for above"),
+            _ => return "control slot".into(),
+        };
+        let way = if self.is_second() { ", on its second route" } else { "" };
+        format!("{does} stream {} {how}{way}", self.id)
+    }
+
     pub fn work(self) -> Work {
         match self.plain() {
             0 => Work::Sleep,

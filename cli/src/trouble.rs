@@ -2,9 +2,18 @@
 
 use crate::refusals;
 
+/// A refusal: its number, what it is about, and words of its own where the general ones say too little.
+pub struct Refusal {
+    pub number: u8,
+    pub about: String,
+    pub words: Option<String>,
+}
+
 pub enum Trouble {
-    /// The planner refused: its number, what it is about, and words of its own where the general ones say too little.
-    Refused { number: u8, about: String, words: Option<String> },
+    /// The planner refused what was asked for.
+    Refused(Refusal),
+    /// The planner refused a file, and without it there is no answer of yes or no.
+    NoBook(Refusal),
     /// The words were not understood.
     Misused(String),
     /// A file or the engine failed.
@@ -14,24 +23,37 @@ pub enum Trouble {
 impl Trouble {
     /// A refusal that is about something.
     pub fn refused(number: u8, about: impl Into<String>) -> Trouble {
-        Trouble::Refused { number, about: about.into(), words: None }
+        Trouble::Refused(Refusal { number, about: about.into(), words: None })
+    }
+
+    /// The same where a refused file is one that failed.
+    pub fn of_file(self) -> Trouble {
+        match self {
+            Trouble::Refused(refusal) => Trouble::NoBook(refusal),
+            other => other,
+        }
+    }
+
+    /// The refusal that it is, if it is one.
+    pub fn refusal(&self) -> Option<&Refusal> {
+        match self {
+            Trouble::Refused(refusal) | Trouble::NoBook(refusal) => Some(refusal),
+            Trouble::Misused(_) | Trouble::Failed(_) => None,
+        }
     }
 
     /// The exit status.
     pub fn status(&self) -> u8 {
         match self {
-            Trouble::Refused { .. } => 1,
-            Trouble::Misused(_) | Trouble::Failed(_) => 2,
+            Trouble::Refused(_) => 1,
+            Trouble::NoBook(_) | Trouble::Misused(_) | Trouble::Failed(_) => 2,
         }
     }
 
     /// The line that says it.
     pub fn line(&self) -> String {
         match self {
-            Trouble::Refused { number, about, words } => {
-                let words = words.as_deref().unwrap_or_else(|| meaning(*number));
-                refusal(*number, words, about)
-            }
+            Trouble::Refused(refusal) | Trouble::NoBook(refusal) => refusal.line(),
             Trouble::Misused(said) => said.clone(),
             Trouble::Failed(said) => format!("lindurask: {said}"),
         }
@@ -43,10 +65,18 @@ pub fn meaning(number: u8) -> &'static str {
     refusals::words(number).expect("an answer's number has words")
 }
 
-/// A refusal as it is printed.
-fn refusal(number: u8, words: &str, about: &str) -> String {
-    if about.is_empty() {
-        return format!("refused {number}: {words}");
+impl Refusal {
+    /// What it says.
+    pub fn meaning(&self) -> &str {
+        self.words.as_deref().unwrap_or_else(|| meaning(self.number))
     }
-    format!("refused {number}: {words} ({about})")
+
+    /// The refusal as it is printed.
+    fn line(&self) -> String {
+        let said = format!("refused {}: {}", self.number, self.meaning());
+        if self.about.is_empty() {
+            return said;
+        }
+        format!("{said} ({})", self.about)
+    }
 }

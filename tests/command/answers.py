@@ -13,6 +13,7 @@ USAGE = {
     "routes": "BOOK SOURCE DESTINATION [--json]",
     "table": "BOOK [NODE] [--json]",
     "balance": "BOOK [NODE] [--json]",
+    "diff": "BOOK BOOK [--json]",
     "replan": "BOOK PLAN NEW",
     "page": "BOOK [FILE]",
     "help": "[COMMAND]",

@@ -30,6 +30,11 @@ while True:
         image = open(os.path.join(os.path.dirname(sys.argv[0]), "new.image"), "rb").read()
         counts[0], out = len(image), image + out[len(image):]
     if mode == "sleepy" and head[0] == 5: counts[0], out = 300 * data[5], bytes(300 * data[5]) + out[300 * data[5]:]
+    if mode == "unlike" and head[0] == 5:
+        length = 300 * data[5]
+        table = open(os.path.join(os.path.dirname(sys.argv[0]), "tables"), "rb").read()[length * head[3]:][:length]
+        forwards = bytes(3 if place % 3 == 0 and byte == 1 else byte for place, byte in enumerate(table))
+        counts[0], out = length, (forwards if data[4] == 1 else table) + out[length:]
     if mode.startswith("list") and head[0] == 7:
         said = {"listnode": b"\2\3\x0c\0", "listhops": b"\7\3\2\1\4\5\6\7\0", "listnone": b"\0\3", "listcut": b"\3\3\2\1", "listends": b"\3\3\2\1\4"}.get(mode, b"")
         counts, out = [len(said), 2 if mode == "listmark" else 0, 0], said + out[len(said):]
@@ -50,7 +55,7 @@ WRONG = {"number": "says what is no answer", "length": "says what is no answer",
          "half": "ended before it answered", "more": "says more than it was asked, or does not end", "badly": "ended badly: exit status: 3"}
 COMMANDS = [["check", "kiln.book"], ["show", "kiln.book"], ["open", "kiln.book", "8", "1", "2", "5"], ["close", "kiln.book", "5"], ["table", "kiln.book"],
             ["balance", "kiln.book"], ["quote", "kiln.book", "3", "0"], ["new", "n.book", "kiln.plan"], ["replan", "kiln.book", "yard.plan", "n.book"],
-            ["page", "kiln.book"], ["routes", "kiln.book", "3", "0"]]
+            ["page", "kiln.book"], ["routes", "kiln.book", "3", "0"], ["diff", "kiln.book", "yard.book"]]
 
 
 def hold(room, engine, words, said):
@@ -97,8 +102,16 @@ def nonsense(room, engines):
     # Lists of routes with a node beyond the site, of 7 hops, of none, cut short, with another end, and with a mark of 2.
     for mode in ["listnode", "listhops", "listnone", "listcut", "listends", "listmark"]:
         hold(room, program(engines, "engine-" + mode, FAKE.encode()), COMMANDS[10], "says what is no answer")
-    # Tables that are not those of the streams in the book make no page.
-    hold(room, fake["sleepy"], COMMANDS[9], "says what is no answer")
+    # Tables that are not those of the streams in the book make no page, and are not compared.
+    for words in [COMMANDS[9], COMMANDS[11]]:
+        hold(room, fake["sleepy"], words, "says what is no answer")
+    # One book in two versions whose tables differ, if only in what is sent from above and what from the buffer.
+    engines.put("tables", b"".join(bytes([op]) + id.to_bytes(2, "big") for node in range(old.n) for op, id in old.table(node)))
+    room.put("old.book", old.in_version(1).image())
+    hold(room, program(engines, "engine-unlike", FAKE.encode()), ["diff", "kiln.book", "old.book"], "says what is no answer")
+    got = room.run("diff", "kiln.book", "kiln.book", env={"LINDURASK_ENGINE": os.fsdecode(engines.at("engine-unlike"))})
+    check(got.status == 0 and got.all == "the books are the same\n", "diff with the tables of the book: %s" % got.all)
+    os.remove(room.at("old.book"))
 
 
 def called_lawful(room, engines):

@@ -14,11 +14,12 @@ def hold(room, file):
     stored = open(os.path.join(tool.STORED, file)).read()
     words = stored.split("\n", 1)[0].split()[2:]
     with tool.Room() as own:
+        own.put_others()
         said = own.run(*words)
         out = said.out
         if len(out) > tool.work_out.MOST_STORED:
             out = "sha256 %s of %d bytes\n" % (hashlib.sha256(out.encode()).hexdigest(), len(out))
-        left = ["%s.book" % name for name in ["made"] + tool.SAMPLES if os.path.exists(own.at("%s.book" % name))]
+        left = [name for name in own.names() if name == "made.book" or name in room.names()]
         changed = [name for name in left if name == "made.book" or own.get(name) != room.get(name)]
         leaves = "".join("leaves %s: %s\n" % (name, hashlib.sha256(own.get(name)).hexdigest()) for name in changed)
         got = "$ lindurask %s\n%s%sexit status %d\n" % (" ".join(words), out, leaves, said.status)
@@ -61,6 +62,7 @@ def colours(room):
 
 
 def test(room):
+    room.put_others()
     files = sorted(file for file in os.listdir(tool.STORED) if file.endswith(".said"))
     check(len(files) > 60, "stored cases are missing")
     for file, held, got, err in tool.all_of(lambda file: hold(room, file), files):
@@ -70,7 +72,7 @@ def test(room):
     for file in files:
         check(open(os.path.join(tool.STORED, file)).read() == worked_out.get(file), "%s is not what is worked out" % file)
     for name in tool.SAMPLES:
-        for words in [["show"], ["show", "--no-lists"], ["balance"], ["table"]]:
+        for words in [["show"], ["show", "--no-lists"], ["balance"], ["table"], ["diff", "yard.book"]]:
             wide = max(map(len, room.run(words[0], name + ".book", *words[1:]).out.split("\n")))
             check(wide <= 80, "%s %s has %d columns" % (words, name, wide))
     colours(room)

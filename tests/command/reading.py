@@ -6,7 +6,7 @@ import subprocess
 import tool
 from tool import check
 
-READERS = [["check"], ["show"], ["table"], ["balance"], ["quote", "1", "2"], ["page"], ["routes", "1", "2"]]
+READERS = [["check"], ["show"], ["table"], ["balance"], ["quote", "1", "2"], ["page"], ["routes", "1", "2"], ["diff", "kiln.book"]]
 CHANGERS = [["open", "8", "1", "2", "5"], ["close", "1"]]
 
 
@@ -66,11 +66,11 @@ def mute(room):
     words = READERS + CHANGERS + [["page", "m.html"], ["replan", "yard.plan", "m.book"]]
     commands = [asked(command, "kiln.book") for command in words] + [["new", "m.book", "kiln.plan"], ["help"], ["--version"], ["frob"]]
     for closing in [">&-", "1</dev/null", "<&- >&-"]:
-        for command in commands if closing == ">&-" else commands[6:10]:
+        for command in commands if closing == ">&-" else commands[len(READERS):][:4]:
             done = subprocess.run(["sh", "-c", 'exec "$0" "$@" ' + closing, tool.TOOL, *command], cwd=room.path, stderr=subprocess.PIPE, timeout=20)
             said = b"lindurask: standard output is closed; nothing is changed\n"
             check(done.returncode == 2 and done.stderr == said, "%s with %s: %d %s" % (command, closing, done.returncode, done.stderr))
-    done = subprocess.run(["sh", "-c", 'exec "$0" "$@" <&- >&- 2>&-', tool.TOOL, *commands[6]], cwd=room.path, timeout=20)
+    done = subprocess.run(["sh", "-c", 'exec "$0" "$@" <&- >&- 2>&-', tool.TOOL, *commands[len(READERS)]], cwd=room.path, timeout=20)
     check(done.returncode == 2, "an open with all streams closed")
     check(room.names() == before and [room.get("kiln.book"), room.get("yard.book")] == books, "a tool that cannot speak changed something")
 

@@ -85,6 +85,11 @@ class Room:
         with open(self.at(name), "rb") as file:
             return file.read()
 
+    def put_others(self):
+        """Adds the further books that diff is tried on."""
+        for name, book in work_out.others().items():
+            self.put(name, book.image())
+
     def names(self, folder="."):
         return sorted(os.listdir(os.path.join(self.path, folder)))
 

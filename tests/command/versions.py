@@ -15,6 +15,9 @@ def same(room, name):
         got = room.run(words[0], "old.book", *words[1:], *more)
         want = room.run(words[0], name + ".book", *words[1:], *more)
         check((got.status, got.all.replace("old.book", name + ".book")) == (want.status, want.all), "%s of a version 1 book: %s" % (words, got.all[:2000]))
+    for names in [("old.book", name + ".book"), (name + ".book", "old.book")]:
+        books = [work_out.Book.read(room.get(own)) for own in names]
+        room.says(0, work_out.diff(*books, names), "diff", *names)
     room.says(0, work_out.check_json(old), "check", "old.book", "--json")
     room.says(0, work_out.show_json(old, old.streams()), "show", "old.book", "--json")
 

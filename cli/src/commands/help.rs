@@ -40,7 +40,8 @@ Lindurask keeps the book of a site: its tile plan, its links and its streams.
 
 {}
 lindurask COMMAND --help explains a command and its options.
-Exit status: 0 done, 1 refused, 2 not understood, or a file failed.
+Exit status: 0 done, 1 refused, 2 not understood, or a file failed;
+of diff: 0 the same, 1 they differ, 2 also where a book is refused.
 The refusals by their number:
 {}",
         commands.collect::<String>(),

@@ -3,6 +3,7 @@
 mod balance;
 mod check;
 mod close;
+mod diff;
 mod help;
 mod new;
 mod open;
@@ -46,7 +47,7 @@ pub struct Command {
 }
 
 /// All commands, in the order in which help lists them.
-pub const COMMANDS: [Command; 12] = [
+pub const COMMANDS: [Command; 13] = [
     new::NEW,
     check::CHECK,
     show::SHOW,
@@ -56,6 +57,7 @@ pub const COMMANDS: [Command; 12] = [
     routes::ROUTES,
     table::TABLE,
     balance::BALANCE,
+    diff::DIFF,
     replan::REPLAN,
     page::PAGE,
     help::HELP,

@@ -8,7 +8,7 @@ use crate::frame;
 use crate::loaded::decode;
 use crate::plan::{Fault, Plan};
 use crate::text::plain;
-use crate::trouble::Trouble;
+use crate::trouble::{Refusal, Trouble};
 use crate::words::Words;
 use std::path::Path;
 
@@ -49,7 +49,7 @@ fn refused(path: &Path, plan: &Plan, number: u8) -> Trouble {
         Some(Fault { line, words }) => {
             let about = said_of(path, &Fault { line, words: String::new() });
             let about = about.trim_end_matches([':', ' ']).to_string();
-            Trouble::Refused { number, about, words: Some(words) }
+            Trouble::Refused(Refusal { number, about, words: Some(words) })
         }
     }
 }

@@ -126,7 +126,7 @@ module _ {Size : List ℕ → Type 0} {b : Book} {q q′ : Request} (i : InAnyOr
       let (out, out′, len, fit, call, rest) = h .back in
       i .each (q ∷ q′ ∷ []) (n ∷ m ∷ []) (image last) (put (put none here) here) (h .forth) .1 .0 out m′ len out′ fit call .0
 
-unlike : {xs ys : List ℕ} → T (not (same xs ys)) → xs ≡ ys → ⊥
+pub unlike : {xs ys : List ℕ} → T (not (same xs ys)) → xs ≡ ys → ⊥
 unlike {xs} {ys} t = tests-not (tests-same xs ys) .yes (so t)
 
 nearly : Stored (image nearlyFull) newest nearlyFull

@@ -3,3 +3,7 @@ pub mod Changes
 pub mod Placings
 pub mod Routes
 pub mod Balance
+pub mod Air
+pub mod OnAir
+pub mod Expanding
+pub mod Needed

@@ -1,1 +1,3 @@
 pub mod Promises
+pub mod OnAir
+pub mod Needed

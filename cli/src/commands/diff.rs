@@ -1,0 +1,213 @@
+//! Says where two books differ, and where the air would show it.
+
+use super::{Command, Report};
+use crate::book::{Book, Stream};
+use crate::colour::Colour;
+use crate::describe;
+use crate::difference::{in_stream, Difference, Differs, Pair, Seen};
+use crate::json;
+use crate::loaded::{unreadable, Loaded};
+use crate::page::agrees;
+use crate::table::Entry;
+use crate::text::{count, plain, row};
+use crate::trouble::Trouble;
+use crate::words::{Words, JSON};
+use std::path::Path;
+
+pub const DIFF: Command = Command {
+    name: "diff",
+    operands: "BOOK BOOK",
+    takes: [2, 2],
+    choices: &[JSON],
+    summary: "say where two books differ",
+    explains: "\
+Says what differs between two books: version, plan, nodes, links and streams,
+and the first slot and node where the air would show it, with what the node does
+there by each book. What the first book has stands behind <, what the second has
+behind >; tiles, slots and nodes are counted from 0. The nodes that both books
+have are compared, slot by slot in each tile. Two books that differ in nothing
+but their version are the same. The exit status is 0 where the books are the
+same, 1 where they differ, and 2 where one is no lawful book or cannot be read.",
+    example: "lindurask diff sold.book kiln.book",
+    run,
+};
+
+/// What stands before what each book has.
+const MARKS: Pair<&str> = ["<", ">"];
+
+/// Lines under a title; nothing where there are none.
+fn section(title: &str, lines: &str) -> String {
+    if lines.is_empty() {
+        return String::new();
+    }
+    format!("\n{}\n{lines}", Colour::for_output().title(title))
+}
+
+/// What each book has of a part, a line each.
+fn both((name, words): &Differs) -> String {
+    let name = if name.is_empty() { String::new() } else { format!(" {name}") };
+    let line = |mark: &str, words: &[String]| match words {
+        [] => row(&format!("  {mark}{name}"), ["none"]),
+        words => row(&format!("  {mark}{name}"), words),
+    };
+    line(MARKS[0], &words[0]) + &line(MARKS[1], &words[1])
+}
+
+/// A number that is not the same, in its section.
+fn number(title: &str, numbers: Option<Pair<u16>>) -> String {
+    let words = numbers.map(|pair| pair.map(|number| vec![number.to_string()]));
+    words.map_or(String::new(), |words| section(title, &both(&("", words))))
+}
+
+fn links(links: &Pair<Vec<(usize, usize)>>) -> String {
+    let list = |(mark, links): (&str, &Vec<(usize, usize)>)| {
+        let pairs = links.iter().map(|(a, b)| format!("{a}-{b}"));
+        let lines = if links.is_empty() { String::new() } else { row(" ", pairs) };
+        section(&format!("Links in {mark} alone"), &lines)
+    };
+    MARKS.into_iter().zip(links).map(list).collect()
+}
+
+/// The streams that one book has alone, then those of both that differ.
+fn streams(streams: &[Pair<Option<Stream>>]) -> String {
+    let alone = |own: usize| {
+        let own_pairs = streams.iter().filter(|pair| pair[1 - own].is_none());
+        let own_streams = own_pairs.filter_map(|pair| pair[own]);
+        let lines: String = own_streams.map(|stream| describe::stream("  ", stream)).collect();
+        section(&format!("Streams in {} alone", MARKS[own]), &lines)
+    };
+    let shared = streams.iter().map(|pair| match *pair {
+        [Some(one), Some(other)] => {
+            let parts: String = in_stream([one, other]).iter().map(both).collect();
+            format!("  stream {}\n{parts}", one.first().id)
+        }
+        _ => String::new(),
+    });
+    let shared = section("Streams in both that differ", &shared.collect::<String>());
+    alone(0) + &alone(1) + &shared
+}
+
+/// What a node does by a book in a slot.
+fn does(mark: &str, entry: Option<Entry>, book: &Book) -> String {
+    let said = entry
+        .map(Entry::words)
+        .unwrap_or_else(|| format!("no such slot: a tile has {}", count(book.slots, "slot")));
+    format!("  {mark} {said}\n")
+}
+
+/// Where the air would show it.
+fn air(difference: &Difference) -> String {
+    let books = difference.books;
+    let shared = books[0].nodes().min(books[1].nodes());
+    let (compared, who) = match difference.unequal(Book::nodes) {
+        None => (String::new(), "every node does"),
+        Some(_) => {
+            (format!("  nodes 0 to {}, which both have, are compared\n", shared - 1), "these do")
+        }
+    };
+    let said = match &difference.seen {
+        None => format!("  the same: {who} the same in every slot\n"),
+        Some(Seen { tile, slot, node, entries }) => {
+            let place = usize::from(*tile) * usize::from(books[0].slots) + usize::from(*slot);
+            let first = format!("  first in tile {tile}, slot {slot}, at node {node}");
+            format!("{first} (slot {place} of the cycle)\n")
+                + &does(MARKS[0], entries[0], books[0])
+                + &does(MARKS[1], entries[1], books[1])
+        }
+    };
+    section("On the air", &(compared + &said))
+}
+
+fn text(difference: &Difference, paths: Pair<&Path>) -> String {
+    let version = difference.unequal(|book| book.version);
+    if difference.is_none() {
+        return match version {
+            None => "the books are the same\n".into(),
+            Some([one, other]) => {
+                format!("the same book in versions {one} and {other}: the air is the same\n")
+            }
+        };
+    }
+    let name = |(mark, path): (&str, &Path)| format!("{mark} {}\n", plain(path));
+    let names: String = MARKS.into_iter().zip(paths).map(name).collect();
+    format!("the books differ\n{names}")
+        + &number("Version", version)
+        + &section("Plan", &difference.plan.iter().map(both).collect::<String>())
+        + &number("Nodes", difference.unequal(|book| book.nodes().into()))
+        + &links(&difference.links)
+        + &streams(&difference.streams)
+        + &air(difference)
+}
+
+/// A value of each book, or null where they have the same.
+fn pair<T>(values: Option<Pair<T>>, said: fn(T) -> String) -> String {
+    values.map_or("null".into(), |values| json::array(values.map(said)))
+}
+
+/// A stream that is not the same in both, in JSON.
+fn stream_in_json(streams: &Pair<Option<Stream>>) -> String {
+    let differs = match *streams {
+        [Some(one), Some(other)] => in_stream([one, other]),
+        _ => vec![],
+    };
+    let differs = differs.iter().map(|(name, _)| json::string(name));
+    let id = streams.iter().flatten().next().map_or(0, |stream| stream.first().id);
+    json::object([
+        ("id", id.to_string()),
+        ("differs", json::array(differs)),
+        ("books", json::array(streams.map(|one| one.map_or("null".into(), json::stream)))),
+    ])
+}
+
+fn air_in_json(seen: &Seen) -> String {
+    let entry = |entry: Entry| json::array([entry.operation.into(), entry.id]);
+    let entries = seen.entries.map(|own| own.map_or("null".into(), entry));
+    json::object([
+        ("tile", seen.tile.to_string()),
+        ("slot", seen.slot.to_string()),
+        ("node", seen.node.to_string()),
+        ("entries", json::array(entries)),
+    ])
+}
+
+fn in_json(difference: &Difference) -> String {
+    let plan = Some(difference.books).filter(|_| !difference.plan.is_empty());
+    let links = Some(difference.links.each_ref());
+    let links = links.filter(|links| links.iter().any(|own| !own.is_empty()));
+    let list =
+        |own: &Vec<(usize, usize)>| json::array(own.iter().map(|(a, b)| json::array([a, b])));
+    json::answer([
+        ("same", difference.is_none().to_string()),
+        ("version", pair(difference.unequal(|book| book.version), |version| version.to_string())),
+        ("plan", pair(plan, json::plan)),
+        ("nodes", pair(difference.unequal(Book::nodes), |nodes| nodes.to_string())),
+        ("links", pair(links, list)),
+        ("streams", json::array(difference.streams.iter().map(stream_in_json))),
+        ("air", difference.seen.as_ref().map_or("null".into(), air_in_json)),
+    ])
+}
+
+/// A book and its tables, which the engine says and the rows of the book bear out.
+fn read(path: &Path) -> Result<(Book, Vec<Vec<Entry>>), Trouble> {
+    let mut loaded = Loaded::read(path).map_err(Trouble::of_file)?;
+    let nodes = loaded.nodes(None)?;
+    let tables = loaded.tables(&nodes)?;
+    loaded.engine.finish()?;
+    if !agrees(&loaded.book, &tables) {
+        return Err(unreadable());
+    }
+    Ok((loaded.book, tables))
+}
+
+fn run(words: &Words) -> Result<Report, Trouble> {
+    let paths = [words.path(0), words.path(1)];
+    let [first, second] = [read(paths[0])?, read(paths[1])?];
+    let difference = Difference::of([&first.0, &second.0], [&first.1, &second.1]);
+    let is_same = difference.is_none();
+    if is_same && difference.seen.is_some() {
+        return Err(unreadable());
+    }
+    let json = words.has(&JSON);
+    let text = if json { in_json(&difference) } else { text(&difference, paths) };
+    Ok(Report { text, refused: !is_same, ..Report::default() })
+}
