@@ -2,7 +2,7 @@
 _lindurask() {
     local word=${COMP_WORDS[COMP_CWORD]} before=${COMP_WORDS[COMP_CWORD - 1]} command=${COMP_WORDS[1]-} choices=
     COMPREPLY=()
-    local commands='new check show open close quote routes table balance diff replan page help'
+    local commands='new check show open close quote routes table balance diff statement replan page help'
     if [ "$COMP_CWORD" = 1 ]; then
         mapfile -t COMPREPLY < <(compgen -W "$commands --help --version" -- "$word")
         return
@@ -13,6 +13,7 @@ _lindurask() {
     fi
     case $command in
     check | quote | routes | table | balance | diff) choices='--json --help' ;;
+    statement) choices='--raw --help' ;;
     show) choices='--stream --node --no-lists --json --help' ;;
     *) choices=--help ;;
     esac

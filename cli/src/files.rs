@@ -72,6 +72,17 @@ pub fn read_book(path: &Path) -> Result<Vec<u8>, Trouble> {
     read_up_to(&mut open_plain(path, false)?, MOST_BYTES).map_err(on(path))
 }
 
+/// Reads a book's bytes whole, as long as a length of two bytes can say.
+pub fn read_image(path: &Path) -> Result<Vec<u8>, Trouble> {
+    let most = usize::from(u16::MAX);
+    let mut bytes = read_up_to(&mut open_plain(path, false)?, most + 1).map_err(on(path))?;
+    if most < bytes.len() {
+        return Err(failed(path, format!("is too long for a statement: over {most} bytes")));
+    }
+    bytes.shrink_to_fit();
+    Ok(bytes)
+}
+
 /// Reads a plan: a plain file, or standard input where the name is -.
 pub fn read_plan(path: &Path) -> Result<Vec<u8>, Trouble> {
     let (path, bytes) = if path == Path::new(STANDARD_INPUT.0) {

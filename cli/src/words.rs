@@ -16,6 +16,7 @@ pub const JSON: Choice = Choice { name: "--json", value: None };
 pub const STREAM: Choice = Choice { name: "--stream", value: Some("ID") };
 pub const NODE: Choice = Choice { name: "--node", value: Some("NODE") };
 pub const NO_LISTS: Choice = Choice { name: "--no-lists", value: None };
+pub const RAW: Choice = Choice { name: "--raw", value: None };
 
 /// The options that every command has.
 const HELP: [&str; 2] = ["--help", "-h"];

@@ -1,4 +1,4 @@
-/* The eight calls of include/lindurask.h under other names. */
+/* The eight calls of include/lindurask.h under other names, and the figures of a statement. */
 #ifndef FAST_H
 #define FAST_H
 
@@ -17,5 +17,14 @@ uint8_t fast_expand(const uint8_t *book, size_t book_len, uint8_t node, uint8_t 
 uint8_t fast_balance(const uint8_t *book, size_t book_len, uint8_t node, uint32_t *data, uint32_t *used, uint32_t *free_slots);
 uint8_t fast_routes(const uint8_t *book, size_t book_len, uint8_t source, uint8_t destination, uint8_t *out, size_t out_len,
                     size_t *length, uint8_t *more);
+
+/* Of an accepted image: each node's free slots, the fewest of them, the sum of used, the longest latency. */
+struct fast_figures {
+    unsigned nodes;
+    uint32_t free[64], fewest, used, latency;
+};
+
+/* The image's number; the figures are set where it is 0. */
+uint8_t fast_figures(const uint8_t *book, size_t book_len, struct fast_figures *out);
 
 #endif

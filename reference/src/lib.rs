@@ -9,8 +9,8 @@
 //! `plan`, `slots` (tiles, slots, periods); `node_set`, `topology`, `route`,
 //! `hop`, `placing` (routes and clashes); `row`, `book`, `law`, `version`,
 //! `image` (the image); `refusal`, `change`, `calls` (what each call says
-//! back); `table`, `listing` (a node's table and balance). `frame` and
-//! `request` carry calls between programs.
+//! back); `table`, `listing` (a node's table and balance); document 02's
+//! `statement` (many sites). `frame` and `request` carry calls between programs.
 
 pub mod book;
 pub mod calls;
@@ -28,6 +28,7 @@ pub mod request;
 pub mod route;
 pub mod row;
 pub mod slots;
+pub mod statement;
 pub mod table;
 pub mod topology;
 pub mod version;

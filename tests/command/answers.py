@@ -14,6 +14,7 @@ USAGE = {
     "table": "BOOK [NODE] [--json]",
     "balance": "BOOK [NODE] [--json]",
     "diff": "BOOK BOOK [--json]",
+    "statement": "LAST THIS [LAST THIS ..] [--raw]",
     "replan": "BOOK PLAN NEW",
     "page": "BOOK [FILE]",
     "help": "[COMMAND]",
@@ -128,6 +129,8 @@ def usage(room):
         line = "usage: lindurask %s %s\n" % (name, words)
         least = len([w for w in words.split("[")[0].split()])
         most = least + sum(1 for w in words.split() if w.startswith("[") and not w.startswith("[--"))
+        # A third book stands alone; the most that a statement takes is in statements.py.
+        most = least if name == "statement" else most
         operands = ["kiln.book", "1", "2", "5", "5", "6", "7"]
         if least:
             room.says(2, line, name, *operands[:least - 1])

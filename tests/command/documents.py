@@ -72,12 +72,12 @@ def documents(room, usages, refusals):
     room.put("my.book", room.get("pond.book"))
     os.symlink(".", room.at("books"))
     dialogues = re.findall(r"```\n(\$ ./lindurask .*?)```", readme, re.S)
-    check(len(dialogues) == 3, "README.md has %d dialogues" % len(dialogues))
+    check(len(dialogues) == 4, "README.md has %d dialogues" % len(dialogues))
     for part in "".join(dialogues).split("$ ./lindurask ")[1:]:
         words, said = part.split("\n", 1)
         got = room.run(*words.split()).all
         check(got == said, "README.md: lindurask %s says\n%s" % (words, got))
-    for variable in ["LINDURASK_ENGINE", "NO_COLOR"]:
+    for variable in ["LINDURASK_ENGINE", "LINDURASK_STATEMENT", "NO_COLOR"]:
         check(variable in text("cli/lindurask.1"), "the man page has no %s" % variable)
 
 
@@ -101,13 +101,16 @@ def samples(room):
 def installed(room):
     done = subprocess.run([os.path.join(tool.ROOT, "install"), room.at("prefix")], capture_output=True, text=True)
     check(done.returncode == 0, "./install: %s" % done.stderr)
-    for file in ["bin/lindurask", "libexec/lindurask/engine", "share/man/man1/lindurask.1", "share/bash-completion/completions/lindurask",
+    for file in ["bin/lindurask", "libexec/lindurask/engine", "libexec/lindurask/statement", "share/man/man1/lindurask.1", "share/bash-completion/completions/lindurask",
                  "include/lindurask.h", "lib/libplanner.a"]:
         check(os.path.isfile(room.at("prefix/" + file)), "./install did not put %s" % file)
     # Without the kit and without the repository: neither is on the path.
     run = [room.at("prefix/bin/lindurask"), "balance", "kiln.book"]
     done = subprocess.run(run, cwd=room.path, env={"PATH": "/usr/bin:/bin"}, capture_output=True, text=True)
     check(done.returncode == 0 and done.stdout == room.run("balance", "kiln.book").out, "what is installed: %s" % done.stderr)
+    stated = [run[0], "statement", "kiln.book", "pond.book"]
+    done = subprocess.run(stated, cwd=room.path, env={"PATH": "/usr/bin:/bin"}, capture_output=True, text=True)
+    check(done.returncode == 0 and done.stdout == room.run(*stated[1:]).out, "a statement by what is installed: %s" % done.stderr)
     os.remove(room.at("prefix/libexec/lindurask/engine"))
     done = subprocess.run(run, cwd=room.path, env={"PATH": "/usr/bin:/bin"}, capture_output=True, text=True)
     check(done.returncode == 2 and "the engine is not there" in done.stderr, "an installed tool without its engine: %s" % done.stderr)
@@ -118,7 +121,7 @@ def test(room):
     names = [words.split()[1] for words in everything.split("\n") if words.startswith("  lindurask ")]
     usages = {name: room.run(name, "--help").out.split("\n")[0].replace("lindurask ", "", 1) for name in names}
     refusals = re.findall(r"^ +(\d+)  (.*)$", everything, re.M)
-    check(len(usages) == 13 and len(refusals) == 18, "help lists %d commands and %d refusals" % (len(usages), len(refusals)))
+    check(len(usages) == 14 and len(refusals) == 18, "help lists %d commands and %d refusals" % (len(usages), len(refusals)))
     check(all(len(line) <= 80 for line in everything.split("\n")), "help is wider than 80 columns")
     man_page(room, usages, refusals)
     completion(usages)

@@ -6,7 +6,7 @@ import subprocess
 import tool
 from tool import check
 
-READERS = [["check"], ["show"], ["table"], ["balance"], ["quote", "1", "2"], ["page"], ["routes", "1", "2"], ["diff", "kiln.book"]]
+READERS = [["check"], ["show"], ["table"], ["balance"], ["quote", "1", "2"], ["page"], ["routes", "1", "2"], ["diff", "kiln.book"], ["statement", "kiln.book"]]
 CHANGERS = [["open", "8", "1", "2", "5"], ["close", "1"]]
 
 

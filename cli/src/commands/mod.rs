@@ -12,6 +12,7 @@ mod quote;
 mod replan;
 mod routes;
 mod show;
+mod statement;
 mod table;
 
 use crate::trouble::Trouble;
@@ -47,7 +48,7 @@ pub struct Command {
 }
 
 /// All commands, in the order in which help lists them.
-pub const COMMANDS: [Command; 13] = [
+pub const COMMANDS: [Command; 14] = [
     new::NEW,
     check::CHECK,
     show::SHOW,
@@ -58,6 +59,7 @@ pub const COMMANDS: [Command; 13] = [
     table::TABLE,
     balance::BALANCE,
     diff::DIFF,
+    statement::STATEMENT,
     replan::REPLAN,
     page::PAGE,
     help::HELP,

@@ -81,10 +81,10 @@ sum-more {sum} {x} {n} f e g = ap₂ (λ (a b : ℕ). a + b) e g ∙ add-comm (s
 
 -- USED
 -- a number counts where the test passes, and nothing else
-counts : {t : Bool} {P : Type 0} (n : ℕ) → Tests t P → P → cond t n 0 ≡ n
+pub counts : {t : Bool} {P : Type 0} (n : ℕ) → Tests t P → P → cond t n 0 ≡ n
 counts n a p = ap (λ (t : Bool). cond t n 0) (a .back p)
 
-counts-not : {t : Bool} {P : Type 0} (n : ℕ) → Tests t P → (P → ⊥) → cond t n 0 ≡ 0
+pub counts-not : {t : Bool} {P : Type 0} (n : ℕ) → Tests t P → (P → ⊥) → cond t n 0 ≡ 0
 counts-not {t = true} n a f = absurd (f (a .yes refl))
 counts-not {t = false} n a f = refl
 

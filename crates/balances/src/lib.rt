@@ -30,7 +30,7 @@ fn wide32(x: u16) -> u32
 }
 
 // The data slots of the cycle: those of the plan's tiles, as often as the plan comes.
-fn data_slots(plan: Plan) -> u32
+pub fn data_slots(plan: Plan) -> u32
     requires { ⌜ PlanInRange (thePlan plan) ⌝ }
     ensures { λ r. ⌜ DataSlots (thePlan plan) r ⌝ }
 {

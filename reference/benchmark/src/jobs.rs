@@ -4,6 +4,7 @@ use crate::planners::{Planner, Said, Stream};
 use crate::site::{NODES, PLAN, doubled_streams, linked_topology, streams, topology};
 use reference::image;
 use reference::version::Version;
+use std::slice;
 
 /// A buffer that holds the longest image.
 const LONGEST_IMAGE: usize = 2448;
@@ -24,6 +25,8 @@ pub struct Site {
     full: Vec<u8>,
     /// The full book in version 1.
     older: Vec<u8>,
+    /// Last month's and this month's full book: a stream was closed, and opened again with another period.
+    pub months: [Vec<u8>; 2],
     /// The book of the streams with second routes.
     both: Vec<u8>,
     /// The empty book of nodes that are all linked to each other.
@@ -40,6 +43,7 @@ impl Site {
             empty: Vec::new(),
             full: Vec::new(),
             older: Vec::new(),
+            months: [Vec::new(), Vec::new()],
             both: Vec::new(),
             linked: empty_book(planner, &linked_topology()),
         };
@@ -49,6 +53,7 @@ impl Site {
         site.both = open_all(planner, &site.empty, &site.doubled, &mut done);
         let (_, book) = image::read(&site.full).expect("the full book is lawful");
         site.older = image::write(Version::One, &book);
+        site.months = [site.full.clone(), reopened(planner, &site.full, &site.streams[0])];
         site
     }
 }
@@ -61,6 +66,15 @@ fn empty_book(planner: &dyn Planner, topology: &[u8]) -> Vec<u8> {
     image[..length].to_vec()
 }
 
+/// The book with a stream closed, and opened again with half its period.
+fn reopened(planner: &dyn Planner, book: &[u8], stream: &Stream) -> Vec<u8> {
+    let mut done = |number: u8, _: &[u8]| assert_eq!(number, 0, "the stream has a place again");
+    let close = |book: &[u8], stream: &Stream, out: &mut [u8]| planner.close(book, stream.id, out);
+    let without = in_turn(book, slice::from_ref(stream), close, &mut done);
+    let again = Stream { period: stream.period / 2, ..*stream };
+    open_all(planner, &without, slice::from_ref(&again), &mut done)
+}
+
 /// Takes the number and the answer of a call.
 pub type Show<'a> = &'a mut dyn FnMut(u8, &[u8]);
 
@@ -69,11 +83,14 @@ pub struct Job {
     pub run: fn(&dyn Planner, &Site, Show),
 }
 
+/// A check of one image.
+pub const CHECK: Job = Job { name: "check: the full book", run: check };
+
 pub const JOBS: [Job; 13] = [
     Job { name: "new: the empty book", run: new },
     Job { name: "open: 64 streams, one after the other", run: open },
     Job { name: "open: 32 streams with a second route, one after the other", run: open_doubled },
-    Job { name: "check: the full book", run: check },
+    CHECK,
     Job { name: "rewrite: the full book", run: rewrite },
     Job { name: "expand: every node of the full book", run: expand },
     Job { name: "balance: every node of the full book", run: balance },

@@ -1,5 +1,6 @@
-//! Times the planner beside plain C and beside the reference, on the same jobs.
+//! Times the planner beside plain C and beside the reference, on the same jobs, and the program `statement` likewise.
 //!
+//! `benchmark WORDS.. -- WORDS..`: the words that run the program `statement`, and those that run it in plain C.
 //! Before any timing all three do every job, and each number and each byte that they give back must
 //! be equal. Times are processor times, so that others on the machine count little. The three take turns
 //! within a round; a ratio is the median of the rounds' ratios.
@@ -8,9 +9,11 @@ mod clock;
 mod jobs;
 mod planners;
 mod site;
+mod statements;
 
-use jobs::{JOBS, Job, Site};
+use jobs::{CHECK, JOBS, Job, Site};
 use planners::{PlainC, Planner, Proved, Reference};
+use statements::Statements;
 use std::hint::black_box;
 
 const ROUNDS: usize = 25;
@@ -28,6 +31,9 @@ fn main() {
         assert!(ours == given_back(job, &PlainC, &site), "plain C differs: {}", job.name);
         assert!(ours == given_back(job, &Reference, &site), "the reference differs: {}", job.name);
     }
+    let words: Vec<String> = std::env::args().skip(1).collect();
+    let statements = Statements::new(&site, &words);
+    let reference = statements.compare();
     println!(
         "| Job | Planner, µs | Plain C, µs | Reference, µs | Planner : plain C | Reference : planner |"
     );
@@ -35,6 +41,7 @@ fn main() {
     for job in &JOBS {
         println!("{}", line(job, &site));
     }
+    print_statements(&statements, &site, reference);
 }
 
 /// Everything that the calls of a job give back.
@@ -59,11 +66,37 @@ fn line(job: &Job, site: &Site) -> String {
             reference.push(time(job, &Reference, site));
         }
     }
-    let ratio = median(ours.iter().zip(&plain).map(|(a, b)| a / b).collect());
+    of_times(job.name, ours, plain, reference)
+}
+
+/// A line of the table, of the times of each round.
+fn of_times(name: &str, ours: Vec<f64>, plain: Vec<f64>, reference: Vec<f64>) -> String {
+    let ratio = of_rounds(&ours, &plain);
     let (ours, plain, reference) = (median(ours), median(plain), median(reference));
-    let name = job.name;
     let slower = reference / ours;
     format!("| {name} | {ours:.1} | {plain:.1} | {reference:.0} | {ratio:.2} | {slower:.1} |")
+}
+
+/// The median of the rounds' ratios.
+fn of_rounds(a: &[f64], b: &[f64]) -> f64 {
+    median(a.iter().zip(b).map(|(a, b)| a / b).collect())
+}
+
+/// Prints the line of the statement, and how long it takes beside a check of each image. The reference is timed once.
+fn print_statements(statements: &Statements, site: &Site, reference: f64) {
+    let (mut ours, mut plain, mut checks, mut plain_checks) = (vec![], vec![], vec![], vec![]);
+    for _ in 0..ROUNDS {
+        ours.push(statements::time(&statements.proved));
+        plain.push(statements::time(&statements.plain));
+        checks.push(statements::IMAGES * time(&CHECK, &Proved, site));
+        plain_checks.push(statements::IMAGES * time(&CHECK, &PlainC, site));
+    }
+    let beside = [of_rounds(&ours, &checks), of_rounds(&plain, &plain_checks)];
+    println!("{}", of_times(statements::NAME, ours, plain, vec![reference]));
+    let [ours, plain] = beside.map(|ratio| format!("{ratio:.2}"));
+    println!(
+        "\nA statement takes {ours} times as long as a check of each image; in plain C {plain} times."
+    );
 }
 
 /// Microseconds of a job, which is run twice as often until that takes long enough.

@@ -2,7 +2,7 @@
 use borrow.Author.Needs.{needs}
 use mathlib.Core.Path.{_≡_}
 use lib.ListN.{length}
-use Rattle.engine.specs.Streams.{Within}
+use Rattle.streams.specs.Streams.{Within}
 use Rattle.engine.proofs.serve.Statement.{statement}
 use Rattle.engine.proofs.serve.Tie as tie
 
@@ -11,6 +11,9 @@ Inv-loop input₀ answers₀ streams₀ frames₀ input answers streams frames =
 
 abbrev μ-loop : tie.MeasureT-loop
 μ-loop input₀ answers₀ streams₀ frames₀ input answers streams frames = frames
+
+first-requires : tie.Need-first-requires Inv-loop μ-loop
+first-requires c κs = search needs
 
 loop-holds : tie.Need-loop-holds Inv-loop μ-loop
 loop-holds c = search needs
@@ -51,6 +54,7 @@ serve-spec =
     (tie.spec
     Inv-loop
     μ-loop
+    first-requires
     loop-holds
     turn-requires
     same-length

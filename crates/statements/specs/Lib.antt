@@ -1,0 +1,3 @@
+pub mod Statement
+pub mod Figures
+pub mod Passes
