@@ -1,8 +1,8 @@
-# Completion for bash: commands, options, the last word of open, and files where a book or a plan stands.
+# Completion for bash: commands, options, the last word of open, and files where a book, a plan or a list stands.
 _lindurask() {
     local word=${COMP_WORDS[COMP_CWORD]} before=${COMP_WORDS[COMP_CWORD - 1]} command=${COMP_WORDS[1]-} choices=
     COMPREPLY=()
-    local commands='new check show open close quote routes table balance diff statement replan page help'
+    local commands='new check show open close post quote routes table balance diff statement replan page help'
     if [ "$COMP_CWORD" = 1 ]; then
         mapfile -t COMPREPLY < <(compgen -W "$commands --help --version" -- "$word")
         return
@@ -14,6 +14,7 @@ _lindurask() {
     case $command in
     check | quote | routes | table | balance | diff) choices='--json --help' ;;
     statement) choices='--raw --help' ;;
+    post) choices='--dry-run --json --help' ;;
     show) choices='--stream --node --no-lists --json --help' ;;
     *) choices=--help ;;
     esac

@@ -30,13 +30,15 @@
  *       beside the first
  *   10  a field of bytes 5 to 15 of the image, or an argument of a new book, out of its range
  *   11  topology: wrong length (new book), a bit from N up, a self-link, a one-way link
- *   12  output buffer shorter than the answer
+ *   12  output buffer shorter than the answer; of a call that changes the book, shorter than
+ *       LINDURASK_LONGEST_IMAGE
  *   13  image: wrong mark or version
  *   14  image: under 16 bytes, or not the length that its header gives
  *   15  image: rows are not lawful, not rising by id and then route, or do not fill it
  *   16  image: two clashing hops of different rows meet
  *   17  routes between the nodes exist, but every one has over 15 hops
  *   18  no second route: none of at most 6 hops that has no middle node in common with the first
+ *   26  over LINDURASK_MOST_REQUESTS requests in a list
  *
  * An image is tested in the order 14 (under 16 bytes), 13, 10, 14, 11, 15, 16; then a call has
  * its own refusals, in the order given with it below.
@@ -45,20 +47,21 @@
  * What is written
  *
  * - Done: the first *length bytes of out are the answer; the bytes behind them are not touched.
- * - Refused: *length is 0, and no byte of out is touched.
+ * - Refused: *length is 0, and no byte of out is touched, nor any request of a list.
  * - *length is set by every call that has it, whatever the result. lindurask_check always sets
  *   it to 0.
  *
  *
  * What the caller sees to
  *
- * - A pointer is to as many bytes as the length beside it says, and not null, also where that
- *   length is 0.
- * - The input, out, *length, *more and the counts of a balance lie apart: none of them overlaps another.
- *   To make the new image the current one, swap the two buffers.
+ * - A pointer is to as many bytes as the length beside it says, or to as many requests as the count,
+ *   and not null, also where that is 0. The bools of a request are 0 or 1.
+ * - The input, the requests, out, *length, *more and the counts of a balance lie apart: none of them
+ *   overlaps another. To make the new image the current one, swap the two buffers.
  * - No image is longer than LINDURASK_LONGEST_IMAGE bytes; an output buffer of that size is never
- *   too short for a book. A table takes 300 x S bytes, S the slots of a tile: at most
- *   LINDURASK_LONGEST_TABLE. A list of routes takes at most LINDURASK_LONGEST_LIST.
+ *   too short for a book, and a call that changes the book takes none that is shorter. A table
+ *   takes 300 x S bytes, S the slots of a tile: at most LINDURASK_LONGEST_TABLE. A list of routes
+ *   takes at most LINDURASK_LONGEST_LIST.
  * - A call takes up to 60 KB of stack, and nothing from the heap.
  *
  * Every image is otherwise safe to pass: damaged bytes are refused by number.
@@ -79,6 +82,9 @@ extern "C" {
 
 /* The longest table, in bytes: 100 tiles of 32 slots, 3 bytes an entry. */
 #define LINDURASK_LONGEST_TABLE 9600
+
+/* The most requests in a list. */
+#define LINDURASK_MOST_REQUESTS 64
 
 /* The longest list of routes, in bytes: 32 routes of a hop byte and 7 nodes. */
 #define LINDURASK_LONGEST_LIST 256
@@ -104,20 +110,43 @@ uint8_t lindurask_check(const uint8_t *book, size_t book_len, size_t *length);
 uint8_t lindurask_rewrite(const uint8_t *book, size_t book_len, uint8_t *out, size_t out_len, size_t *length);
 
 /*
- * Opens a stream of this id (1 to 65535) from the source to the destination, every `period` tiles, and
- * writes the image of the book with it. The route is the shortest, the lowest node list among equals;
- * the slots are the lexicographically first that are free. Where `second` is true the stream has a second
- * route as well: another than the first, without a middle node in common with it, at most 6 hops, the
- * shortest and then the lowest node list; its slots are the first that are free beside the first route's.
- * Both are opened or neither. Refusals: those of an image, then 1, 4, 5, 6, 2, 7, 17, 18, 8, 9, 12.
+ * A request of a list: to open a stream, or to close one, for which id alone counts. A posting sets the
+ * answer of each request and changes nothing else in it. 10 bytes, in the order of the fields.
+ */
+struct lindurask_request {
+    bool opens, second;          /* it opens a stream, with a second route */
+    uint8_t source, destination; /* from and to these nodes */
+    uint16_t id, period;         /* of this id, every so many tiles */
+    uint8_t answer;              /* 0 where it was done, otherwise the number of its refusal */
+};
+
+/*
+ * Works through a list of opens and closes in its order, each on the book as those before it left it, and
+ * writes the image of the last book, once, if a request was done; otherwise *length is 0 and nothing is
+ * written. A request that is refused leaves the book as it found it, and the list goes on.
+ *
+ * An open asks for a stream of this id (1 to 65535) from the source to the destination, every `period`
+ * tiles. The route is the shortest, the lowest node list among equals; the slots are the lexicographically
+ * first that are free. Where `second` is true the stream has a second route as well: another than the
+ * first, without a middle node in common with it, at most 6 hops, the shortest and then the lowest node
+ * list; its slots are the first that are free beside the first route's. Both are opened or neither. Its
+ * answers: 0, or the first that applies of 1, 4, 5, 6, 2, 7, 17, 18, 8, 9.
+ *
+ * A close takes the stream of this id with all its routes out. Its answers: 0, or the first of 1, 3.
+ *
+ * Refusals of the whole call, which leave every request as it is: those of an image, then 26, 12.
+ */
+uint8_t lindurask_post(const uint8_t *book, size_t book_len, struct lindurask_request *requests, size_t count,
+                       uint8_t *out, size_t out_len, size_t *length);
+
+/*
+ * Opens a stream: a list of one open. Gives the refusal of the whole call, or the answer of the request.
+ * Refusals: those of an image, then 12, 1, 4, 5, 6, 2, 7, 17, 18, 8, 9.
  */
 uint8_t lindurask_open(const uint8_t *book, size_t book_len, uint16_t id, uint8_t source, uint8_t destination,
                        uint16_t period, bool second, uint8_t *out, size_t out_len, size_t *length);
 
-/*
- * Closes the stream of this id with all its routes, and writes the image of the book without it. Refusals:
- * those of an image, then 1, 3, 12.
- */
+/* Closes a stream: a list of one close. Refusals: those of an image, then 12, 1, 3. */
 uint8_t lindurask_close(const uint8_t *book, size_t book_len, uint16_t id, uint8_t *out, size_t out_len, size_t *length);
 
 /*

@@ -3,6 +3,7 @@
  * include/lindurask.h: its parameters and their order, what it gives back, and what it writes. reference/src/frame.rs has
  * the frames. Built with WRONG at a number it is one of the wrong interfaces of c_interface_wrong.h.
  */
+#include <stddef.h>
 #include <stdio.h>
 #include <stdlib.h>
 #include <string.h>
@@ -13,11 +14,24 @@
 #include "c_interface_wrong.h"
 #endif
 
-enum { HEAD = 44, REPLY = 13, MOST_BYTES = 4096, MOST_ROOM = 16384, MARGIN = 64, LAST_CALL = 7 };
+enum { HEAD = 44, REPLY = 13, MOST_BYTES = 4096, MOST_ROOM = 16384, MARGIN = 64, POST = 8, LAST_CALL = POST };
+
+/* A record of a framed posting, the most of them, and how many requests stand on either side of a list. */
+enum { RECORD = 11, MOST_RECORDS = 100, BESIDE = 4 };
 
 _Static_assert(LINDURASK_LONGEST_IMAGE == 16 + 8 * 64 + 6 * 64 + 3 * 512, "64 nodes, 64 rows, 512 hops");
 _Static_assert(LINDURASK_LONGEST_TABLE == 3 * 100 * 32, "100 tiles of 32 slots");
 _Static_assert(LINDURASK_LONGEST_LIST == 32 * (1 + 7), "32 routes of 6 hops");
+
+/* The planner's archive lays a request out so; that it does is seen by the comparison. */
+_Static_assert(sizeof(struct lindurask_request) == 10, "a request");
+_Static_assert(offsetof(struct lindurask_request, opens) == 0, "whether a request opens");
+_Static_assert(offsetof(struct lindurask_request, second) == 1, "whether it asks for a second route");
+_Static_assert(offsetof(struct lindurask_request, source) == 2, "its source");
+_Static_assert(offsetof(struct lindurask_request, destination) == 3, "its destination");
+_Static_assert(offsetof(struct lindurask_request, id) == 4, "its id");
+_Static_assert(offsetof(struct lindurask_request, period) == 6, "its period");
+_Static_assert(offsetof(struct lindurask_request, answer) == 8, "its answer");
 
 /* What no call gives back: it shows where one has not set what it should. */
 static const uint32_t UNSET = 0xA5A5A5A5;
@@ -43,8 +57,14 @@ struct reply {
 
 static uint8_t input[MARGIN + MOST_BYTES + MARGIN], before[MOST_BYTES];
 static uint8_t output[MARGIN + MOST_ROOM + MARGIN];
+static struct lindurask_request list[BESIDE + MOST_RECORDS + BESIDE];
 
 static unsigned be16(const uint8_t *p) { return (unsigned)p[0] << 8 | p[1]; }
+
+static void put16(uint8_t *p, unsigned x) {
+    p[0] = (uint8_t)(x >> 8);
+    p[1] = (uint8_t)x;
+}
 
 static void put32(uint8_t *p, size_t x) {
     for (int i = 0; i < 4; i++)
@@ -69,8 +89,49 @@ static int is_around(const uint8_t *buffer, size_t size) {
     return 1;
 }
 
-/* Makes the call of a frame; book has len bytes, out has room. */
-static uint8_t call(const uint8_t *head, const uint8_t *book, size_t len, uint8_t *out, size_t room, struct reply *r) {
+/* Puts framed records into the list. */
+static void prepare_list(const uint8_t *records, size_t count) {
+    memset(list, AROUND, sizeof list);
+    for (const uint8_t *p = records; p < records + RECORD * count; p += RECORD)
+        list[BESIDE + (p - records) / RECORD] = (struct lindurask_request){
+            .opens = p[0] != 0,
+            .second = p[1] != 0,
+            .source = p[2],
+            .destination = p[3],
+            .id = (uint16_t)be16(p + 4),
+            .period = (uint16_t)be16(p + 6),
+            .answer = p[10],
+        };
+}
+
+/* The records of the list, as they are now. */
+static void put_list(uint8_t *records, size_t count) {
+    memset(records, 0, RECORD * count);
+    for (size_t i = 0; i < count; i++, records += RECORD) {
+        const struct lindurask_request *r = &list[BESIDE + i];
+        records[0] = r->opens;
+        records[1] = r->second;
+        records[2] = r->source;
+        records[3] = r->destination;
+        put16(records + 4, r->id);
+        put16(records + 6, r->period);
+        records[10] = r->answer;
+    }
+}
+
+/* The requests on either side of the list are as they were. */
+static int is_beside(size_t count) {
+    const uint8_t *bytes = (const uint8_t *)list;
+    size_t start = sizeof list[0] * BESIDE, end = sizeof list[0] * (BESIDE + count);
+    for (size_t i = 0; i < sizeof list; i++)
+        if ((i < start || i >= end) && bytes[i] != AROUND)
+            return 0;
+    return 1;
+}
+
+/* Makes the call of a frame; book has len bytes, out has room, and the list has count requests. */
+static uint8_t call(const uint8_t *head, const uint8_t *book, size_t len, size_t count, uint8_t *out, size_t room,
+                    struct reply *r) {
     uint16_t id = be16(head + 1), period = be16(head + 5), kinds = be16(head + 9);
     uint8_t source = head[3], destination = head[4];
     bool second = head[19] != 0;
@@ -89,8 +150,10 @@ static uint8_t call(const uint8_t *head, const uint8_t *book, size_t len, uint8_
         return lindurask_expand(book, len, source, out, room, &r->length);
     case 6:
         return lindurask_balance(book, len, source, &r->data, &r->used, &r->free_slots);
-    default:
+    case 7:
         return lindurask_routes(book, len, source, destination, out, room, &r->length, &r->more);
+    default:
+        return lindurask_post(book, len, list + BESIDE, count, out, room, &r->length);
     }
 }
 
@@ -118,26 +181,44 @@ static void answer(const uint8_t *head, uint8_t number, const struct reply *r, u
         fail("writes beside what it gives back");
 }
 
+/* Reads what a frame has behind its head. */
+static void take(uint8_t *bytes, size_t size) {
+    if (fread(bytes, 1, size, stdin) != size)
+        fail("is given half a frame");
+}
+
+static void give(const uint8_t *bytes, size_t size) {
+    if (fwrite(bytes, 1, size, stdout) != size)
+        fail("has nobody to answer");
+}
+
 /* Answers one frame, whose head is read. */
 static void serve(const uint8_t *head) {
-    size_t len = be16(head + 14), room = be16(head + 16);
-    uint8_t reply[REPLY];
+    size_t len = be16(head + 14), room = be16(head + 16), further = be16(head + 40), count = further / RECORD;
+    uint8_t reply[REPLY], records[RECORD * MOST_RECORDS];
     struct reply r = {.length = UNSET, .data = UNSET, .used = UNSET, .free_slots = UNSET, .more = (uint8_t)UNSET};
     if (head[0] > LAST_CALL || len > MOST_BYTES || room > MOST_ROOM)
         fail("is given a frame that is none");
+    if (further % RECORD != 0 || count > MOST_RECORDS || (further != 0 && head[0] != POST))
+        fail("is given records that are none");
     prepare(input, len, 0);
     prepare(output, room, head[18]);
-    if (fread(before, 1, len, stdin) != len)
-        fail("is given half a frame");
+    take(before, len);
+    take(records, further);
     memcpy(input + MARGIN, before, len);
-    uint8_t number = call(head, input + MARGIN, len, output + MARGIN, room, &r);
+    prepare_list(records, count);
+    uint8_t number = call(head, input + MARGIN, len, count, output + MARGIN, room, &r);
     answer(head, number, &r, reply);
+    put_list(records, count);
     if (memcmp(input + MARGIN, before, len) != 0 || !is_around(input, len))
         fail("changes its input");
     if (!is_around(output, room))
         fail("writes beside its buffer");
-    if (fwrite(reply, 1, REPLY, stdout) != REPLY || fwrite(output + MARGIN, 1, room, stdout) != room)
-        fail("has nobody to answer");
+    if (!is_beside(count))
+        fail("writes beside its list");
+    give(reply, REPLY);
+    give(output + MARGIN, room);
+    give(records, further);
 }
 
 int main(void) {

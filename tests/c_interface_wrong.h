@@ -48,6 +48,49 @@
 #define lindurask_expand(book, len, node, out, room, length) ((out)[room] = 0, lindurask_expand(book, len, node, out, room, length))
 #elif WRONG == 22 /* an open: its input changed */
 #define lindurask_open(book, len, ...) ((len) ? ((uint8_t *)(book))[(len) - 1]++ : 0, lindurask_open(book, len, __VA_ARGS__))
+#elif WRONG == 23 /* a posting: a request too few */
+#define lindurask_post(book, len, list, count, ...) lindurask_post(book, len, list, (count) - ((count) > 0), __VA_ARGS__)
+#elif WRONG == 24 /* a posting: the buffer taken for a byte longer */
+#define lindurask_post(book, len, list, count, out, room, length) lindurask_post(book, len, list, count, out, (room) + 1, length)
+#elif WRONG == 25 /* a posting: the length is not set */
+#define lindurask_post(book, len, list, count, out, room, length) lindurask_post(book, len, list, count, out, room, &(size_t){0})
+#elif WRONG == 26 /* a posting: a request behind the list marked */
+#define lindurask_post(book, len, list, count, ...) ((list)[count].answer = 0, lindurask_post(book, len, list, count, __VA_ARGS__))
+#elif WRONG == 27 /* a posting: its input changed */
+#define lindurask_post(book, len, ...) ((len) ? ((uint8_t *)(book))[(len) - 1]++ : 0, lindurask_post(book, len, __VA_ARGS__))
+#elif WRONG == 28 /* a request: source and destination exchanged */
+#define AMISS(r) exchange(&(r)->source, &(r)->destination, 1)
+#elif WRONG == 29 /* a request: id and period exchanged */
+#define AMISS(r) exchange(&(r)->id, &(r)->period, 2)
+#elif WRONG == 30 /* a request: whether it opens and whether with a second route exchanged */
+#define AMISS(r) exchange(&(r)->opens, &(r)->second, 1)
+#elif WRONG == 31 /* a request: answer and destination exchanged */
+#define AMISS(r) exchange(&(r)->answer, &(r)->destination, 1)
+#elif WRONG == 32 /* a request: opens and closes exchanged */
+#define AMISS(r) ((r)->opens = !(r)->opens)
+#elif WRONG == 33 /* a request: the bytes of its id in the other order */
+#define AMISS(r) ((r)->id = (uint16_t)((r)->id << 8 | (r)->id >> 8))
 #else
 #error "there is no such wrong interface"
+#endif
+
+#ifdef AMISS
+static inline void exchange(void *one, void *two, size_t size) {
+    uint8_t kept[2];
+    memcpy(kept, one, size);
+    memcpy(one, two, size);
+    memcpy(two, kept, size);
+}
+
+/* Every request is amiss for the call, and put right again behind it. */
+static uint8_t amiss_post(const uint8_t *book, size_t len, struct lindurask_request *list, size_t count, uint8_t *out,
+                          size_t room, size_t *length) {
+    for (size_t i = 0; i < count; i++)
+        AMISS(&list[i]);
+    uint8_t number = lindurask_post(book, len, list, count, out, room, length);
+    for (size_t i = 0; i < count; i++)
+        AMISS(&list[i]);
+    return number;
+}
+#define lindurask_post amiss_post
 #endif

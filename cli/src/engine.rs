@@ -82,7 +82,9 @@ impl Engine {
         Engine::read(output, &mut head)?;
         let mut out = vec![0; request.room];
         Engine::read(output, &mut out)?;
-        request.read(&head, out).ok_or_else(|| wrong("says what is no answer"))
+        let mut records = vec![0; request.lent];
+        Engine::read(output, &mut records)?;
+        request.read(&head, out, &records).ok_or_else(|| wrong("says what is no answer"))
     }
 
     /// Puts one request.

@@ -15,9 +15,9 @@ use std::thread::sleep;
 use std::time::{Duration, Instant};
 
 /// The name that stands for standard input, and how that is called.
-pub const STANDARD_INPUT: (&str, &str) = ("-", "standard input");
-/// The longest plan.
-const MOST_PLAN: usize = 65_535;
+const STANDARD_INPUT: (&str, &str) = ("-", "standard input");
+/// The longest text.
+const MOST_TEXT: usize = 65_535;
 /// After this time a change says for what it waits.
 const QUIET: Duration = Duration::from_secs(1);
 /// After this time a change gives up waiting.
@@ -83,18 +83,35 @@ pub fn read_image(path: &Path) -> Result<Vec<u8>, Trouble> {
     Ok(bytes)
 }
 
-/// Reads a plan: a plain file, or standard input where the name is -.
-pub fn read_plan(path: &Path) -> Result<Vec<u8>, Trouble> {
-    let (path, bytes) = if path == Path::new(STANDARD_INPUT.0) {
-        (Path::new(STANDARD_INPUT.1), read_up_to(&mut io::stdin().lock(), MOST_PLAN + 1))
+/// The name that stands for standard input.
+fn is_standard_input(path: &Path) -> bool {
+    path == Path::new(STANDARD_INPUT.0)
+}
+
+/// What a text is called: by its name, or standard input.
+pub fn called(path: &Path) -> String {
+    if is_standard_input(path) {
+        return STANDARD_INPUT.1.into();
+    }
+    plain(path)
+}
+
+/// Reads what a person typed, a plan or a list: a plain file, or standard input where the name is -.
+pub fn read_text(path: &Path, what: &str) -> Result<Vec<u8>, Trouble> {
+    let (path, bytes) = if is_standard_input(path) {
+        let path = Path::new(STANDARD_INPUT.1);
+        if sys::is_deaf() {
+            return Err(failed(path, "is closed: nothing is read from it"));
+        }
+        (path, read_up_to(&mut io::stdin().lock(), MOST_TEXT + 1))
     } else {
-        (path, read_up_to(&mut open_plain(path, false)?, MOST_PLAN + 1))
+        (path, read_up_to(&mut open_plain(path, false)?, MOST_TEXT + 1))
     };
     let bytes = bytes.map_err(on(path))?;
-    if MOST_PLAN < bytes.len() {
+    if MOST_TEXT < bytes.len() {
         return Err(failed(
             path,
-            format!("the plan is too long: it has at most {MOST_PLAN} bytes"),
+            format!("the {what} is too long: it has at most {MOST_TEXT} bytes"),
         ));
     }
     Ok(bytes)

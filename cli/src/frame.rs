@@ -1,6 +1,6 @@
 //! Frames: what is put to the engine and what it answers, as bytes. All numbers are big-endian.
 
-/// Bytes of a request before its book or topology; those from 20 on are for later calls, and 0.
+/// Bytes of a request before its book or topology; what no call here uses is 0.
 const REQUEST_HEAD: usize = 44;
 /// Bytes of an answer before its output buffer.
 pub const ANSWER_HEAD: usize = 13;
@@ -8,8 +8,12 @@ pub const ANSWER_HEAD: usize = 13;
 pub const MOST_BYTES: usize = 4096;
 /// What every byte of an output buffer is before the call.
 const FILL: u8 = 0xA5;
-/// Room for any book.
+/// Room for any book: more than the longest has, which a change asks for whatever it writes.
 const BOOK_ROOM: u16 = 4096;
+/// The most requests that a list has.
+const MOST_REQUESTS: usize = 64;
+/// Bytes of a request in a list; the last is its answer.
+const RECORD: usize = 11;
 /// Bytes of a table's entry: an operation and a stream's id.
 pub const ENTRY: usize = 3;
 /// Room for the table of 32 slots in each of 100 tiles.
@@ -28,6 +32,7 @@ enum Call {
     Expand = 5,
     Balance = 6,
     Routes = 7,
+    Post = 8,
     End = 255,
 }
 
@@ -54,10 +59,19 @@ pub struct Wish {
     pub second: bool,
 }
 
-/// A call in bytes, and the room that it gives for the answer.
+/// A request of a list.
+#[derive(Clone, Copy)]
+pub enum Record {
+    Open(Wish),
+    /// Closes the stream of this id.
+    Close(u16),
+}
+
+/// A call in bytes, the room that it gives for the answer, and how many of its bytes, the last, are records.
 pub struct Request {
     pub bytes: Vec<u8>,
     pub room: usize,
+    pub lent: usize,
 }
 
 /// What a call gave back.
@@ -68,6 +82,8 @@ pub struct Answer {
     pub counts: [u32; 3],
     /// What was written.
     pub bytes: Vec<u8>,
+    /// The answer to each request of a list.
+    pub answers: Vec<u8>,
 }
 
 /// A call with all its fields 0 and these bytes behind them.
@@ -78,7 +94,26 @@ fn blank(call: Call, bytes: &[u8], room: u16) -> Request {
     head[16..18].copy_from_slice(&room.to_be_bytes());
     head[18] = FILL;
     head.extend(bytes);
-    Request { bytes: head, room: room.into() }
+    Request { bytes: head, room: room.into(), lent: 0 }
+}
+
+impl Record {
+    /// The request in bytes, with an answer that is none.
+    fn bytes(self) -> [u8; RECORD] {
+        let (opens, wish) = match self {
+            Record::Open(wish) => (true, wish),
+            Record::Close(id) => {
+                (false, Wish { id, source: 0, destination: 0, period: 0, second: false })
+            }
+        };
+        let mut bytes = [0; RECORD];
+        bytes[..2].copy_from_slice(&[opens, wish.second].map(u8::from));
+        bytes[2..4].copy_from_slice(&[wish.source, wish.destination]);
+        bytes[4..6].copy_from_slice(&wish.id.to_be_bytes());
+        bytes[6..8].copy_from_slice(&wish.period.to_be_bytes());
+        bytes[RECORD - 1] = FILL;
+        bytes
+    }
 }
 
 pub fn new(site: &Site) -> Request {
@@ -128,11 +163,21 @@ pub fn routes(book: &[u8], source: u8, destination: u8) -> Request {
     request
 }
 
+/// Posts a list. One that is too long is cut behind the first request too many, and refused for that one.
+pub fn post(book: &[u8], list: &[Record]) -> Request {
+    let mut request = blank(Call::Post, book, BOOK_ROOM);
+    let list = &list[..list.len().min(MOST_REQUESTS + 1)];
+    request.lent = RECORD * list.len();
+    request.bytes[40..42].copy_from_slice(&(request.lent as u16).to_be_bytes());
+    request.bytes.extend(list.iter().flat_map(|record| record.bytes()));
+    request
+}
+
 /// The frame that ends the stream.
 pub fn end() -> Request {
     let mut bytes = vec![0; REQUEST_HEAD];
     bytes[0] = Call::End as u8;
-    Request { bytes, room: 0 }
+    Request { bytes, room: 0, lent: 0 }
 }
 
 impl Request {
@@ -140,19 +185,28 @@ impl Request {
         self.bytes[0] == call as u8
     }
 
-    /// Reads the answer to this request; none where the bytes cannot be one.
-    pub fn read(&self, head: &[u8; ANSWER_HEAD], mut out: Vec<u8>) -> Option<Answer> {
+    /// Reads the answer to this request, with the records behind it; none where the bytes cannot be one.
+    pub fn read(
+        &self,
+        head: &[u8; ANSWER_HEAD],
+        mut out: Vec<u8>,
+        records: &[u8],
+    ) -> Option<Answer> {
         let count = |at: usize| u32::from_be_bytes(head[at..at + 4].try_into().expect("four"));
-        let answer =
-            Answer { number: head[0], counts: [count(1), count(5), count(9)], bytes: vec![] };
+        let counts = [count(1), count(5), count(9)];
+        let answers = self.read_records(head[0], records)?;
+        let answer = Answer { number: head[0], counts, bytes: vec![], answers };
         let length = if self.is(Call::Balance) { 0 } else { answer.counts[0] as usize };
         let told = answer.number == 0 || answer.counts == [0; 3];
         let marked = self.is(Call::Routes) && answer.counts[1..] == [1, 0];
         let others = self.is(Call::Balance) || marked || answer.counts[1..] == [0; 2];
         let known = crate::refusals::words(answer.number).is_some();
+        let changed = answer.answers.contains(&0);
+        let written = !self.is(Call::Post) || changed == (length != 0);
         if !told
             || !others
             || !known
+            || !written
             || out.len() < length
             || out[length..].iter().any(|&b| b != FILL)
         {
@@ -160,5 +214,20 @@ impl Request {
         }
         out.truncate(length);
         Some(Answer { bytes: out, ..answer })
+    }
+
+    /// The answers in the records of a list, which otherwise are as they were; a list that is refused has none.
+    fn read_records(&self, number: u8, records: &[u8]) -> Option<Vec<u8>> {
+        let sent = &self.bytes[self.bytes.len() - self.lent..];
+        if number != 0 {
+            return (records == sent).then(Vec::new);
+        }
+        let answer = |(sent, got): (&[u8], &[u8])| {
+            let (&answer, rest) = got.split_last()?;
+            let is_answer = sent.starts_with(rest) && crate::refusals::words(answer).is_some();
+            is_answer.then_some(answer)
+        };
+        let answers = sent.chunks(RECORD).zip(records.chunks(RECORD)).map(answer);
+        answers.collect::<Option<Vec<_>>>().filter(|all| all.len() <= MOST_REQUESTS)
     }
 }

@@ -1,7 +1,7 @@
 //! Answers for programs, in JSON.
 
 use crate::book::{Balance, Book, Loss, Stream, Way};
-use crate::trouble::Trouble;
+use crate::trouble::{Refusal, Trouble};
 use std::fmt::Display;
 
 /// A text in quotes.
@@ -84,14 +84,18 @@ pub fn refusal(number: u8, words: &str) -> Vec<(&'static str, String)> {
     vec![("refused", number.to_string()), ("words", string(words))]
 }
 
-/// The object that stands for an answer that is a refusal; none for other trouble.
-pub fn trouble(trouble: &Trouble) -> Option<String> {
-    let said = trouble.refusal()?;
+/// A refusal with what it is about.
+pub fn refused(said: &Refusal) -> Vec<(&'static str, String)> {
     let mut fields = refusal(said.number, said.meaning());
     if !said.about.is_empty() {
         fields.push(("about", string(&said.about)));
     }
-    Some(object(fields) + "\n")
+    fields
+}
+
+/// The object that stands for an answer that is a refusal; none for other trouble.
+pub fn trouble(trouble: &Trouble) -> Option<String> {
+    Some(answer(refused(trouble.refusal()?)))
 }
 
 /// A whole answer: one object in a line.

@@ -2,21 +2,13 @@
 
 use crate::book::MOST_NODES;
 use crate::frame::Site;
+use crate::lines::{fault, lines, numbers, Fault};
 
-/// The mark that some editors put before a text.
-const BYTE_ORDER_MARK: &[u8] = b"\xef\xbb\xbf";
 /// The numbers by which the engine refuses a plan and its links.
 const OUT_OF_RANGE: u8 = 10;
 const UNSOUND_LINKS: u8 = 11;
 /// What a line may start with.
 const STARTS: &str = "a line starts with slots, tiles, control, nodes or link";
-
-/// What is wrong, in which line; line 0 is the whole.
-#[derive(Debug, PartialEq, Eq)]
-pub struct Fault {
-    pub line: usize,
-    pub words: String,
-}
 
 /// A value and the line that says it.
 #[derive(Clone)]
@@ -33,25 +25,6 @@ pub struct Plan {
     control: Option<Said<(u64, u64)>>,
     nodes: Option<Said<u64>>,
     links: Vec<Said<(u64, u64)>>,
-}
-
-fn fault<T>(line: usize, words: impl Into<String>) -> Result<T, Fault> {
-    Err(Fault { line, words: words.into() })
-}
-
-/// A number in digits; one that is very large is the largest there is.
-pub fn number(word: &[u8]) -> Option<u64> {
-    if word.is_empty() || !word.iter().all(u8::is_ascii_digit) {
-        return None;
-    }
-    let digit = |n: u64, &c: &u8| n.saturating_mul(10).saturating_add(u64::from(c - b'0'));
-    Some(word.iter().fold(0, digit))
-}
-
-/// The words of a line as so many numbers.
-fn numbers<const N: usize>(words: &[&[u8]]) -> Option<[u64; N]> {
-    let found = words.iter().map(|word| number(word)).collect::<Option<Vec<_>>>()?;
-    found.try_into().ok()
 }
 
 /// The kinds of tiles that words name: true for downlink.
@@ -74,14 +47,11 @@ fn keep<T>(place: &mut Option<Said<T>>, line: usize, value: T) -> Result<(), Fau
 }
 
 impl Plan {
-    /// Reads a plan: a byte-order mark, carriage returns and tabs are blanks, # starts a comment.
+    /// Reads a plan.
     pub fn read(text: &[u8]) -> Result<Plan, Fault> {
-        let text = text.strip_prefix(BYTE_ORDER_MARK).unwrap_or(text);
         let mut plan = Plan::default();
-        for (place, line) in text.split(|&b| b == b'\n').enumerate() {
-            let said = line.split(|&b| b == b'#').next().unwrap_or_default();
-            let words = said.split(u8::is_ascii_whitespace).filter(|word| !word.is_empty());
-            plan.take(place + 1, &words.collect::<Vec<_>>())?;
+        for (line, words) in lines(text) {
+            plan.take(line, &words)?;
         }
         plan.whole()
     }

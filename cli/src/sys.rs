@@ -24,10 +24,12 @@ pub const NONBLOCK: i32 = 0o4000;
 /// A file without a name, in the folder that is opened.
 pub const TMPFILE: i32 = 0o20000000 | flags::DIRECTORY;
 
+const STANDARD_INPUT: c_int = 0;
 const STANDARD_OUTPUT: c_int = 1;
 const F_GETFL: c_int = 3;
 const O_ACCMODE: c_int = 3;
 const O_RDONLY: c_int = 0;
+const O_WRONLY: c_int = 1;
 const LOCK_EX: c_int = 2;
 const LOCK_NB: c_int = 4;
 const AT_FDCWD: c_int = -100;
@@ -75,11 +77,19 @@ extern "C" {
 
 /// Nothing that is written to standard output goes anywhere.
 static IS_MUTE: AtomicBool = AtomicBool::new(false);
+/// Nothing can be read from standard input.
+static IS_DEAF: AtomicBool = AtomicBool::new(false);
 
-/// Looks at standard output as the program was given it.
+/// The stream is closed, or open for no more than this.
+fn is_only(stream: c_int, way: c_int) -> bool {
+    let how = unsafe { fcntl(stream, F_GETFL) };
+    how == -1 || how & O_ACCMODE == way
+}
+
+/// Looks at the standard streams as the program was given them.
 extern "C" fn look() {
-    let how = unsafe { fcntl(STANDARD_OUTPUT, F_GETFL) };
-    IS_MUTE.store(how == -1 || how & O_ACCMODE == O_RDONLY, Ordering::Relaxed);
+    IS_MUTE.store(is_only(STANDARD_OUTPUT, O_RDONLY), Ordering::Relaxed);
+    IS_DEAF.store(is_only(STANDARD_INPUT, O_WRONLY), Ordering::Relaxed);
 }
 
 /// Has the look taken before main: by then the standard library has opened what was closed, on nothing.
@@ -90,6 +100,11 @@ static BEFORE_MAIN: extern "C" fn() = look;
 /// Standard output was closed, or open for reading alone, when the program started.
 pub fn is_mute() -> bool {
     IS_MUTE.load(Ordering::Relaxed)
+}
+
+/// Standard input was closed, or open for writing alone, when the program started.
+pub fn is_deaf() -> bool {
+    IS_DEAF.load(Ordering::Relaxed)
 }
 
 /// What a call of the C library that answers 0 or -1 gave.

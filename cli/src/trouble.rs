@@ -72,7 +72,7 @@ impl Refusal {
     }
 
     /// The refusal as it is printed.
-    fn line(&self) -> String {
+    pub fn line(&self) -> String {
         let said = format!("refused {}: {}", self.number, self.meaning());
         if self.about.is_empty() {
             return said;

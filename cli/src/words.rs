@@ -1,6 +1,6 @@
 //! The words of the command line: operands, options, and what they are as numbers.
 
-use crate::plan;
+use crate::lines;
 use crate::trouble::Trouble;
 use std::ffi::{OsStr, OsString};
 use std::os::unix::ffi::OsStrExt;
@@ -15,6 +15,7 @@ pub struct Choice {
 pub const JSON: Choice = Choice { name: "--json", value: None };
 pub const STREAM: Choice = Choice { name: "--stream", value: Some("ID") };
 pub const NODE: Choice = Choice { name: "--node", value: Some("NODE") };
+pub const DRY_RUN: Choice = Choice { name: "--dry-run", value: None };
 pub const NO_LISTS: Choice = Choice { name: "--no-lists", value: None };
 pub const RAW: Choice = Choice { name: "--raw", value: None };
 
@@ -22,6 +23,9 @@ pub const RAW: Choice = Choice { name: "--raw", value: None };
 const HELP: [&str; 2] = ["--help", "-h"];
 /// After this word every word is an operand.
 const REST: &str = "--";
+
+/// What an id is, for one who wrote another.
+pub const WHAT_ID: &str = "an id is a number from 1 to 65535";
 
 /// What follows a command.
 #[derive(Default)]
@@ -131,12 +135,12 @@ fn misused(said: &str) -> Trouble {
 }
 
 fn number(word: &OsStr) -> Option<Number> {
-    plan::number(word.as_bytes()).map(Number)
+    lines::number(word.as_bytes()).map(Number)
 }
 
 fn as_id(word: &OsStr) -> Result<u16, Trouble> {
     let id = number(word).and_then(|Number(n)| u16::try_from(n).ok());
-    id.ok_or_else(|| misused("an id is a number from 1 to 65535"))
+    id.ok_or_else(|| misused(WHAT_ID))
 }
 
 fn as_node(word: &OsStr) -> Result<Number, Trouble> {

@@ -1,4 +1,4 @@
-/* The eight calls of include/lindurask.h under other names, and the figures of a statement. */
+/* The nine calls of include/lindurask.h under other names, and the figures of a statement. */
 #ifndef FAST_H
 #define FAST_H
 
@@ -10,6 +10,15 @@ uint8_t fast_new(uint8_t s, uint8_t c, uint16_t kinds, uint8_t d, uint8_t u, uin
                  size_t topology_len, uint8_t *out, size_t out_len, size_t *length);
 uint8_t fast_check(const uint8_t *book, size_t book_len, size_t *length);
 uint8_t fast_rewrite(const uint8_t *book, size_t book_len, uint8_t *out, size_t out_len, size_t *length);
+struct fast_request {
+    bool opens, second;
+    uint8_t source, destination;
+    uint16_t id, period;
+    uint8_t answer;
+};
+
+uint8_t fast_post(const uint8_t *book, size_t book_len, struct fast_request *requests, size_t count, uint8_t *out,
+                  size_t out_len, size_t *length);
 uint8_t fast_open(const uint8_t *book, size_t book_len, uint16_t id, uint8_t source, uint8_t destination, uint16_t period,
                   bool second, uint8_t *out, size_t out_len, size_t *length);
 uint8_t fast_close(const uint8_t *book, size_t book_len, uint16_t id, uint8_t *out, size_t out_len, size_t *length);

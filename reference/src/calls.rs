@@ -5,14 +5,18 @@
 //! A new or changed book is written in the newest version.
 
 use crate::book::Book;
-use crate::change::{self, Open};
+use crate::change::Open;
 use crate::image;
 use crate::plan::Plan;
+use crate::record::Record;
 use crate::refusal::{DONE, Refusal, refuse_if};
 use crate::route::short_routes;
 use crate::table;
 use crate::topology::{NODES, Topology};
 use crate::version::Version;
+
+/// The most records in a posting.
+pub const MAX_RECORDS: usize = 64;
 
 /// The most routes listed.
 pub const MAX_LISTED: usize = 32;
@@ -46,16 +50,36 @@ pub fn rewrite(book: &[u8], out: &mut [u8]) -> (u8, usize) {
     deliver(image::read(book).map(|(version, book)| image::write(version, &book)), out)
 }
 
+/// Works through a list of opens and closes in its order. Each record receives
+/// its answer, and the book is written at the end if one was done.
+pub fn post(book: &[u8], records: &mut [Record], out: &mut [u8]) -> (u8, usize) {
+    let mut book = match read_for_posting(book, records.len(), out.len()) {
+        Ok(book) => book,
+        Err(refusal) => return (refusal as u8, 0),
+    };
+    for record in records.iter_mut() {
+        record.answer = match record.change(&book) {
+            Ok(changed) => {
+                book = changed;
+                DONE
+            }
+            Err(refusal) => refusal as u8,
+        };
+    }
+    if records.iter().all(|record| record.answer != DONE) {
+        return (DONE, 0);
+    }
+    deliver(Ok(in_newest_version(book)), out)
+}
+
 /// Opens a stream.
 pub fn open(book: &[u8], asked: Open, out: &mut [u8]) -> (u8, usize) {
-    let opened = read(book).and_then(|book| change::open(&book, asked));
-    deliver(opened.map(in_newest_version), out)
+    post_one(book, Record::open(asked), out)
 }
 
 /// Closes a stream.
 pub fn close(book: &[u8], id: u16, out: &mut [u8]) -> (u8, usize) {
-    let closed = read(book).and_then(|book| change::close(&book, id));
-    deliver(closed.map(in_newest_version), out)
+    post_one(book, Record::close(id), out)
 }
 
 /// Expands one node's slot table.
@@ -80,6 +104,13 @@ pub fn routes(book: &[u8], source: u8, destination: u8, out: &mut [u8]) -> (u8, 
     let listed = |routes: Vec<Vec<u8>>| routes.into_iter().take(MAX_LISTED).flat_map(listed_route);
     let (number, length) = deliver(found.map(|routes| listed(routes).collect()), out);
     (number, length, more && number == DONE)
+}
+
+/// A list of one: the whole call's refusal, or the record's answer.
+fn post_one(book: &[u8], record: Record, out: &mut [u8]) -> (u8, usize) {
+    let mut list = [record];
+    let (number, length) = post(book, &mut list, out);
+    if number == DONE { (list[0].answer, length) } else { (number, length) }
 }
 
 /// Puts an answer's bytes into the output buffer, if they fit.
@@ -108,6 +139,14 @@ fn new_book(plan: Plan, n: u8, topology: &[u8]) -> Result<Book, Refusal> {
 /// Reads a book of any version.
 fn read(book: &[u8]) -> Result<Book, Refusal> {
     image::read(book).map(|(_, book)| book)
+}
+
+/// Reads a book for a posting of so many records into so long a buffer.
+fn read_for_posting(book: &[u8], records: usize, room: usize) -> Result<Book, Refusal> {
+    let book = read(book)?;
+    refuse_if(records > MAX_RECORDS, Refusal::TooManyRecords)?;
+    refuse_if(room < Version::NEWEST.longest_image(), Refusal::BufferTooShort)?;
+    Ok(book)
 }
 
 /// Reads a book for a call about one of its nodes.

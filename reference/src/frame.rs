@@ -10,7 +10,7 @@
 //! | Bytes | Field                                                          |
 //! |-------|----------------------------------------------------------------|
 //! | 0     | call: 0 new, 1 check, 2 rewrite, 3 open, 4 close, 5 expand,    |
-//! |       | 6 balance, 7 routes, 255 end                                   |
+//! |       | 6 balance, 7 routes, 8 post, 255 end                           |
 //! | 1–2   | id (open, close)                                               |
 //! | 3     | source (open, routes) or node (expand, balance)                |
 //! | 4     | destination (open, routes)                                     |
@@ -24,12 +24,26 @@
 //! |       | balance, which have none                                       |
 //! | 18    | fill byte of the output buffer                                 |
 //! | 19    | 1 to ask for a second route, otherwise 0 (open)                |
-//! | 20–43 | 0                                                              |
+//! | 20–39 | 0                                                              |
+//! | 40–41 | length of the further bytes, which are the records (post)      |
+//! | 42–43 | 0                                                              |
 //!
 //! A field that the call does not use is 0. The planner is called with an
 //! output buffer of the stated length, each byte of it the fill byte.
 //!
-//! An answer is 13 bytes, then the whole output buffer as the call left it:
+//! A record has 11 bytes, and a posting has at most 100 records:
+//!
+//! | Bytes | Field                                                          |
+//! |-------|----------------------------------------------------------------|
+//! | 0     | 1 for an open, 0 for a close                                   |
+//! | 1     | 1 to ask for a second route, otherwise 0                       |
+//! | 2, 3  | source, destination                                            |
+//! | 4–5   | id                                                             |
+//! | 6–7   | period                                                         |
+//! | 8–9   | 0                                                              |
+//! | 10    | what the answer is before the call                             |
+//!
+//! An answer is 13 bytes, then what the call was lent, as it left it:
 //!
 //! | Bytes | Field                                                          |
 //! |-------|----------------------------------------------------------------|
@@ -38,20 +52,18 @@
 //! | 5–8   | used (balance); 1 if more routes exist than are listed         |
 //! |       | (routes); otherwise 0                                          |
 //! | 9–12  | free (balance), otherwise 0                                    |
-//! | then  | as many bytes as the request's output buffer has               |
+//! | then  | the output buffer, as long as the request says                 |
+//! | then  | the records (post)                                             |
 //!
-//! Bytes 20 to 43 are for document 02's other requests, and so are calls 8 to
-//! 12: 20–21 account (W11); 22–23 first tile and 24–25 tiles (W10); 26–33
-//! mains set (W13); 34–37 amount (W11); 38–39 length of the hearing (W6); 40–41
-//! length of the further bytes, which are the records (W2), the accounts (W11)
-//! or the tables (W9); 42–43 length of a second output buffer, which is the
-//! index, in words (W12), or the report (W7). Call 8 is post (W2), 9 keeps to
-//! (W13), 10 purchase (W11), 11 salvage (W7), 12 book of (W9). A record has 11
-//! bytes: 1 if it opens, 1 if it asks for a second route, source, destination,
-//! id (2), period (2), account (2), answer. In an answer the records as the
-//! call left them and the second buffer follow the output buffer; bytes 1–4 say
-//! whether a book keeps to the set, 5–8 and 9–12 are salvage's rows and bytes
-//! lost.
+//! What is 0 is for document 02's other requests, and so are calls 9 to 12:
+//! 20–21 account (W11); 22–23 first tile and 24–25 tiles (W10); 26–33 mains
+//! set (W13); 34–37 amount (W11); 38–39 length of the hearing (W6); further
+//! bytes that are the accounts (W11) or the tables (W9); 42–43 length of a
+//! second output buffer, which is the index, in words (W12), or the report
+//! (W7); bytes 8–9 of a record, its account (W11). Call 9 is keeps to (W13), 10
+//! purchase (W11), 11 salvage (W7), 12 book of (W9). In an answer the second
+//! buffer is last; bytes 1–4 say whether a book keeps to the set, 5–8 and 9–12
+//! are salvage's rows and bytes lost.
 //!
 //! A request with call 255 is a header only, has no answer and ends the
 //! stream, as does the end of the input between two frames. Answers may be
@@ -82,10 +94,11 @@ pub enum Call {
     Expand = 5,
     Balance = 6,
     Routes = 7,
+    Post = 8,
 }
 
 impl Call {
-    pub const ALL: [Call; 8] = [
+    pub const ALL: [Call; 9] = [
         Call::New,
         Call::Check,
         Call::Rewrite,
@@ -94,6 +107,7 @@ impl Call {
         Call::Expand,
         Call::Balance,
         Call::Routes,
+        Call::Post,
     ];
 
     /// The call has an output buffer.
@@ -114,13 +128,15 @@ pub fn write_end(output: &mut impl Write) -> io::Result<()> {
     output.write_all(&header)
 }
 
-/// What a call gave back, and its output buffer afterwards.
+/// What a call gave back, and what it was lent, afterwards.
 #[derive(Clone, Debug, PartialEq, Eq)]
 pub struct Answer {
     pub number: u8,
     /// The length, the mark that more exist and a zero, or data, used and free.
     pub counts: [u32; 3],
     pub out: Vec<u8>,
+    /// The records of a posting.
+    pub records: Vec<u8>,
 }
 
 impl Answer {
@@ -129,19 +145,22 @@ impl Answer {
         for count in self.counts {
             output.write_all(&count.to_be_bytes())?;
         }
-        output.write_all(&self.out)
+        output.write_all(&self.out)?;
+        output.write_all(&self.records)
     }
 
-    /// Reads the answer to a request with an output buffer of `room` bytes.
-    pub fn read(input: &mut impl Read, room: u16) -> io::Result<Answer> {
+    /// Reads the answer to this request.
+    pub fn read(input: &mut impl Read, request: &Request) -> io::Result<Answer> {
         let mut header = [0; ANSWER_HEADER];
         input.read_exact(&mut header)?;
         let count = |place: usize| {
             u32::from_be_bytes(header[place..place + 4].try_into().expect("four bytes"))
         };
-        let mut out = vec![0; usize::from(room)];
+        let mut out = vec![0; usize::from(request.room)];
         input.read_exact(&mut out)?;
-        Ok(Answer { number: header[0], counts: [count(1), count(5), count(9)], out })
+        let mut records = vec![0; request.records().len()];
+        input.read_exact(&mut records)?;
+        Ok(Answer { number: header[0], counts: [count(1), count(5), count(9)], out, records })
     }
 
     /// The bytes the call wrote: the first `length` of its output buffer.

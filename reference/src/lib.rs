@@ -8,8 +8,8 @@
 //! One subject a file, in document 01's order:
 //! `plan`, `slots` (tiles, slots, periods); `node_set`, `topology`, `route`,
 //! `hop`, `placing` (routes and clashes); `row`, `book`, `law`, `version`,
-//! `image` (the image); `refusal`, `change`, `calls` (what each call says
-//! back); `table`, `listing` (a node's table and balance); document 02's
+//! `image` (the image); `refusal`, `change`, `record`, `calls` (what each call
+//! says back); `table`, `listing` (a node's table and balance); document 02's
 //! `statement` (many sites). `frame` and `request` carry calls between programs.
 
 pub mod book;
@@ -23,6 +23,7 @@ pub mod listing;
 pub mod node_set;
 pub mod placing;
 pub mod plan;
+pub mod record;
 pub mod refusal;
 pub mod request;
 pub mod route;

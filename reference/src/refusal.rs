@@ -29,7 +29,8 @@ pub enum Refusal {
     OutOfRange = 10,
     /// Topology: wrong length, a bit from N up, a self-link, a one-way link.
     UnsoundTopology = 11,
-    /// The output buffer is shorter than the answer.
+    /// The output buffer is shorter than the answer; for a posting, than the
+    /// longest book.
     BufferTooShort = 12,
     /// Wrong mark or version.
     WrongMark = 13,
@@ -44,6 +45,8 @@ pub enum Refusal {
     TooFar = 17,
     /// No such second route.
     NoSecondRoute = 18,
+    /// Over 64 records.
+    TooManyRecords = 26,
 }
 
 /// Refuses if the condition applies.

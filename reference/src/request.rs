@@ -3,6 +3,7 @@
 use crate::calls;
 use crate::change::Open;
 use crate::frame::{Answer, Call, END, REQUEST_HEADER};
+use crate::record::{RECORD_BYTES, Record};
 use std::io::{self, Read, Write};
 
 /// One call with all its arguments.
@@ -25,6 +26,8 @@ pub struct Request {
     pub n: u8,
     /// The links of a new book, the book of any other call.
     pub bytes: Vec<u8>,
+    /// The records of a posting.
+    pub further: Vec<u8>,
     /// Length of the output buffer.
     pub room: u16,
     /// What every byte of the output buffer is before the call.
@@ -48,6 +51,7 @@ impl Request {
             u: 0,
             n: 0,
             bytes: Vec::new(),
+            further: Vec::new(),
             room: 0,
             fill: 0,
         }
@@ -68,8 +72,10 @@ impl Request {
         put(14, &(self.bytes.len() as u16).to_be_bytes());
         put(16, &self.room.to_be_bytes());
         put(18, &[self.fill, u8::from(self.second)]);
+        put(40, &(self.further.len() as u16).to_be_bytes());
         output.write_all(&header)?;
-        output.write_all(&self.bytes)
+        output.write_all(&self.bytes)?;
+        output.write_all(&self.further)
     }
 
     /// Reads a request; none at the end of the stream.
@@ -81,6 +87,8 @@ impl Request {
         let number = |place: usize| u16::from_be_bytes([header[place], header[place + 1]]);
         let mut bytes = vec![0; usize::from(number(14))];
         input.read_exact(&mut bytes)?;
+        let mut further = vec![0; usize::from(number(40))];
+        input.read_exact(&mut further)?;
         Ok(Some(Request {
             call: Call::of_number(header[0])?,
             id: number(1),
@@ -95,6 +103,7 @@ impl Request {
             u: header[12],
             n: header[13],
             bytes,
+            further,
             room: number(16),
             fill: header[18],
         }))
@@ -103,12 +112,20 @@ impl Request {
     /// What the reference says to this request.
     pub fn answer(&self) -> Answer {
         let mut out = vec![self.fill; usize::from(self.room)];
-        let (number, counts) = self.call_reference(&mut out);
-        Answer { number, counts, out }
+        let mut records: Vec<Record> =
+            self.records().chunks_exact(RECORD_BYTES).map(Record::read).collect();
+        let (number, counts) = self.call_reference(&mut out, &mut records);
+        let records = records.iter().flat_map(Record::write).collect();
+        Answer { number, counts, out, records }
+    }
+
+    /// The records of a posting; no other call has any.
+    pub fn records(&self) -> &[u8] {
+        if self.call == Call::Post { &self.further } else { &[] }
     }
 
     /// Makes the call: the number, and the length or the three counts.
-    fn call_reference(&self, out: &mut [u8]) -> (u8, [u32; 3]) {
+    fn call_reference(&self, out: &mut [u8], records: &mut [Record]) -> (u8, [u32; 3]) {
         let book = &self.bytes;
         let (number, length) = match self.call {
             Call::New => {
@@ -127,6 +144,7 @@ impl Request {
                 let (number, length, more) = calls::routes(book, self.node, self.destination, out);
                 return (number, [length as u32, u32::from(more), 0]);
             }
+            Call::Post => calls::post(book, records, out),
         };
         (number, [length as u32, 0, 0])
     }

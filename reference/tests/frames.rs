@@ -4,6 +4,7 @@ mod common;
 
 use common::*;
 use reference::frame::{Answer, Call, Request, serve, write_end};
+use reference::version::Version;
 
 fn bytes_of(request: &Request) -> Vec<u8> {
     let mut bytes = Vec::new();
@@ -25,13 +26,14 @@ fn a_request_has_every_field_in_its_place() {
         u: 0x0C,
         n: 0x0D,
         bytes: vec![0xEE; 3],
+        further: vec![0xDD; 2],
         room: 0x1011,
         fill: 0x12,
         second: true,
         ..Request::blank(Call::Open)
     };
     let fields = [3, 1, 2, 3, 4, 5, 6, 7, 8, 9, 10, 11, 12, 13, 0, 3, 0x10, 0x11, 0x12, 1];
-    let expected = [&fields[..], &[0; 24], &[0xEE; 3]].concat();
+    let expected = [&fields[..], &[0; 20], &[0, 2, 0, 0], &[0xEE; 3], &[0xDD; 2]].concat();
     assert_eq!(bytes_of(&request), expected);
     assert_eq!(Request::read(&mut &expected[..]).unwrap(), Some(request));
 }
@@ -77,11 +79,11 @@ fn check_and_balance_are_answered_without_a_buffer() {
 
 #[test]
 fn an_answer_reads_as_it_was_written() {
-    let answer =
-        Request { bytes: p2(), room: 99, fill: 7, ..Request::blank(Call::Rewrite) }.answer();
+    let request = Request { bytes: p2(), room: 99, fill: 7, ..Request::blank(Call::Rewrite) };
+    let answer = request.answer();
     let mut bytes = Vec::new();
     answer.write(&mut bytes).unwrap();
-    assert_eq!(Answer::read(&mut &bytes[..], 99).unwrap(), answer);
+    assert_eq!(Answer::read(&mut &bytes[..], &request).unwrap(), answer);
     assert_eq!(answer.written(), p2());
 }
 
@@ -98,4 +100,26 @@ fn a_list_of_routes_is_answered_with_its_mark() {
     };
     assert_eq!(list(128).answer().counts, [128, 1, 0]);
     assert_eq!(served(&[list(127)])[..13], [12, 0, 0, 0, 0, 0, 0, 0, 0, 0, 0, 0, 0]);
+}
+
+#[test]
+fn a_posting_is_answered_with_its_records() {
+    let records = [
+        [1, 0, 3, 0, 0, 1, 0, 2, 0, 0, 99],
+        [0, 1, 200, 201, 0, 9, 0, 3, 0, 0, 98],
+        [1, 1, 0, 3, 0, 2, 0, 2, 0, 0, 97],
+    ];
+    let room = Version::NEWEST.longest_image() as u16;
+    let further = records.concat();
+    let post = Request { bytes: line_a(4), further, room, ..Request::blank(Call::Post) };
+    let bytes = served(std::slice::from_ref(&post));
+    let answer = Answer::read(&mut &bytes[..], &post).unwrap();
+    assert_eq!((answer.number, answer.written()), (0, &p2()[..]));
+    // Done, not in the book, no second route on a line.
+    let mut expected = records;
+    (expected[0][10], expected[1][10], expected[2][10]) = (0, 3, 18);
+    assert_eq!(answer.records, expected.concat());
+    // Refused as a whole, it leaves the records alone.
+    let short = Request { room: room - 1, ..post };
+    assert_eq!((short.answer().number, short.answer().records), (12, records.concat()));
 }

@@ -227,31 +227,35 @@ fn open_gives_8() {
     assert_eq!(open_refused(&book, 65, 0, 3, 1), 8);
     let full = opened(&book, 65, 40, 42, 1);
     assert_eq!(open_refused(&full, 66, 40, 41, 1), 8);
-    // 8 before 9 before 12.
-    assert_eq!(refused(0, |out| calls::open(&full, plain(66, 0, 1, 1), out)), 8);
-    assert_eq!(refused(0, |out| calls::open(&book, plain(66, 0, 1, 1), out)), 9);
+    // 12 before 8 before 9.
+    assert_eq!(refused(0, |out| calls::open(&full, plain(66, 0, 1, 1), out)), 12);
+    assert_eq!(open_refused(&full, 66, 0, 1, 1), 8);
+    assert_eq!(open_refused(&book, 66, 0, 1, 1), 9);
 }
 
 #[test]
 fn open_gives_9_and_12() {
-    assert_eq!(refused(0, |out| calls::open(&p3(), plain(3, 3, 2, 2), out)), 9);
-    let length = p3().len();
+    assert_eq!(open_refused(&p3(), 3, 3, 2, 2), 9);
+    let longest = Version::NEWEST.longest_image();
     let open = |room| refused(room, |out| calls::open(&p2(), plain(2, 0, 3, 2), out));
-    assert_eq!((open(0), open(length - 1)), (12, 12));
-    let mut out = vec![FILL; length];
-    assert_eq!(calls::open(&p2(), plain(2, 0, 3, 2), &mut out), (0, length));
-    assert_eq!(out, p3());
+    assert_eq!((open(0), open(longest - 1)), (12, 12));
+    let mut out = vec![FILL; longest];
+    assert_eq!(calls::open(&p2(), plain(2, 0, 3, 2), &mut out), (0, p3().len()));
+    assert_eq!(out[..p3().len()], p3());
 }
 
 #[test]
 fn close_gives_0_1_3_12() {
     let book = p3();
     assert_eq!(closed(&book, 2), p2());
-    assert_eq!(refused(0, |out| calls::close(&book, 0, out)), 1);
-    assert_eq!(refused(0, |out| calls::close(&book, 3, out)), 3);
-    assert_eq!(refused(p2().len() - 1, |out| calls::close(&book, 2, out)), 12);
-    // The buffer is measured against the new book, not the old one.
-    let mut out = vec![FILL; p2().len()];
+    assert_eq!(refused(ROOM, |out| calls::close(&book, 0, out)), 1);
+    assert_eq!(refused(ROOM, |out| calls::close(&book, 3, out)), 3);
+    // The buffer is measured against the longest book, and before the record.
+    let longest = Version::NEWEST.longest_image();
+    for id in [0, 2, 3] {
+        assert_eq!(refused(longest - 1, |out| calls::close(&book, id, out)), 12);
+    }
+    let mut out = vec![FILL; longest];
     assert_eq!(calls::close(&book, 2, &mut out), (0, p2().len()));
 }
 

@@ -137,7 +137,7 @@ fn the_rows_or_the_hops_of_both_may_not_pass_the_limit() {
 }
 
 #[test]
-fn the_order_of_7_17_18_8_9_12() {
+fn the_order_of_7_17_18_8_9() {
     let islands = new_book(OPEN_PLAN, &topology(4, &[(0, 1), (2, 3)]));
     assert_eq!(both_refused(&islands, 1, 0, 3, 5), 7);
     assert_eq!(both_refused(&new_book(OPEN_PLAN, &line(17)), 1, 0, 16, 100), 17);
@@ -147,12 +147,6 @@ fn the_order_of_7_17_18_8_9_12() {
     assert_eq!(both_refused(&full, 99, 0, 3, 100), 8);
     let line = new_book((1, 1, 0, 0, 0), &line(3));
     assert_eq!(both_refused(&line, 1, 0, 2, 1), 18);
-    // 9 before 12, and 12 against the book with both rows.
-    let narrow = new_book((1, 1, 0, 0, 0), &square());
-    assert_eq!(refused(0, |out| calls::open(&narrow, doubled(1, 0, 3, 2), out)), 9);
-    let book = new_book(OPEN_PLAN, &square());
-    let length = open_both(&book, 1, 0, 3, 2).len();
-    assert_eq!(refused(length - 1, |out| calls::open(&book, doubled(1, 0, 3, 2), out)), 12);
 }
 
 #[test]
@@ -161,10 +155,10 @@ fn an_older_book_is_changed_into_the_newest_version() {
     let book = open_both(&older, 9, 0, 3, 5);
     assert_eq!((older[4], book[4]), (1, 2));
     assert_eq!(stream(&book, 3), stream(&older, 3));
-    // A buffer of the older length is too short for the newest version.
-    let room = stored(Version::One, &opened(&older, 4, 0, 1, 5)).len();
+    // A buffer for the longest book of the older version is too short.
+    let room = Version::One.longest_image();
     assert_eq!(refused(room, |out| calls::open(&older, plain(4, 0, 1, 5), out)), 12);
-    assert_eq!(refused(32 + 16 - 1, |out| calls::close(&older, 3, out)), 12);
+    assert_eq!(refused(room, |out| calls::close(&older, 3, out)), 12);
     assert_eq!(closed(&older, 3), new_book(OPEN_PLAN, &square()));
 }
 

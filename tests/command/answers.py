@@ -9,6 +9,7 @@ USAGE = {
     "show": "BOOK [TILE] [--stream ID] [--node NODE] [--no-lists] [--json]",
     "open": "BOOK ID SOURCE DESTINATION PERIOD [second]",
     "close": "BOOK ID",
+    "post": "BOOK FILE [--dry-run] [--json]",
     "quote": "BOOK SOURCE DESTINATION [--json]",
     "routes": "BOOK SOURCE DESTINATION [--json]",
     "table": "BOOK [NODE] [--json]",
@@ -112,13 +113,14 @@ def images(room):
              (good[:row + 2] + b"\x02" + good[row + 3:], "15: the rows of the book's streams are not lawful"),
              (good[:second + 1] + b"\x01" + good[second + 2:], "15: the rows of the book's streams are not lawful"),
              (clash, "16: hops of two routes clash and meet in a slot")]
+    room.put("a.list", b"close 1\nopen 8 1 2 5\n")
     for place, (data, words) in enumerate(cases):
         room.put("bad.book", data)
         line = "refused %s (bad.book)\n" % words
         room.says(1, line, "check", "bad.book")
         command = [["open", "bad.book", "8", "1", "2", "5"], ["close", "bad.book", "1"], ["show", "bad.book"], ["table", "bad.book"],
-                   ["balance", "bad.book", "1"], ["quote", "bad.book", "1", "2"], ["routes", "bad.book", "1", "2"], ["replan", "bad.book", "kiln.plan", "n.book"], ["page", "bad.book"]]
-        for words in command if place in (2, 12) else command[place % 8:place % 8 + 1]:
+                   ["post", "bad.book", "a.list"], ["balance", "bad.book", "1"], ["quote", "bad.book", "1", "2"], ["routes", "bad.book", "1", "2"], ["replan", "bad.book", "kiln.plan", "n.book"], ["page", "bad.book"]]
+        for words in command if place in (2, 12) else command[place % 9:place % 9 + 1]:
             room.says(1, line, *words)
         check(room.get("bad.book") == data, "a book that is none was changed")
     check("n.book" not in room.names(), "replan made a book of one that is none")

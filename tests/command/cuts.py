@@ -54,7 +54,7 @@ class Folder:
 
     def __enter__(self):
         os.mkdir(self.path)
-        for name in ["kiln.plan", "yard.plan", "kiln.book", "site.book"]:
+        for name in ["kiln.plan", "yard.plan", "kiln.book", "site.book", "month.list"]:
             shutil.copy(os.path.join(self.case.room.path, name), self.path)
         if self.case.before is not None:
             with open(os.path.join(self.path, self.case.file), "wb") as file:
@@ -169,8 +169,8 @@ def named(case, trace):
         check(sorted(os.listdir(folder)) == sorted(set(before + [case.file])), "%s by a named file left %s" % (case.name, os.listdir(folder)))
 
 
-def replaced(case, trace):
-    """A book that another change replaces after it was opened and before it was locked is opened anew."""
+def replaced(case, trace, changed):
+    """A book that another change replaces after it was opened and before it was locked is opened anew; what the case makes of a book is given."""
     with case.folder("replaced") as folder:
         at, held, other = (os.path.join(folder, name) for name in ["at-lock", case.file, "other"])
         old = tool.work_out.Book.read(case.before)
@@ -182,7 +182,7 @@ def replaced(case, trace):
             file.write(new.image())
         os.rename(other, held)
         os.remove(at)
-        check(run.wait(60) == 0 and case.held(folder) == new.without(int(case.words[2])).image(), "%s: a book that was replaced meanwhile" % case.name)
+        check(run.wait(60) == 0 and case.held(folder) == changed(new).image(), "%s: a book that was replaced meanwhile" % case.name)
 
 
 def test(room):
@@ -191,8 +191,12 @@ def test(room):
         tool.skip("cut-offs: no C compiler, or no right to trace a program")
         return
     old = tool.work_out.Book.read(room.get("site.book")).without(64).image()
+    # One stream is there for the time of the list alone.
+    month = "open 200 0 63 100\nclose 64\nclose 40\nopen 201 1 2 100 second\nclose 201\nopen 40 2 1 50\n"
+    room.put("month.list", month.encode())
     cases = [Case(room, "open", "a.book", old, "open", "a.book", "200", "0", "63", "100"),
              Case(room, "close", "a.book", room.get("site.book"), "close", "a.book", "64"),
+             Case(room, "post", "a.book", tool.work_out.Book.read(room.get("site.book")).without(63).image(), "post", "a.book", "month.list"),
              Case(room, "new", "n.book", None, "new", "n.book", "kiln.plan"),
              Case(room, "replan", "n.book", None, "replan", "kiln.book", "yard.plan", "n.book"),
              Case(room, "page", "p.html", None, "page", "kiln.book", "p.html")]
@@ -201,8 +205,9 @@ def test(room):
         seen(case, trace)
         unsynced(case, trace)
         named(case, trace)
-    replaced(cases[1], trace)
-    for case in cases[:2]:
+    replaced(cases[1], trace, lambda book: book.without(64))
+    replaced(cases[2], trace, lambda book: tool.work_out.posted(book, month)[1])
+    for case in cases[:3]:
         left(case, trace)
     for case in cases:
         killed(case, trace)

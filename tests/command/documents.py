@@ -52,8 +52,9 @@ def fields(value):
 
 def json_fields(room):
     document = text("docs/json.md").split("| Field |")[1]
+    room.put("a.list", b"open 9 6 4 50\nclose 9\nclose 9\n")
     used = set()
-    for words in [["check"], ["show"], ["table"], ["balance"], ["quote", "3", "0"], ["quote", "3", "9"], ["routes", "3", "0"], ["diff", "pond.book"], ["balance", "99"]]:
+    for words in [["check"], ["show"], ["table"], ["balance"], ["quote", "3", "0"], ["quote", "3", "9"], ["routes", "3", "0"], ["diff", "pond.book"], ["balance", "99"], ["post", "a.list"]]:
         out = room.run(words[0], "kiln.book", *words[1:], "--json").out
         check(out.count("\n") == 1 and out.endswith("\n"), "%s --json is not one line" % words)
         used |= fields(json.loads(out))
@@ -69,10 +70,11 @@ def documents(room, usages, refusals):
         check("\n| %s | %s |" % (number, words) in answers, "docs/answers.md has other words for %s" % number)
     check(room.run("show", "kiln.book").out in readme, "README.md shows another picture of books/kiln.book")
     room.put("line.plan", re.search(r"```\n(slots 4 .*?)```", readme, re.S).group(1).encode())
+    room.put("month.list", re.search(r"```\n(close 1\n.*?)```", readme, re.S).group(1).encode())
     room.put("my.book", room.get("pond.book"))
     os.symlink(".", room.at("books"))
     dialogues = re.findall(r"```\n(\$ ./lindurask .*?)```", readme, re.S)
-    check(len(dialogues) == 4, "README.md has %d dialogues" % len(dialogues))
+    check(len(dialogues) == 5, "README.md has %d dialogues" % len(dialogues))
     for part in "".join(dialogues).split("$ ./lindurask ")[1:]:
         words, said = part.split("\n", 1)
         got = room.run(*words.split()).all
@@ -121,7 +123,7 @@ def test(room):
     names = [words.split()[1] for words in everything.split("\n") if words.startswith("  lindurask ")]
     usages = {name: room.run(name, "--help").out.split("\n")[0].replace("lindurask ", "", 1) for name in names}
     refusals = re.findall(r"^ +(\d+)  (.*)$", everything, re.M)
-    check(len(usages) == 14 and len(refusals) == 18, "help lists %d commands and %d refusals" % (len(usages), len(refusals)))
+    check(len(usages) == 15 and len(refusals) == 19, "help lists %d commands and %d refusals" % (len(usages), len(refusals)))
     check(all(len(line) <= 80 for line in everything.split("\n")), "help is wider than 80 columns")
     man_page(room, usages, refusals)
     completion(usages)

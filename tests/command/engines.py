@@ -6,7 +6,8 @@ import subprocess
 import tool
 from tool import check
 
-# Answers each call with what the mode says; a call's room stands in bytes 16 and 17, its bytes in 14 and 15.
+# Answers each call with what the mode says; a call's room stands in bytes 16 and 17, its bytes in 14 and 15, and those of its
+# records, which have 11 each, in 40 and 41.
 FAKE = r'''#!/usr/bin/env python3
 import os, sys
 mode = sys.argv[0].rsplit("-", 1)[1]
@@ -16,8 +17,10 @@ while True:
     if len(head) < 44 or head[0] == 255:
         break
     data = read(int.from_bytes(head[14:16], "big"))
+    records = read(int.from_bytes(head[40:42], "big"))
     room = int.from_bytes(head[16:18], "big")
     number, counts, out = 0, [0, 0, 0], bytes([head[18]]) * room
+    def marked(answer): return b"".join(records[at:at + 10] + bytes([answer]) for at in range(0, len(records), 11))
     if mode == "number": number = 99
     if mode == "length": counts[0] = room + 1
     if mode == "both": number, counts[0] = 14, 1
@@ -26,9 +29,16 @@ while True:
     if mode == "touched" and room: number, out = 9, b"x" + out[1:]
     if mode == "junk" and room: counts[0], out = room, os.urandom(room)
     if mode == "short" and room: counts[0], out = 3, b"SLB" + out[3:]
-    if mode in ("more", "badly", "single") and room:
+    if mode in ("more", "badly", "single", "good", "unmarked", "field", "missing", "odd", "written") and room:
         image = open(os.path.join(os.path.dirname(sys.argv[0]), "new.image"), "rb").read()
         counts[0], out = len(image), image + out[len(image):]
+    if mode not in ("unmarked", "number", "both"): records = marked({"odd": 99, "written": 9}.get(mode, 0))
+    if mode == "field": records = records[:2] + bytes([records[2] ^ 1]) + records[3:]
+    if mode == "missing": records = records[:-1]
+    if mode == "marks": number = 26
+    if mode == "fickle" and head[0] == 8:
+        if len(records) == 11: records = marked(9)
+        else: counts[0], out = len(data), data + out[len(data):]
     if mode == "sleepy" and head[0] == 5: counts[0], out = 300 * data[5], bytes(300 * data[5]) + out[300 * data[5]:]
     if mode == "unlike" and head[0] == 5:
         length = 300 * data[5]
@@ -39,12 +49,12 @@ while True:
         said = {"listnode": b"\2\3\x0c\0", "listhops": b"\7\3\2\1\4\5\6\7\0", "listnone": b"\0\3", "listcut": b"\3\3\2\1", "listends": b"\3\3\2\1\4"}.get(mode, b"")
         counts, out = [len(said), 2 if mode == "listmark" else 0, 0], said + out[len(said):]
     if mode == "same" and room: counts[0], out = len(data), data + out[len(data):]
-    answer = bytes([number]) + b"".join(n.to_bytes(4, "big") for n in counts) + out
+    answer = bytes([number]) + b"".join(n.to_bytes(4, "big") for n in counts) + out + records
     if mode == "half":
         answer = answer[:7]
     write.write(answer)
     write.flush()
-    if mode == "half":
+    if mode in ("half", "missing"):
         sys.exit(0)
 if mode == "more":
     write.write(b"more")
@@ -55,7 +65,7 @@ WRONG = {"number": "says what is no answer", "length": "says what is no answer",
          "half": "ended before it answered", "more": "says more than it was asked, or does not end", "badly": "ended badly: exit status: 3"}
 COMMANDS = [["check", "kiln.book"], ["show", "kiln.book"], ["open", "kiln.book", "8", "1", "2", "5"], ["close", "kiln.book", "5"], ["table", "kiln.book"],
             ["balance", "kiln.book"], ["quote", "kiln.book", "3", "0"], ["new", "n.book", "kiln.plan"], ["replan", "kiln.book", "yard.plan", "n.book"],
-            ["page", "kiln.book"], ["routes", "kiln.book", "3", "0"], ["diff", "kiln.book", "yard.book"]]
+            ["page", "kiln.book"], ["routes", "kiln.book", "3", "0"], ["diff", "kiln.book", "yard.book"], ["post", "kiln.book", "a.list"]]
 
 
 def hold(room, engine, words, said):
@@ -89,16 +99,17 @@ def nonsense(room, engines):
     engines.put("new.image", old.with_ways(old.opened(8, 1, 2, 5)).image())
     fake = {mode: program(engines, "engine-" + mode, FAKE.encode()) for mode in list(WRONG) + ["spilt", "touched", "junk", "short", "same", "sleepy"]}
     for mode, said in WRONG.items():
-        for words in COMMANDS[:1] + COMMANDS[2:3]:
+        for words in COMMANDS[:1] + COMMANDS[2:3] + COMMANDS[12:]:
             hold(room, fake[mode], words, said)
     for mode in ["spilt", "touched", "junk", "short", "same"]:
-        for words in COMMANDS[2:4] + COMMANDS[7:9] if mode != "same" else COMMANDS[2:4]:
+        for words in COMMANDS[2:4] + (COMMANDS[7:9] if mode != "same" else []) + COMMANDS[12:]:
             got = room.run(*words, env={"LINDURASK_ENGINE": os.fsdecode(fake[mode])})
             check(got.status == 2 and got.out == "" and "the engine" in got.err, "%s with an engine that gives %s: %s" % (words, mode, got.all))
     # Both routes or none: one route alone is no answer to who asks for a second.
     single, words = program(engines, "engine-single", FAKE.encode()), COMMANDS[2]
     got = room.run(*words, "second", env={"LINDURASK_ENGINE": os.fsdecode(single)})
     check(got.status == 2 and got.all == "lindurask: the engine opened another stream\n", "%s with an engine that opens one route: %s" % (words, got.all))
+    postings(room, engines)
     # Lists of routes with a node beyond the site, of 7 hops, of none, cut short, with another end, and with a mark of 2.
     for mode in ["listnode", "listhops", "listnone", "listcut", "listends", "listmark"]:
         hold(room, program(engines, "engine-" + mode, FAKE.encode()), COMMANDS[10], "says what is no answer")
@@ -112,6 +123,29 @@ def nonsense(room, engines):
     got = room.run("diff", "kiln.book", "kiln.book", env={"LINDURASK_ENGINE": os.fsdecode(engines.at("engine-unlike"))})
     check(got.status == 0 and got.all == "the books are the same\n", "diff with the tables of the book: %s" % got.all)
     os.remove(room.at("old.book"))
+
+
+def postings(room, engines):
+    """Records unmarked, changed, missing, or with a number that no answer has; one marked where the list is refused; a list done and nothing
+    written, written and nothing done, or another book; answers that are others when they are asked again; and 65 requests that are done."""
+    def posted(mode, data, said, name="-"):
+        engine = program(engines, "engine-" + mode, FAKE.encode())
+        for more in [[], ["--json"], ["--dry-run"]]:
+            got = room.run("post", "kiln.book", name, *more, data=data, env={"LINDURASK_ENGINE": os.fsdecode(engine)})
+            check(got.status == 2 and got.out == "" and got.err == "lindurask: the engine %s\n" % said, "post with engine %s: %d %s" % (mode, got.status, got.all))
+    wrong, one = "says what is no answer; nothing is changed", b"open 8 1 2 5\n"
+    for mode in ["unmarked", "field", "odd", "marks", "written", "empty"]:
+        posted(mode, one, wrong)
+    posted("missing", one, "ended before it answered; nothing is changed")
+    posted("same", one, "opened another stream")
+    posted("single", b"open 8 1 2 5 second\n", "opened another stream")
+    for data in [b"open 9 1 2 5\n", b"open 5 6 7 2\n", one + b"close 5\n", b"close 5\n" + one, b"close 5\n", b"close 200\n", one * 2, one * 65, one + b"close 8\n" + one + one]:
+        posted("good", data, "opened another stream" if data == b"open 9 1 2 5\n" else wrong)
+    posted("fickle", one + b"close 8\n", wrong)
+    engine = program(engines, "engine-good", FAKE.encode())
+    got = room.run("post", "kiln.book", "a.list", "--dry-run", env={"LINDURASK_ENGINE": os.fsdecode(engine)})
+    book = tool.work_out.Book.read(room.get("kiln.book"))
+    check((got.status, got.all) == (0, tool.work_out.post(book, one.decode(), True)[0]), "post with the right answer: %s" % got.all)
 
 
 def called_lawful(room, engines):
@@ -147,6 +181,7 @@ def alone(room, engines):
 
 
 def test(room):
+    room.put("a.list", b"open 8 1 2 5\n")
     book, before = room.get("kiln.book"), room.names()
     with tool.Room() as engines:
         no_engines(room, engines)

@@ -7,7 +7,7 @@ import tool
 from tool import check
 
 READERS = [["check"], ["show"], ["table"], ["balance"], ["quote", "1", "2"], ["page"], ["routes", "1", "2"], ["diff", "kiln.book"], ["statement", "kiln.book"]]
-CHANGERS = [["open", "8", "1", "2", "5"], ["close", "1"]]
+CHANGERS = [["open", "8", "1", "2", "5"], ["close", "1"], ["post", "a.list"]]
 
 
 def asked(words, file):
@@ -40,6 +40,7 @@ def kinds(room):
         if name not in ("none.book", "kiln.book/x", "."):
             room.says(2, "lindurask: %s: %s\n" % (name, words), "new", "n.book", name)
             room.says(2, "lindurask: %s: %s\n" % (name, words), "replan", "kiln.book", name, "n.book")
+            room.says(2, "lindurask: %s: %s\n" % (name, words), "post", "kiln.book", name)
     for command in READERS + CHANGERS:
         room.says(2, "lindurask: the name of a file is empty\n", *asked(command, ""))
     server.close()
@@ -54,7 +55,7 @@ def closed(room):
     def shut(words):
         return subprocess.run(["sh", "-c", 'exec "$0" "$@" <&-', tool.TOOL, *words], cwd=room.path, capture_output=True, timeout=20)
     done = shut(["new", "n.book", "-"])
-    check(done.returncode == 2 and done.stderr == b"standard input: there is no line slots\n", "a plan from a closed standard input: %s" % done.stderr)
+    check(done.returncode == 2 and done.stderr == b"lindurask: standard input: is closed: nothing is read from it\n", "a plan from a closed standard input: %s" % done.stderr)
     check(shut(["check", "kiln.book"]).returncode == 0, "a check with standard input closed")
     done = subprocess.run(["sh", "-c", 'exec "$0" "$@" <&- 2>&-', tool.TOOL, "open", "kiln.book", "77", "1", "2", "100"], cwd=room.path, stdout=subprocess.DEVNULL, timeout=20)
     check(done.returncode == 0 and room.run("close", "kiln.book", "77").status == 0, "an open with standard input and standard error closed")
@@ -66,7 +67,7 @@ def mute(room):
     words = READERS + CHANGERS + [["page", "m.html"], ["replan", "yard.plan", "m.book"]]
     commands = [asked(command, "kiln.book") for command in words] + [["new", "m.book", "kiln.plan"], ["help"], ["--version"], ["frob"]]
     for closing in [">&-", "1</dev/null", "<&- >&-"]:
-        for command in commands if closing == ">&-" else commands[len(READERS):][:4]:
+        for command in commands if closing == ">&-" else commands[len(READERS):][:5]:
             done = subprocess.run(["sh", "-c", 'exec "$0" "$@" ' + closing, tool.TOOL, *command], cwd=room.path, stderr=subprocess.PIPE, timeout=20)
             said = b"lindurask: standard output is closed; nothing is changed\n"
             check(done.returncode == 2 and done.stderr == said, "%s with %s: %d %s" % (command, closing, done.returncode, done.stderr))
@@ -116,6 +117,7 @@ def rights(room):
 
 
 def test(room):
+    room.put("a.list", b"close 1\nopen 8 1 2 5\n")
     kinds(room)
     closed(room)
     mute(room)

@@ -86,9 +86,11 @@ class Room:
             return file.read()
 
     def put_others(self):
-        """Adds the further books that diff is tried on."""
+        """Adds the further books that diff is tried on, and the lists that post is."""
         for name, book in work_out.others().items():
             self.put(name, book.image())
+        for name, text in work_out.lists().items():
+            self.put(name, text.encode())
 
     def names(self, folder="."):
         return sorted(os.listdir(os.path.join(self.path, folder)))

@@ -59,12 +59,13 @@ def start():
 
 def short():
     """A change that ends in time is waited for: without a word in the first second, with one after it."""
-    for seconds, said in [(0.3, ""), (1.6, WAITING)]:
+    for seconds, said, words in [(0.3, "", ["open", "held.book", "7", "3", "0", "2"]), (1.6, WAITING, ["post", "held.book", "a.list"])]:
         with tool.Room() as room:
             room.put("held.book", room.empty)
+            room.put("a.list", b"open 7 3 0 2\n")
             with open(room.at("held.book"), "rb") as lock:
                 fcntl.flock(lock, fcntl.LOCK_EX)
-                run = subprocess.Popen([tool.TOOL, "open", "held.book", "7", "3", "0", "2"], stdout=subprocess.PIPE, stderr=subprocess.PIPE, cwd=room.path)
+                run = subprocess.Popen([tool.TOOL, *words], stdout=subprocess.PIPE, stderr=subprocess.PIPE, cwd=room.path)
                 time.sleep(seconds)
                 check(room.get("held.book") == room.empty and run.poll() is None, "a locked book was changed")
             out, err = run.communicate(timeout=20)

@@ -7,6 +7,7 @@ use crate::engine::Engine;
 use crate::files::Held;
 use crate::frame;
 use crate::loaded::{accepted, decode, is_of_book};
+use crate::request::about_id;
 use crate::text::{count, plain};
 use crate::trouble::Trouble;
 use crate::words::Words;
@@ -25,16 +26,17 @@ stream changes.",
 };
 
 /// A route that was closed, and what it gives back.
-fn closed_route(way: &Way) -> String {
+fn closed_route(before: &str, way: &Way) -> String {
     let slots = count(way.repeats(), "slot");
     let hops = count(way.hops(), "hop");
-    let before = if way.is_second() { INDENT } else { "closed " };
+    let before = if way.is_second() { INDENT } else { before };
     describe::route(before, way)
         + &format!("{INDENT}gives back {slots} in a cycle for each of {hops}\n")
 }
 
-fn closed(stream: Stream) -> String {
-    stream.ways.iter().map(closed_route).collect()
+/// A stream that was closed, in its line, with what its routes give back.
+pub fn closed(before: &str, stream: Stream) -> String {
+    stream.ways.iter().map(|way| closed_route(before, way)).collect()
 }
 
 fn run(words: &Words) -> Result<Report, Trouble> {
@@ -42,13 +44,13 @@ fn run(words: &Words) -> Result<Report, Trouble> {
     let mut engine = Engine::start()?;
     let held = Held::open(&words.operands[0])?;
     let answer = engine.ask(frame::close(&held.bytes, id))?;
-    let about = if is_of_book(answer.number) { plain(words.path(0)) } else { format!("id {id}") };
+    let about = if is_of_book(answer.number) { plain(words.path(0)) } else { about_id(id) };
     let bytes = accepted(answer, about)?.bytes;
     let (before, after) = (decode(&held.bytes)?, decode(&bytes)?);
     engine.finish()?;
     let stream = before.stream(id).filter(|_| after.stream(id).is_none());
     let text = stream
-        .map(closed)
+        .map(|stream| closed("closed ", stream))
         .ok_or_else(|| Trouble::Failed("the engine closed another stream".into()))?;
     held.replace(&bytes)?;
     Ok(Report { text, changed: true, ..Report::default() })

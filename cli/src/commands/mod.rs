@@ -8,6 +8,7 @@ mod help;
 mod new;
 mod open;
 mod page;
+mod post;
 mod quote;
 mod replan;
 mod routes;
@@ -48,12 +49,13 @@ pub struct Command {
 }
 
 /// All commands, in the order in which help lists them.
-pub const COMMANDS: [Command; 14] = [
+pub const COMMANDS: [Command; 15] = [
     new::NEW,
     check::CHECK,
     show::SHOW,
     open::OPEN,
     close::CLOSE,
+    post::POST,
     quote::QUOTE,
     routes::ROUTES,
     table::TABLE,

@@ -6,8 +6,7 @@ use crate::engine::Engine;
 use crate::files;
 use crate::frame;
 use crate::loaded::decode;
-use crate::plan::{Fault, Plan};
-use crate::text::plain;
+use crate::plan::Plan;
 use crate::trouble::{Refusal, Trouble};
 use crate::words::Words;
 use std::path::Path;
@@ -32,32 +31,21 @@ The plan has a line for each of these; # starts a comment:
     run,
 };
 
-/// Says what is wrong with a plan, and in which line.
-fn said_of(path: &Path, fault: &Fault) -> String {
-    let (word, called) = files::STANDARD_INPUT;
-    let name = if path == Path::new(word) { called.into() } else { plain(path) };
-    match fault.line {
-        0 => format!("{name}: {}", fault.words),
-        line => format!("{name}, line {line}: {}", fault.words),
-    }
-}
-
 /// A refusal of a plan, with the line that it is about.
 fn refused(path: &Path, plan: &Plan, number: u8) -> Trouble {
     match plan.explain(number) {
-        None => Trouble::refused(number, plain(path)),
-        Some(Fault { line, words }) => {
-            let about = said_of(path, &Fault { line, words: String::new() });
-            let about = about.trim_end_matches([':', ' ']).to_string();
-            Trouble::Refused(Refusal { number, about, words: Some(words) })
+        None => Trouble::refused(number, files::called(path)),
+        Some(fault) => {
+            let about = fault.place(path);
+            Trouble::Refused(Refusal { number, about, words: Some(fault.words) })
         }
     }
 }
 
 /// Reads a plan, and has the engine make the bytes of its book.
 pub fn planned(engine: &mut Engine, path: &Path) -> Result<Vec<u8>, Trouble> {
-    let plan = Plan::read(&files::read_plan(path)?);
-    let plan = plan.map_err(|fault| Trouble::Misused(said_of(path, &fault)))?;
+    let plan = Plan::read(&files::read_text(path, "plan")?);
+    let plan = plan.map_err(|fault| Trouble::Misused(fault.said_of(path)))?;
     let answer = engine.ask(frame::new(&plan.site()))?;
     match answer.number {
         0 => Ok(answer.bytes),

@@ -4,11 +4,12 @@ use super::{Command, Report};
 use crate::describe;
 use crate::engine::Engine;
 use crate::files::Held;
-use crate::frame::{self, Wish};
+use crate::frame;
 use crate::loaded::{accepted, decode, is_of_book, opened};
+use crate::request::{Asked, SECOND};
 use crate::text::plain;
 use crate::trouble::Trouble;
-use crate::words::{Number, Words};
+use crate::words::Words;
 
 pub const OPEN: Command = Command {
     name: "open",
@@ -26,43 +27,6 @@ both or none.",
     example: "lindurask open pond.book 7 4 9 20 second",
     run,
 };
-
-/// The word that asks for a second route.
-const SECOND: &str = "second";
-
-/// What was asked for, as it was typed.
-pub struct Asked {
-    pub id: u16,
-    pub source: Number,
-    pub destination: Number,
-    pub period: Number,
-    pub second: bool,
-}
-
-impl Asked {
-    pub fn wish(&self) -> Wish {
-        Wish {
-            id: self.id,
-            source: self.source.node(),
-            destination: self.destination.node(),
-            period: self.period.period(),
-            second: self.second,
-        }
-    }
-
-    /// What of the wish a refusal is about.
-    pub fn about(&self, number: u8, nodes: u8) -> String {
-        let (from, to) = (self.source.0, self.destination.0);
-        let missing = if u64::from(nodes) <= from { from } else { to };
-        match number {
-            1 | 2 => format!("id {}", self.id),
-            4 => format!("node {missing}"),
-            5 => format!("node {from}"),
-            6 => format!("period {}", self.period.0),
-            _ => format!("from node {from} to node {to}, period {}", self.period.0),
-        }
-    }
-}
 
 /// A second route is asked for, by that word and no other.
 fn second(words: &Words) -> Result<bool, Trouble> {

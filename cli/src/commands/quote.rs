@@ -1,12 +1,12 @@
 //! Says what a stream could get now, for each period; nothing is changed.
 
-use super::open::Asked;
 use super::{Command, Report};
 use crate::book::{Way, PERIODS};
 use crate::describe::{self, INDENT};
 use crate::frame::{self, Answer, Wish};
 use crate::json;
 use crate::loaded::{decode, opened, Loaded};
+use crate::request::Asked;
 use crate::trouble::{meaning, Trouble};
 use crate::words::{Number, Words, JSON};
 

@@ -1,6 +1,6 @@
 -- A set is known by its members, and a walk over them from the lowest on meets each.
 use mathlib.Core.Path.{_≡_, refl, sym, _∙_, subst}
-use mathlib.Core.Logic.{_⊎_, inl, inr}
+use mathlib.Core.Logic.{_⊎_, inl, inr, ⊎-elim}
 use Prim.Native.Nat.{ℕ, zero, suc, _/_, _-_, _%_, _^_, _<_}
 use native.Mathlib.Nat.{pow-suc}
 use native.Mathlib.Decide.{ℕ-discrete, decLt}
@@ -87,3 +87,12 @@ without-less {n} {m} {r} h l s k i j = go (ℕ-discrete r n)
     go : Dec (r ≡ n) → r < n
     go (yes e) = absurd (s .only k (subst (λ (x : ℕ). Has x k) (sym e) i) .1 j)
     go (no e) = omega (arith, set-unique (λ k i. i) (λ k i. i) s (difference-law n m h l), and-le-l n ((2 ^ 64 - 1) - m))
+
+-- the set without a member
+pub removed : (set b : ℕ) {one r : ℕ} → SetOf (λ (k : ℕ). Has 0 k ⊎ (k ≡ b)) one → SetOf (λ (k : ℕ). Has set k × (Has one k → ⊥)) r
+    → SetOf (λ (k : ℕ). Has set k × (k ≡ b → ⊥)) r
+removed set b s d = record {
+  fits = d .fits;
+  only = λ k h. (d .only k h .0, λ e. d .only k h .1 (s .all k (inr e)));
+  all = λ k p. d .all k (p .0, λ h. ⊎-elim (λ z. zero-none k z) (λ e. p .1 e) (s .only k h));
+}

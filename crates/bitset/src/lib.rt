@@ -24,6 +24,14 @@ pub fn insert(set: u64, b: usize) -> u64
     set | (1 << b)
 }
 
+// The set without b.
+pub fn remove(set: u64, b: usize) -> u64
+    requires { ⌜ b < 64 ⌝ }
+    ensures { λ r. ⌜ SetOf (λ (k : ℕ). Has set k × (k ≡ b → ⊥)) r ⌝ }
+{
+    difference(set, insert(0, b))
+}
+
 // What is in one of the two.
 pub fn union(a: u64, b: u64) -> u64
     ensures { λ r. ⌜ SetOf (λ (k : ℕ). Has a k ⊎ Has b k) r ⌝ }

@@ -1,27 +1,28 @@
--- The book without the rows of an id: its image, and that it is the only one.
+-- The book without the rows of an id, and its image.
 use mathlib.Core.Path.{_≡_, refl, sym, ap, _∙_, subst}
 use mathlib.Core.Logic.{⊎-elim}
 use mathlib.Core.List.{List, [], _∷_, _++_}
-use Prim.Native.Nat.{ℕ, _+_, _-_, _<_, _≤_}
+use Prim.Native.Nat.{ℕ, _+_, _-_, _≤_}
 use native.Mathlib.Omega.{arith}
-use lib.ListN.{length, drop, length-append, length-drop}
+use lib.ListN.{length, take, drop, length-append, length-drop}
+use lib.Seq.{take-at}
 use Rattle.rules.specs.Words.{_∈_, Reordered}
 use Rattle.rules.specs.Words.Reordered.{put}
 use Rattle.rules.specs.Book.{Row, Book, RisingByKey, hops, hopsInAll}
-use Rattle.rules.specs.Image.{newest, headerLength, streamsOf, hopsOf, inTurn, encodeRow, encode}
+use Rattle.rules.specs.Image.{newest, headerLength, longestImage, streamsOf, hopsOf, inTurn, encodeRow, encode}
 use Rattle.rules.specs.Calls.{Closed}
-use Rattle.rules.proofs.Choice.{closed-unique}
+use Rattle.rules.specs.Calls.Request.{Close}
+use Rattle.rules.proofs.Lawful.{lawful-length}
 use Rattle.rules.proofs.Lists.{with-less, reordered-same, in-append}
 use Rattle.rules.proofs.Reading.{bookIn, NewestImage, withRows, newest-bytes}
+use Rattle.index.specs.Beside.{Done}
 use Rattle.image.proofs.Stands.{stored-rows}
 use Rattle.writer.specs.Over.{over, headed}
 use Rattle.writer.proofs.Laws.{then, over-front, length-headed}
 use Rattle.writer.proofs.Books.{total-append, length-body, rows-less}
-use Rattle.answers.proofs.Replies.{reply-refused, reply-next, reply-done}
 use Rattle.finding.proofs.Ids.{with-middle}
 use Rattle.closing.specs.declared.Gone.{Gone}
 use Rattle.closing.specs.Gone.{GoneAt}
-use Rattle.closing.specs.Close.{TakesOut}
 
 -- rows taken out of the middle: the others keep their order, and with them they are all
 without : (xs gone ys : List Row) → RisingByKey (xs ++ (gone ++ ys)) → RisingByKey (xs ++ ys)
@@ -32,11 +33,11 @@ put-back : (xs gone ys : List Row) → Reordered (gone ++ (xs ++ ys)) (xs ++ (go
 put-back xs [] ys = reordered-same (xs ++ ys)
 put-back xs (r ∷ gone) ys = put (put-back xs gone ys) (with-middle r xs (gone ++ ys))
 
-module _ {s : List ℕ} {id at : ℕ} {g : Gone} (h : NewestImage s) (t : GoneAt s id at g) where
-  abbrev pub less : Book
+module _ {s : List ℕ} {id at : ℕ} {words : List ℕ} {g : Gone} (h : NewestImage s) (t : GoneAt s id at words g) where
+  abbrev less : Book
   less = withRows (bookIn s) (t .before ++ t .rest)
 
-  pub closed : Closed (bookIn s) id less
+  closed : Closed (bookIn s) id less
   closed = record {
     gone = t .gone;
     of-id = t .of-id;
@@ -48,9 +49,6 @@ module _ {s : List ℕ} {id at : ℕ} {g : Gone} (h : NewestImage s) (t : GoneAt
       rising = h .lawful .lawful .rising;
     };
   }
-
-  pub only : (c : Book) → Closed (bookIn s) id c → c ≡ less
-  only c k = closed-unique (bookIn s) id c less k closed
 
   -- COUNTS
   pub streams-more : length (t .before ++ t .rest) + g .rows ≡ streamsOf s
@@ -88,7 +86,11 @@ module _ {s : List ℕ} {id at : ℕ} {g : Gone} (h : NewestImage s) (t : GoneAt
       omega
       (arith, length-body (bookIn s) (t .before) (t .gone ++ t .rest) (t .all), ap length behind-encode, length-drop at (encode newest (bookIn s)), inside-encode)
 
-  -- THE IMAGE
+  -- THE IMAGE, which is no longer than the longest
+  pub place-fits : (at ≤ longestImage newest) × (at + (length s - g .next) ≤ longestImage newest)
+  place-fits = let l = lawful-length (bookIn s) (h .lawful .lawful) in
+      (omega (arith, t .inside, ap length (newest-bytes h), l), omega (arith, t .inside, t .next, t .fits, ap length (newest-bytes h), l))
+
   module _ (n k : ℕ) (f : n + g .rows ≡ streamsOf s) (e : k + g .hops ≡ hopsOf s) where
     parts : headed s at n k ++ drop (g .next) s ≡ encode newest less
     parts =
@@ -97,23 +99,23 @@ module _ {s : List ℕ} {id at : ℕ} {g : Gone} (h : NewestImage s) (t : GoneAt
         (t .next ∙ ap (λ (v : ℕ). at + length (inTurn (encodeRow v) (t .gone))) (h .version)) (omega (arith, stored-rows (h .lawful) .count, t .count))
         (omega (arith, stored-rows (h .lawful) .hops, t .hops))
 
-    pub length-less : at + (length s - g .next) ≡ length (encode newest less)
+    length-less : at + (length s - g .next) ≡ length (encode newest less)
     length-less =
         omega
         (arith, ap length parts, length-append (headed s at n k) (drop (g .next) s), length-headed s at n k (omega (arith, place-low)) (t .inside), length-drop (g .next) s)
 
-    pub written : (d o₁ o₂ tail : List ℕ) → o₁ ≡ over d 0 (headed s at n k) → tail ≡ drop (g .next) s → o₂ ≡ over o₁ at tail
-        → o₂ ≡ encode newest less ++ drop (length (encode newest less)) d
-    written d o₁ o₂ tail p q r =
-        then d o₁ o₂ (headed s at n k) tail 0 at (omega arith) p (omega (arith, length-headed s at n k (omega (arith, place-low)) (t .inside))) r
-        ∙ ap (λ (x : List ℕ). over d 0 (headed s at n k ++ x)) q ∙ ap (over d 0) parts ∙ over-front d (encode newest less)
-
-    -- THE REPLY
-    pub out-refused : {number len : ℕ} (out : List ℕ) → length out < at + (length s - g .next) → number ≡ 12 → len ≡ 0 → TakesOut s id out number len out
-    out-refused out l a b = reply-refused (less, closed, omega (arith, length-less)) (λ z. omega arith) a b
-
-    pub out-done : {number len : ℕ} (out o₁ o₂ tail : List ℕ) → at + (length s - g .next) ≤ length out → number ≡ 0 → len ≡ at + (length s - g .next)
-        → o₁ ≡ over out 0 (headed s at n k) → tail ≡ drop (g .next) s → o₂ ≡ over o₁ at tail → TakesOut s id out number len o₂
-    out-done out o₁ o₂ tail l a b p q r =
-        reply-next (λ c. omega (arith, c .2, length-less, ap (λ (v : Book). length (encode newest v)) (only (c .0) (c .1))))
-        (reply-done (encode newest less) (less, closed, refl) a (b ∙ length-less) (written out o₁ o₂ tail p q r))
+    -- the image without the rows was written, and the words are its index
+    pub out-done : {len : ℕ} (d o₁ o₂ tail : List ℕ) → len ≡ at + (length s - g .next) → length o₂ ≡ longestImage newest
+        → o₁ ≡ over d 0 (headed s at n k) → tail ≡ drop (g .next) s → o₂ ≡ over o₁ at tail → Done s (Close id) len o₂ words
+    out-done {len} d o₁ o₂ tail e size p q r = record {
+      after = less;
+      made = closed;
+      fits = omega (arith, place-fits);
+      bytes = ap (take len) written ∙ take-at (encode newest less) (drop (length (encode newest less)) d) len (sym length-less ∙ sym e);
+      index = t .index;
+    }
+      where
+        written : o₂ ≡ encode newest less ++ drop (length (encode newest less)) d
+        written =
+            then d o₁ o₂ (headed s at n k) tail 0 at (omega arith) p (omega (arith, length-headed s at n k (omega (arith, place-low)) (t .inside))) r
+            ∙ ap (λ (x : List ℕ). over d 0 (headed s at n k ++ x)) q ∙ ap (over d 0) parts ∙ over-front d (encode newest less)

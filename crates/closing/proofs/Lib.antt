@@ -1,2 +1,3 @@
+pub mod Hops
 pub mod Pairs
 pub mod Less

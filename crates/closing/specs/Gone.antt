@@ -4,13 +4,20 @@ use mathlib.Core.List.{List, _++_}
 use Prim.Native.Nat.{ℕ, _+_, _<_, _≤_}
 use lib.ListN.{length, drop}
 use Rattle.rules.specs.Words.{_∈_}
-use Rattle.rules.specs.Book.{Row, hopsInAll}
-use Rattle.rules.specs.Image.{inTurn, encodeRow, versionOf}
+use Rattle.rules.specs.Book.{Row, hops, hopsInAll}
+use Rattle.rules.specs.Image.{inTurn, encodeRow, versionOf, planOf}
 use Rattle.rules.proofs.Reading.{rowsIn}
+use Rattle.index.specs.Index.{IndexOf}
+use Rattle.index.specs.Marks.{Removes, HopsTake}
+use Rattle.image.specs.Places.{rowAt}
 use Rattle.closing.specs.declared.Gone.{Gone}
 
--- from the place on stand all rows of the id, then those with higher ids; so many of them, with so many hops, up to this place
-pub record GoneAt (s : List ℕ) (id at : ℕ) (g : Gone) : Type 0 where
+-- the hops of the row at the place were taken out of the words
+abbrev pub RowOut : List ℕ → ℕ → List ℕ → List ℕ → Type 0
+RowOut s at before after = Removes (HopsTake (planOf s .slots) (rowAt s at) (hops (rowAt s at))) before after
+
+-- from the place on stand all rows of the id, then those with higher ids; so many of them, with so many hops, up to this place; the words are the index of the others
+pub record GoneAt (s : List ℕ) (id at : ℕ) (words : List ℕ) (g : Gone) : Type 0 where
   pub before : List Row
   pub gone : List Row
   pub rest : List Row
@@ -24,3 +31,4 @@ pub record GoneAt (s : List ℕ) (id at : ℕ) (g : Gone) : Type 0 where
   pub hops : g .hops ≡ hopsInAll gone
   pub next : g .next ≡ at + length (inTurn (encodeRow (versionOf s)) gone)
   pub fits : g .next ≤ length s
+  pub index : IndexOf (planOf s .slots) (before ++ rest) words

@@ -1,13 +1,19 @@
-// Closes a stream on the image of a lawful book in the newest version.
+// Closes a stream on the image of a lawful book in the newest version, and in the index of its rows.
 ghost use mathlib.Core.Path.{_≡_};
-ghost use Prim.Native.Nat.{_<_, _≤_};
-ghost use Rattle.rules.proofs.Reading.{NewestImage};
+ghost use lib.ListN.{length};
+ghost use Rattle.rules.specs.Image.{planOf};
+ghost use Rattle.rules.specs.Calls.Request.{Close};
+ghost use Rattle.rules.proofs.Reading.{LawfulImage};
+ghost use Rattle.index.specs.Index.{indexLength};
+ghost use Rattle.index.specs.Beside.{ImageBeside, Done, Works};
+ghost use Rattle.image.specs.Places.{RowHere};
 ghost use Rattle.finding.specs.Spot.{Taken};
-ghost use Rattle.closing.specs.Gone.{GoneAt};
-ghost use Rattle.closing.specs.Close.{TakesOut, Closes};
+ghost use Rattle.closing.specs.Gone.{RowOut, GoneAt};
 use answers::Answer;
 use finding::Spot;
 use image::Book;
+use rules::Place;
+use rules::Slot;
 
 // The rows of an id: how many, their hops, and the place after them.
 struct Gone {
@@ -16,13 +22,34 @@ struct Gone {
     next: usize,
 }
 
-// The rows of the id, of which the first is at the place: that row, and the next where it has the id too.
-fn rows_of(image: &[u8], id: u16, at: usize) -> Gone
-    requires { ⌜ NewestImage (now image) × Taken (now image) id at ⌝ }
-    ensures { λ r. ⌜ GoneAt (now (image .entry)) id at r ⌝ }
+// Takes the hops of the row at the place out of the index.
+fn unmark_row(image: &[u8], at: usize, slots: Slot, index: &mut [u64; index::WORDS])
+    requires { ⌜ LawfulImage (now image) × RowHere (now image) at × (slots .0 ≡ planOf (now image) .slots) × (length (now index) ≡ indexLength) ⌝ }
+    ensures { λ _. ⌜ RowOut (now (image .entry)) at (now (index .entry)) (now (index .exit)) ⌝ }
+{
+    let Place::At(period) = rules::place_of(image::period_at(image, at)) else {
+        return;
+    };
+    let repeats = index::repeats_of(slots, period);
+    let h = image::hops_at(image, at);
+    let mut i = 0;
+    while i < h {
+        let from = image::node_at(image, at, i);
+        let to = image::node_at(image, at, i + 1);
+        let offset = image::offset_at(image, at, i);
+        index::unmark(index, repeats, offset, from, to);
+        i += 1;
+    }
+}
+
+// Takes the rows of the id out of the index: that at the place, which is the first, and the next where it has the id too.
+fn rows_of(image: &[u8], index: &mut [u64; index::WORDS], id: u16, at: usize, slots: Slot) -> Gone
+    requires { ⌜ ImageBeside (now image) (now index) × Taken (now image) id at × (slots .0 ≡ planOf (now image) .slots) ⌝ }
+    ensures { λ r. ⌜ GoneAt (now (image .entry)) id at (now (index .exit)) r ⌝ }
 {
     let hops = image::hops_at(image, at);
     let next = image::next(image, at);
+    unmark_row(image, at, slots, index);
     if next == image.len() {
         return Gone {
             rows: 1,
@@ -37,6 +64,7 @@ fn rows_of(image: &[u8], id: u16, at: usize) -> Gone
             next,
         };
     }
+    unmark_row(image, next, slots, index);
     Gone {
         rows: 2,
         hops: hops + image::hops_at(image, next),
@@ -44,18 +72,20 @@ fn rows_of(image: &[u8], id: u16, at: usize) -> Gone
     }
 }
 
-// Writes the image without the rows of the id, of which the first is at the place.
-fn take_out(image: &[u8], id: u16, at: usize, out: &mut [u8]) -> Answer
-    requires { ⌜ NewestImage (now image) × Taken (now image) id at ⌝ }
-    ensures { λ r. ⌜ TakesOut (now (image .entry)) id (now (out .entry)) (r .number) (r .length) (now (out .exit)) ⌝ }
+// Writes the image without the rows of the id, of which the first is at the place, and takes them out of the index.
+fn take_out(
+    image: &[u8],
+    index: &mut [u64; index::WORDS],
+    id: u16,
+    at: usize,
+    out: &mut [u8; Book::LONGEST],
+) -> Answer
+    requires { ⌜ ImageBeside (now image) (now index) × Taken (now image) id at ⌝ }
+    ensures { λ r. ⌜ (r .number ≡ 0) × Done (now (image .entry)) (Close id) (r .length) (now (out .exit)) (now (index .exit)) ⌝ }
 {
     let book = Book::read(image);
-    let gone = rows_of(image, id, at);
+    let gone = rows_of(image, index, id, at, book.plan.slots);
     let next = gone.next;
-    let length = at + (image.len() - next);
-    if out.len() < length {
-        return answers::refused(12);
-    }
     writer::put_head(
         image,
         out,
@@ -64,19 +94,24 @@ fn take_out(image: &[u8], id: u16, at: usize, out: &mut [u8]) -> Answer
         (book.hops - gone.hops) as u16,
     );
     writer::put_part(&image[next..], out, at);
-    answers::done(length)
+    answers::done(at + (image.len() - next))
 }
 
 // Closes the stream of the id.
-pub fn close_on(image: &[u8], id: u16, out: &mut [u8]) -> Answer
-    requires { ⌜ NewestImage (now image) ⌝ }
-    ensures { λ r. ⌜ Closes (now (image .entry)) id (now (out .entry)) (r .number) (r .length) (now (out .exit)) ⌝ }
+pub fn close_on(
+    image: &[u8],
+    index: &mut [u64; index::WORDS],
+    id: u16,
+    out: &mut [u8; Book::LONGEST],
+) -> Answer
+    requires { ⌜ ImageBeside (now image) (now index) ⌝ }
+    ensures { λ r. ⌜ Works (now (image .entry)) (Close id) (r .number) (r .length) (now (out .exit)) (now (index .exit)) ⌝ }
 {
     if id == 0 {
         return answers::refused(1);
     }
     match finding::find(image, id) {
         Spot::Between(_) => answers::refused(3),
-        Spot::Here(at) => take_out(image, id, at, out),
+        Spot::Here(at) => take_out(image, index, id, at, out),
     }
 }

@@ -2,6 +2,7 @@
 ghost use mathlib.Core.Path.{_≡_};
 ghost use Prim.Native.Nat.{_+_, _≤_};
 ghost use lib.ListN.{length};
+ghost use Rattle.records.specs.Lengths.{mostRecords};
 ghost use Rattle.frames.specs.Lengths.{headLength, replyLength, mostRoom};
 ghost use Rattle.streams.specs.Streams.{Within};
 use libc::STDOUT_FILENO;
@@ -10,9 +11,9 @@ use streams::Streams;
 // The most frames of a run.
 const FRAMES: u64 = 4_000_000;
 
-// Answers the call of the frame, behind the answers that are held; says how many bytes are held then.
-fn answer(frame: &[u8], answers: &mut [u8], held: usize) -> usize
-    requires { ⌜ (headLength ≤ length (now frame)) × (held ≤ length (now answers)) × (replyLength + mostRoom ≤ length (now answers)) ⌝ }
+// Answers a call that is no posting, behind the answers that are held; says how many bytes are held then.
+fn answer_call(frame: &[u8], answers: &mut [u8], held: usize) -> usize
+    requires { ⌜ (headLength ≤ length (now frame)) × (held ≤ length (now answers)) × (replyLength + mostRoom + mostRecords ≤ length (now answers)) ⌝ }
     ensures { λ r. ⌜ r ≤ length (now (answers .entry)) ⌝ }
 {
     let room = frames::room(frame);
@@ -20,14 +21,42 @@ fn answer(frame: &[u8], answers: &mut [u8], held: usize) -> usize
     let at = start + frames::REPLY;
     let end = at + room;
     frames::fill(frame, &mut answers[at..end]);
-    let reply = frames::call(frame, &mut answers[at..end]);
+    let reply = frames::call(frame, frames::book(frame), &mut answers[at..end]);
     frames::put_reply(&mut answers[start..at], reply);
     end
 }
 
+// Answers a posting as other calls, with its records at the end.
+fn answer_posting(frame: &[u8], answers: &mut [u8], held: usize) -> usize
+    requires { ⌜ (headLength ≤ length (now frame)) × (held ≤ length (now answers)) × (replyLength + mostRoom + mostRecords ≤ length (now answers)) ⌝ }
+    ensures { λ r. ⌜ r ≤ length (now (answers .entry)) ⌝ }
+{
+    let room = frames::room(frame);
+    let list = frames::list(frame);
+    let start = streams::make_room(answers, held, frames::REPLY + room + list.len());
+    let at = start + frames::REPLY;
+    let end = at + room;
+    let last = end + list.len();
+    frames::fill(frame, &mut answers[at..end]);
+    let answer = records::post(frames::book(frame), list, room, &mut answers[at..last]);
+    frames::put_reply(&mut answers[start..at], frames::answered(answer));
+    last
+}
+
+// Answers the call of the frame.
+fn answer(frame: &[u8], answers: &mut [u8], held: usize) -> usize
+    requires { ⌜ (headLength ≤ length (now frame)) × (held ≤ length (now answers)) × (replyLength + mostRoom + mostRecords ≤ length (now answers)) ⌝ }
+    ensures { λ r. ⌜ r ≤ length (now (answers .entry)) ⌝ }
+{
+    if frame[0] == frames::POST {
+        return answer_posting(frame, answers, held);
+    }
+    answer_call(frame, answers, held)
+}
+
 // Reads and answers one call.
 fn turn(input: &mut [u8], answers: &mut [u8], s: Streams) -> Streams
-    requires { ⌜ Within (now input) (now answers) s × (replyLength + mostRoom ≤ length (now answers)) ⌝ }
+    requires { ⌜ Within (now input) (now answers) s × (replyLength + mostRoom + mostRecords ≤ length (now answers)) ⌝ }
     ensures { λ r. ⌜ Within (now (input .entry)) (now (answers .entry)) r ⌝ }
 {
     let head = streams::supply(input, answers, s, frames::HEAD);
@@ -58,7 +87,7 @@ fn turn(input: &mut [u8], answers: &mut [u8], s: Streams) -> Streams
 
 // Answers all calls; says how many bytes of answers are still to be written.
 fn serve(input: &mut [u8], answers: &mut [u8]) -> usize
-    requires { ⌜ replyLength + mostRoom ≤ length (now answers) ⌝ }
+    requires { ⌜ replyLength + mostRoom + mostRecords ≤ length (now answers) ⌝ }
     ensures { λ r. ⌜ r ≤ length (now (answers .entry)) ⌝ }
 {
     let mut streams = streams::first();

@@ -1,6 +1,7 @@
 // A framed call: what its header says, the call itself, and the head of its answer.
 ghost use Prim.Native.Nat.{_+_, _≤_};
 ghost use lib.ListN.{length};
+ghost use Rattle.records.specs.Lengths.{mostRecords};
 ghost use Rattle.frames.specs.Lengths.{headLength, replyLength, mostRoom};
 use answers::Answer;
 use rules::Asked;
@@ -15,8 +16,8 @@ pub const HEAD: usize = 44;
 // Bytes of an answer before its output buffer.
 pub const REPLY: usize = 13;
 
-// The highest number of a call; any other ends the stream.
-const LAST_CALL: u8 = 7;
+// The call that posts a list of requests, which is the highest number of a call; any higher ends the stream.
+pub const POST: u8 = 8;
 
 // The longest book.
 const MOST_BYTES: usize = 4096;
@@ -58,14 +59,51 @@ pub fn room(frame: &[u8]) -> usize
 pub fn size(frame: &[u8]) -> usize
     requires { ⌜ headLength ≤ length (now frame) ⌝ }
 {
-    if LAST_CALL < frame[0] {
+    if POST < frame[0] {
         return 0;
     }
     let bytes = long(image::word_at(frame, 14));
     if MOST_BYTES < bytes {
         return 0;
     }
-    HEAD + bytes
+    let list = long(image::word_at(frame, 40));
+    if records::MOST < list {
+        return 0;
+    }
+    if list % records::RECORD != 0 {
+        return 0;
+    }
+    HEAD + bytes + list
+}
+
+// Where the book or the topology of a call ends.
+fn book_end(frame: &[u8]) -> usize
+    requires { ⌜ headLength ≤ length (now frame) ⌝ }
+    ensures { λ r. ⌜ (headLength ≤ r) × (r ≤ length (now (frame .entry))) ⌝ }
+{
+    let end = HEAD + long(image::word_at(frame, 14));
+    if frame.len() < end { frame.len() } else { end }
+}
+
+// The book or the topology of a call.
+pub fn book(frame: &[u8]) -> &[u8]
+    requires { ⌜ headLength ≤ length (now frame) ⌝ }
+{
+    let end = book_end(frame);
+    &frame[HEAD..end]
+}
+
+// The records of a posting, which stand behind its book.
+pub fn list(frame: &[u8]) -> &[u8]
+    requires { ⌜ headLength ≤ length (now frame) ⌝ }
+    ensures { λ r. ⌜ length (now r) ≤ mostRecords ⌝ }
+{
+    let start = book_end(frame);
+    let end = start + records::MOST;
+    if frame.len() < end {
+        return &frame[start..];
+    }
+    &frame[start..end]
 }
 
 // Fills the output buffer before the call.
@@ -81,7 +119,7 @@ pub fn fill(frame: &[u8], out: &mut [u8])
 }
 
 // A number and a length as a reply.
-fn answered(answer: Answer) -> Reply {
+pub fn answered(answer: Answer) -> Reply {
     Reply {
         number: answer.number,
         first: answer.length,
@@ -91,7 +129,7 @@ fn answered(answer: Answer) -> Reply {
 }
 
 // Makes a new book.
-fn new_book(frame: &[u8], out: &mut [u8]) -> Reply
+fn new_book(frame: &[u8], topology: &[u8], out: &mut [u8]) -> Reply
     requires { ⌜ headLength ≤ length (now frame) ⌝ }
 {
     let plan = Plan {
@@ -101,11 +139,11 @@ fn new_book(frame: &[u8], out: &mut [u8]) -> Reply
         down: Slot(wide(frame[11])),
         up: Slot(wide(frame[12])),
     };
-    answered(planner::new_book(plan, frame[13], &frame[HEAD..], out))
+    answered(planner::new_book(plan, frame[13], topology, out))
 }
 
 // Opens a stream.
-fn open_stream(frame: &[u8], out: &mut [u8]) -> Reply
+fn open_stream(frame: &[u8], book: &[u8], out: &mut [u8]) -> Reply
     requires { ⌜ headLength ≤ length (now frame) ⌝ }
 {
     let asked = Asked {
@@ -115,14 +153,14 @@ fn open_stream(frame: &[u8], out: &mut [u8]) -> Reply
         period: Tile(image::word_at(frame, 5)),
         second: frame[19] != 0,
     };
-    answered(planner::open_stream(&frame[HEAD..], asked, out))
+    answered(planner::open_stream(book, asked, out))
 }
 
 // Gives a node's balance.
-fn balance(frame: &[u8]) -> Reply
+fn balance(frame: &[u8], book: &[u8]) -> Reply
     requires { ⌜ headLength ≤ length (now frame) ⌝ }
 {
-    let balance = planner::balance_of(&frame[HEAD..], Node(frame[3]));
+    let balance = planner::balance_of(book, Node(frame[3]));
     Reply {
         number: balance.number,
         first: balance.data as usize,
@@ -132,10 +170,10 @@ fn balance(frame: &[u8]) -> Reply
 }
 
 // Lists the routes between two nodes.
-fn routes_between(frame: &[u8], out: &mut [u8]) -> Reply
+fn routes_between(frame: &[u8], book: &[u8], out: &mut [u8]) -> Reply
     requires { ⌜ headLength ≤ length (now frame) ⌝ }
 {
-    let list = planner::routes_between(&frame[HEAD..], Node(frame[3]), Node(frame[4]), out);
+    let list = planner::routes_between(book, Node(frame[3]), Node(frame[4]), out);
     Reply {
         number: list.number,
         first: list.length,
@@ -144,20 +182,20 @@ fn routes_between(frame: &[u8], out: &mut [u8]) -> Reply
     }
 }
 
-// Makes the call.
-pub fn call(frame: &[u8], out: &mut [u8]) -> Reply
+// Makes a call that is no posting, with its book or its topology.
+pub fn call(frame: &[u8], book: &[u8], out: &mut [u8]) -> Reply
     requires { ⌜ headLength ≤ length (now frame) ⌝ }
 {
     let call = frame[0];
     match call {
-        0 => new_book(frame, out),
-        1 => answered(planner::check(&frame[HEAD..])),
-        2 => answered(planner::rewrite(&frame[HEAD..], out)),
-        3 => open_stream(frame, out),
-        4 => answered(planner::close_stream(&frame[HEAD..], image::word_at(frame, 1), out)),
-        5 => answered(planner::expand(&frame[HEAD..], Node(frame[3]), out)),
-        7 => routes_between(frame, out),
-        _ => balance(frame),
+        0 => new_book(frame, book, out),
+        1 => answered(planner::check(book)),
+        2 => answered(planner::rewrite(book, out)),
+        3 => open_stream(frame, book, out),
+        4 => answered(planner::close_stream(book, image::word_at(frame, 1), out)),
+        5 => answered(planner::expand(book, Node(frame[3]), out)),
+        7 => routes_between(frame, book, out),
+        _ => balance(frame, book),
     }
 }
 

@@ -55,16 +55,16 @@ module _ (t : List ℕ) (slot : ℕ) (h : Hop) (v w : ℕ) (inside : 2 * slot + 
   abbrev pub after : List ℕ
   after = set (set t (2 * slot) v) (2 * slot + 1) w
 
-  abbrev the-word : End → ℕ
+  abbrev pub the-word : End → ℕ
   the-word sender = v
   the-word receiver = w
 
-  here : (end : End) → getD after (wordAt end slot) 0 ≡ the-word end
+  pub here : (end : End) → getD after (wordAt end slot) 0 ≡ the-word end
   here sender =
       getD-set-other (set t (2 * slot) v) (2 * slot + 1) (2 * slot) w 0 (λ e. omega arith) ∙ getD-set-same t (2 * slot) v 0 (omega arith)
   here receiver = getD-set-same (set t (2 * slot) v) (2 * slot + 1) w 0 (omega (arith, length-set t (2 * slot) v))
 
-  elsewhere : (end : End) (s : ℕ) → (s ≡ slot → ⊥) → getD after (wordAt end s) 0 ≡ getD t (wordAt end s) 0
+  pub elsewhere : (end : End) (s : ℕ) → (s ≡ slot → ⊥) → getD after (wordAt end s) 0 ≡ getD t (wordAt end s) 0
   elsewhere sender s f =
       getD-set-other (set t (2 * slot) v) (2 * slot + 1) (2 * s) w 0 (λ e. omega arith) ∙ getD-set-other t (2 * slot) (2 * s) v 0 (λ e. f (omega arith))
   elsewhere receiver s f =

@@ -3,3 +3,5 @@ pub mod Turns
 pub mod Seeing
 pub mod Rows
 pub mod Meets
+pub mod Removing
+pub mod Apart

@@ -1,3 +1,4 @@
 pub mod Index
 pub mod Turns
 pub mod Marks
+pub mod Beside

@@ -23,6 +23,13 @@ pub record Adds (P : End → ℕ → ℕ → Type 0) (before after : List ℕ) :
   pub kept : (end : End) (slot node : ℕ) → AtWork before end slot node → AtWork after end slot node
   pub all : (end : End) (slot node : ℕ) → P end slot node → AtWork after end slot node
 
+-- the sets have the nodes that they had before, without those with P
+pub record Removes (P : End → ℕ → ℕ → Type 0) (before after : List ℕ) : Type 0 where
+  pub size : length after ≡ length before
+  pub fits : (end : End) (slot : ℕ) → NoBitFrom 64 (getD before (wordAt end slot) 0) → NoBitFrom 64 (getD after (wordAt end slot) 0)
+  pub only : (end : End) (slot node : ℕ) → AtWork after end slot node → AtWork before end slot node × (P end slot node → ⊥)
+  pub all : (end : End) (slot node : ℕ) → AtWork before end slot node → (P end slot node → ⊥) → AtWork after end slot node
+
 -- one of the row's first n hops takes the slot, with the node at this end
 pub record HopsTake (S : ℕ) (r : Row) (n : ℕ) (end : End) (slot node : ℕ) : Type 0 where
   pub hop : ℕ

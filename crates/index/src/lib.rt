@@ -1,15 +1,15 @@
 // The index of slots: for each slot of the first 100 tiles the set of nodes that send there, and of those that receive.
 ghost use mathlib.Core.Path.{_≡_};
-ghost use Prim.Native.Nat.{_<_, _≤_};
+ghost use Prim.Native.Nat.{ℕ, _<_, _≤_};
 ghost use lib.ListN.{length};
 ghost use Rattle.rules.specs.Words.{Tests};
 ghost use Rattle.rules.specs.Tiles.{periodAt};
 ghost use Rattle.rules.specs.Periods.{InList};
 ghost use Rattle.bitset.specs.Sets.{SetOf};
-ghost use Rattle.clash.specs.Reach.{hop};
+ghost use Rattle.clash.specs.Reach.{End, nodeAt, hop};
 ghost use Rattle.index.specs.Index.{indexLength};
-ghost use Rattle.index.specs.Turns.{RepeatsOf, InIndex};
-ghost use Rattle.index.specs.Marks.{Common, Marks, InReach, Finds};
+ghost use Rattle.index.specs.Turns.{RepeatsOf, TakesIn, InIndex};
+ghost use Rattle.index.specs.Marks.{Removes, Common, Marks, InReach, Finds};
 use clash::Reach;
 use rules::Node;
 use rules::Slot;
@@ -96,4 +96,26 @@ pub fn finds(index: &[u64; WORDS], repeats: Repeats, offset: Slot, reach: Reach)
         turn += 1;
     }
     false
+}
+
+// Takes the ends of a marked hop out of every slot that it takes.
+pub fn unmark(index: &mut [u64; WORDS], repeats: Repeats, offset: Slot, from: Node, to: Node)
+    requires { ⌜ (length (now index) ≡ indexLength) × InIndex repeats (offset .0) × (from .0 < 64) × (to .0 < 64) ⌝ }
+    ensures { λ _. ⌜ Removes (λ (end : End) (slot node : ℕ). TakesIn repeats (offset .0) slot × (node ≡ nodeAt end (hop from to))) (now (index .entry)) (now (index .exit)) ⌝ }
+{
+    let span = repeats.span.0 as usize;
+    let turns = repeats.turns;
+    let i = from.0 as usize;
+    let j = to.0 as usize;
+    let mut slot = offset.0 as usize;
+    let mut turn = 0;
+    while turn < turns {
+        let at = 2 * slot;
+        let senders = index[at];
+        let receivers = index[at + 1];
+        index[at] = bitset::remove(senders, i);
+        index[at + 1] = bitset::remove(receivers, j);
+        slot += span;
+        turn += 1;
+    }
 }

@@ -4,26 +4,26 @@ use mathlib.Core.Logic.{_⊎_, inl, inr, ⊎-elim}
 use mathlib.Core.Bool.{Bool, true, false, cond, _&&_}
 use mathlib.Core.List.{List, [], _∷_}
 use mathlib.Core.Option.{Option, some, none}
-use Prim.Native.Nat.{ℕ, suc, _+_, _<_, _≤_}
+use Prim.Native.Nat.{ℕ, zero, suc, _+_, _<_, _≤_}
 use native.Mathlib.Omega.{arith}
-use lib.Dec.{ltb}
 use lib.ListN.{length}
 use Rattle.rules.specs.Words.{_∈_, Pairwise, total, Tests}
 use Rattle.rules.specs.Says.{Says}
 use Rattle.rules.specs.Tiles.{periods}
 use Rattle.rules.specs.Topology.{Topology, nodes, SoundTopology, Route, NoRoute, TooFar, hopCount, SecondPath, SecondRoute}
-use Rattle.rules.specs.Book.{Row, Book, key, LawfulBook, Known, hopsInAll, mostStreams, mostHops}
+use Rattle.rules.specs.Book.{Site, Row, Book, key, RisingByKey, LawfulBook, Known, hopsInAll, mostStreams, mostHops}
 use Rattle.rules.specs.Placing.{FirstPlacing, NoPlacing, Asked, Planned, NoSecond, Full, beside, NewRows, NoPlacings}
 use Rattle.rules.specs.Placing.Planned.{one, two}
-use Rattle.rules.specs.Image.{newest, encode}
-use Rattle.rules.specs.Calls.{OfRoutes, Opened, Closed, Request, Made, NoRoom, openRefusals, requestRefusals}
+use Rattle.rules.specs.Calls.{OfRoutes, Opened, Closed, Request, Made, openRefusals, requestRefusals, Work, InOrder}
 use Rattle.rules.specs.Calls.Request.{Open, Close}
 use Rattle.rules.proofs.Tests.{never, alike, tests-and, tests-or, tests-not, tests-eq, tests-le, tests-lt}
 use Rattle.rules.proofs.Says.{None, says-none}
-use Rattle.rules.proofs.Choice.{best-unique, planned-unique, new-unique, made-unique}
+use Rattle.rules.proofs.Lists.{reordered-in, reordered-back, in-append, in-right}
+use Rattle.rules.proofs.Choice.{best-unique, planned-unique, new-unique}
 use Rattle.rules.proofs.Reading.{withRows}
 use Rattle.model.specs.Search.{linksOf, routeOf, secondOf, placingOf, andThen}
-use Rattle.model.specs.Answer.{passes, isNone, insertAll, remove, routesOf, noSecond, rowOn, newRows, rowsAdded, isFull, made, noRoom, requestTests, requestNumber}
+use Rattle.model.specs.Answer.{passes, isNone, orGiven, insertAll, remove, routesOf, noSecond, rowOn, newRows, isFull, made, requestTests, requestNumber, whenDone}
+use Rattle.model.specs.Answer.{bookAfter, answersOf, lastBook}
 use Rattle.model.proofs.Tests.{tests-in, tests-known}
 use Rattle.model.proofs.Searches.{Found}
 use Rattle.model.proofs.Placings.{placing-found}
@@ -155,15 +155,17 @@ planned-most : {T : Topology} {middle : ℕ} {q : Asked} {ps : List (List ℕ)} 
 planned-most (one n g) = omega arith
 planned-most (two y g h) = omega arith
 
+-- what requests need of a book, and leave
+pub record Workable (b : Book) : Type 0 where
+  pub links-sound : SoundTopology (b .site .links)
+  pub rising : RisingByKey (b .rows)
+  pub ways : (r : Row) → r ∈ b .rows → r .way ≤ 2
+
+pub workable : {b : Book} → LawfulBook b → Workable b
+workable w = record { links-sound = w .site .topologies .links-sound; rising = w .rising; ways = λ r m. w .rows r m .way-most }
+
 -- A REQUEST ON A BOOK
-module _ (middle : ℕ) (b : Book) (w : LawfulBook b) where
-  sound : SoundTopology (b .site .links)
-  sound = w .site .topologies .links-sound
-
-  abbrev Fresh : Request → Type 0
-  Fresh (Open q) = Known b (q .id) → ⊥
-  Fresh (Close id) = Unit {0}
-
+module _ (middle : ℕ) (b : Book) (w : Workable b) where
   opened : (q : Asked) (new : List Row) → (Known b (q .id) → ⊥) → OfRoutes middle q b (λ (ps : List (List ℕ)). NewRows b q 1 ps new)
       → Opened middle b q (withRows b (insertAll new (b .rows)))
   opened q new fresh h = record {
@@ -181,7 +183,7 @@ module _ (middle : ℕ) (b : Book) (w : LawfulBook b) where
       same : (r x : Row) → r ∈ new → x ∈ b .rows → key x ≡ key r → x .id ≡ q .id
       same r x m k e =
           let g = new-ways q b 1 (h .0) new (h .2) r m in
-          omega (arith, g .0, g .2, planned-most (h .1), w .rows x k .way-most)
+          omega (arith, g .0, g .2, planned-most (h .1), w .ways x k)
 
   closed : (id : ℕ) → Closed b id (withRows b (remove id (b .rows)))
   closed id = record {
@@ -192,49 +194,19 @@ module _ (middle : ℕ) (b : Book) (w : LawfulBook b) where
     plus = record { site = refl; rows = remove-all id (b .rows); rising = w .rising };
   }
 
-  abbrev Added : Asked → List Row → Type 0
-  Added q new = OfRoutes middle q b (λ (ps : List (List ℕ)). NewRows b q 1 ps new)
-
-  pub added-found : (q : Asked) → Found (Added q) ((new : List Row) → Added q new → ⊥) (rowsAdded middle b q)
-  added-found q = go (routesOf (b .site .links) middle q) (routes-found (b .site .links) middle q sound)
-    where
-      on : (ps : List (List ℕ)) → Planned (b .site .links) middle q ps → (o : Option (List Row)) → Found (NewRows b q 1 ps) (NoPlacings b q 1 ps) o
-          → Found (Added q) ((new : List Row) → Added q new → ⊥) o
-      on ps g none f = λ new h. rows-or-none q b 1 ps new (subst (λ (x : List (List ℕ)). NewRows b q 1 x new) (planned-unique (h .1) g) (h .2)) f
-      on ps g (some new) f = (ps, g, f)
-
-      go : (o : Option (List (List ℕ))) → Found (Planned (b .site .links) middle q) (NotPlanned (b .site .links) middle q) o
-          → Found (Added q) ((new : List Row) → Added q new → ⊥) (andThen o (newRows b q 1))
-      go none n = λ new h. planned-route (b .site .links) middle q (h .1) n
-      go (some ps) g = on ps g (newRows b q 1 ps) (rows-found q b 1 ps)
-
-  pub made-found : (q : Request) → Fresh q → Found (Made middle b q) ((c : Book) → Made middle b q c → ⊥) (made middle b q)
-  made-found (Close id) f = closed id
-  made-found (Open q) f = go (rowsAdded middle b q) (added-found q)
-    where
-      go : (o : Option (List Row)) → Found (Added q) ((new : List Row) → Added q new → ⊥) o
-          → Found (Opened middle b q) ((c : Book) → Opened middle b q c → ⊥) (andThen o (λ (new : List Row). some (withRows b (insertAll new (b .rows)))))
-      go none n = λ c h. n (h .new) (h .routes, h .planned, h .placed)
-      go (some new) h = opened q new f h
-
   -- TESTS
   module _ (q : Asked) (Q : List (List ℕ) → Type 0) (f : List (List ℕ) → Bool) (h : (ps : List (List ℕ)) → Tests (f ps) (Q ps)) where
     routes-tests : Tests (passes f (routesOf (b .site .links) middle q)) (OfRoutes middle q b Q)
     routes-tests =
         tests-passes (λ ps g n. planned-route (b .site .links) middle q g n) (λ ps qs g k. planned-unique g k) Q f (λ ps g. h ps)
-        (routesOf (b .site .links) middle q) (routes-found (b .site .links) middle q sound)
-
-  room-tests : (room : ℕ) (q : Request) → Fresh q → Tests (noRoom middle room q b) (NoRoom middle room q b)
-  room-tests room q f =
-      tests-passes (λ c m n. n c m) (made-unique middle b q) (λ (c : Book). room < length (encode newest c)) (λ (c : Book). ltb room (length (encode newest c)))
-      (λ c m. tests-lt room (length (encode newest c))) (made middle b q) (made-found q f)
+        (routesOf (b .site .links) middle q) (routes-found (b .site .links) middle q (w .links-sound))
 
   full-tests : (ps : List (List ℕ)) → Tests (isFull b ps) (Full b ps)
   full-tests ps = tests-or (tests-lt mostStreams (length (b .rows) + length ps)) (tests-lt mostHops (hopsInAll (b .rows) + total hopCount ps))
 
-  pub request-agrees : (room : ℕ) (q : Request) → Agree (requestTests middle q room b) (requestRefusals middle q room b)
-  request-agrees room (Close id) = (refl, tests-eq id 0, λ n1. (refl, tests-not (tests-known b id), λ n3. (refl, room-tests room (Close id) tt, λ n12. tt)))
-  request-agrees room (Open q) = (
+  request-agrees : (q : Request) → Agree (requestTests middle b q) (requestRefusals middle b q)
+  request-agrees (Close id) = (refl, tests-eq id 0, λ n1. (refl, tests-not (tests-known b id), λ n3. tt))
+  request-agrees (Open q) = (
     refl,
     tests-eq (q .id) 0,
     λ n1. (
@@ -257,7 +229,7 @@ module _ (middle : ℕ) (b : Book) (w : LawfulBook b) where
                 tests-too-far (b .site .links) middle (q .source) (q .destination) n7,
                 λ n17. (
                   refl,
-                  tests-no-second (b .site .links) middle q sound,
+                  tests-no-second (b .site .links) middle q (w .links-sound),
                   λ n18. (
                     refl,
                     routes-tests q (Full b) (isFull b) full-tests,
@@ -266,7 +238,7 @@ module _ (middle : ℕ) (b : Book) (w : LawfulBook b) where
                       routes-tests q (NoPlacings b q 1) (λ ps. isNone (newRows b q 1 ps))
                           (λ ps. tests-none (λ rs g n. rows-or-none q b 1 ps rs g n) (newRows b q 1 ps) (rows-found q b 1 ps)),
                       λ n9.
-                          (refl, room-tests room (Open q) n2, λ n12. tt),
+                          tt,
                     ),
                   ),
                 ),
@@ -278,20 +250,20 @@ module _ (middle : ℕ) (b : Book) (w : LawfulBook b) where
     ),
   )
 
-  pub request-says : (room : ℕ) (q : Request) → Says (requestRefusals middle q room b) (requestNumber middle q room b)
-  request-says room q = first-says (requestTests middle q room b) (requestRefusals middle q room b) (request-agrees room q)
+  pub request-says : (q : Request) → Says (requestRefusals middle b q) (requestNumber middle b q)
+  request-says q = first-says (requestTests middle b q) (requestRefusals middle b q) (request-agrees q)
 
   -- of these new rows comes a book, and it is what the open makes
   abbrev Done : Asked → Option (List Row) → Type 0
   Done q o = (c : Book) × (andThen o (λ (new : List Row). some (withRows b (insertAll new (b .rows)))) ≡ some c) × Opened middle b q c
 
   -- where no refusal applies it makes a book, and that is the one computed
-  pub request-done : (room : ℕ) (q : Request) → requestNumber middle q room b ≡ 0 → (c : Book) × (made middle b q ≡ some c) × Made middle b q c
-  request-done room (Close id) e = (_, refl, closed id)
-  request-done room (Open q) e = go (routesOf (b .site .links) middle q) (routes-found (b .site .links) middle q sound)
+  request-done : (q : Request) → requestNumber middle b q ≡ 0 → (c : Book) × (made middle b q ≡ some c) × Made middle b q c
+  request-done (Close id) e = (_, refl, closed id)
+  request-done (Open q) e = go (routesOf (b .site .links) middle q) (routes-found (b .site .links) middle q (w .links-sound))
     where
-      n : None (openRefusals middle q room b)
-      n = says-none (openRefusals middle q room b) (omega arith) (subst (Says (openRefusals middle q room b)) e (request-says room (Open q)))
+      n : None (openRefusals middle q b)
+      n = says-none (openRefusals middle q b) (omega arith) (subst (Says (openRefusals middle q b)) e (request-says (Open q)))
 
       on : (ps : List (List ℕ)) → Planned (b .site .links) middle q ps → (o : Option (List Row)) → Found (NewRows b q 1 ps) (NoPlacings b q 1 ps) o → Done q o
       on ps g none f = absurd (n .1 .1 .1 .1 .1 .1 .1 .1 .1 .0 (ps, g, f))
@@ -303,3 +275,42 @@ module _ (middle : ℕ) (b : Book) (w : LawfulBook b) where
       go none (inl (inr g)) = absurd (n .1 .1 .1 .1 .1 .0 g)
       go none (inr g) = absurd (n .1 .1 .1 .1 .1 .1 .1 .0 g)
       go (some ps) g = on ps g (newRows b q 1 ps) (rows-found q b 1 ps)
+
+  -- its answer, and the book after it
+  pub work-computed : (q : Request) → Work middle b q (requestNumber middle b q) (bookAfter middle b q)
+  work-computed q = go (requestNumber middle b q) (request-says q) (request-done q)
+    where
+      go : (n : ℕ) → Says (requestRefusals middle b q) n → (n ≡ 0 → (c : Book) × (made middle b q ≡ some c) × Made middle b q c)
+          → Work middle b q n (whenDone n (orGiven (made middle b q) b) b)
+      go zero s d = record {
+        says = s;
+        refused = λ f. absurd (f refl);
+        done = λ e. let (c, is, m) = d refl in subst (Made middle b q) (sym (ap (λ (o : Option Book). orGiven o b) is)) m;
+      }
+      go (suc n) s d = record { says = s; refused = λ f. refl; done = λ e. absurd (omega arith) }
+
+  made-workable : (q : Request) (c : Book) → Made middle b q c → Workable c
+  made-workable (Close id) c m = record {
+    links-sound = subst (λ (site : Site). SoundTopology (site .links)) (m .plus .site) (w .links-sound);
+    rising = m .rising;
+    ways = λ r k. w .ways r (reordered-back r (m .plus .rows) (in-right r (m .gone) (c .rows) k));
+  }
+  made-workable (Open q) c m = record {
+    links-sound = subst (λ (site : Site). SoundTopology (site .links)) (sym (m .plus .site)) (w .links-sound);
+    rising = m .plus .rising;
+    ways = λ r k. ⊎-elim (λ (n : r ∈ m .new). new-way r n) (w .ways r) (in-append r (m .new) (b .rows) (reordered-in r (m .plus .rows) k));
+  }
+    where
+      new-way : (r : Row) → r ∈ m .new → r .way ≤ 2
+      new-way r n = omega (arith, new-ways q b 1 (m .routes) (m .new) (m .placed) r n .2, planned-most (m .planned))
+
+  work-workable : (q : Request) (n : ℕ) (c : Book) → Work middle b q n c → Workable c
+  work-workable q zero c h = made-workable q c (h .done refl)
+  work-workable q (suc n) c h = subst Workable (sym (h .refused (λ e. omega arith))) w
+
+-- A LIST OF REQUESTS
+pub in-order-computed : (middle : ℕ) (b : Book) → Workable b → (qs : List Request) → InOrder (Work middle) b qs (answersOf middle b qs) (lastBook middle b qs)
+in-order-computed middle b w [] = refl
+in-order-computed middle b w (q ∷ qs) =
+    let h = work-computed middle b w q in
+    (bookAfter middle b q, h, in-order-computed middle (bookAfter middle b q) (work-workable middle b w q (requestNumber middle b q) (bookAfter middle b q) h) qs)

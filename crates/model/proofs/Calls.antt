@@ -1,35 +1,36 @@
 -- What is computed meets every call's contract: each contract has a result, on every input.
-use mathlib.Core.Path.{_≡_, refl, sym, ap, subst}
+use mathlib.Core.Path.{_≡_, refl, sym, subst}
 use mathlib.Core.Logic.{inl, inr, _↔_}
-use mathlib.Core.Bool.{_&&_}
-use mathlib.Core.List.{List, []}
-use mathlib.Core.Option.{Option}
+use mathlib.Core.Bool.{Bool, true, false, cond, _&&_}
+use mathlib.Core.List.{List, [], _∷_}
 use Prim.Native.Nat.{ℕ, zero, suc, _*_}
 use native.Mathlib.Omega.{arith}
 use lib.Dec.{eqb}
-use lib.ListN.{length}
-use Rattle.rules.specs.Words.{Tests}
+use lib.ListN.{length, getD}
+use Rattle.rules.specs.Words.{_∈_, Tests}
 use Rattle.rules.specs.Says.{Refusal, Says}
 use Rattle.rules.specs.Tiles.{Plan, PlanInRange}
 use Rattle.rules.specs.Topology.{nodes, NodesInRange}
 use Rattle.rules.specs.Book.{Book}
-use Rattle.rules.specs.Image.{newest, encode, topologyAt, versionOf, imageRefusals, Stored}
+use Rattle.rules.specs.Image.{newest, longestImage, encode, topologyAt, versionOf, imageRefusals, Stored}
 use Rattle.rules.specs.Table.{tableLength, used, BalanceOf}
 use Rattle.rules.specs.Calls.{Wrote, Unchanged, Reply, SaysOf, CallOf, ReplyOf, TopologiesGiven, newBook, newRefusals, checkRefusals, rewriteRefusals}
-use Rattle.rules.specs.Calls.{Request, anyMiddle, MadeImage, requestRefusals, expandRefusals, balanceRefusals}
-use Rattle.rules.specs.Calls.{New, Check, Rewrite, Serve, Expand, Balance}
-use Rattle.rules.proofs.Tests.{alike, tests-and, tests-not, tests-eq, tests-le, tests-lt}
+use Rattle.rules.specs.Calls.{Request, anyMiddle, Work, InOrder, mostRequests, postRefusals, Posted, expandRefusals, balanceRefusals}
+use Rattle.rules.specs.Calls.{New, Check, Rewrite, Post, Serve, Expand, Balance}
+use Rattle.rules.proofs.Tests.{never, alike, tests-and, tests-not, tests-eq, tests-le, tests-lt}
 use Rattle.rules.proofs.Says.{None, says-none, says-unique}
 use Rattle.rules.proofs.Encoding.{stored-says}
 use Rattle.rules.proofs.Written.{Bytes, length-sets-at}
 use Rattle.rules.proofs.Reading.{bookIn, LawfulImage}
-use Rattle.model.specs.Answer.{Tested, firstNumber, orGiven}
+use Rattle.model.specs.Answer.{Tested, firstNumber, whenDone, lastBook}
 use Rattle.model.specs.Table.{tableOf, dataCount, freeCount}
 use Rattle.model.specs.Reading.{areSound, imageNumber}
-use Rattle.model.specs.Calls.{whenDone, writes, numberOf, replies, newTests, new, rewriteTests, rewrite, serveTests, served, serve, expandTests, expand}
+use Rattle.model.specs.Calls.{Output, put, kept, writes, numberOf, replies, newTests, new, rewriteTests, rewrite, expandTests, expand}
+use Rattle.model.specs.Calls.{postTests, postNumber, answersOn, imageAfter, someDone, postOutput, post, postOne, serve}
 use Rattle.model.specs.Calls.{balanceTests, balanceNumber, balance}
 use Rattle.model.proofs.Firsts.{Agree, first-says}
-use Rattle.model.proofs.Answers.{request-agrees, request-done}
+use Rattle.model.proofs.Tests.{tests-in}
+use Rattle.model.proofs.Answers.{workable, in-order-computed}
 use Rattle.model.proofs.Tables.{table-computed, balance-computed}
 use Rattle.model.proofs.Reading.{stable, tests-plan, tests-nodes, tests-topologies, image-says, stored-in}
 
@@ -144,15 +145,60 @@ module _ (image : List ℕ) (bytes : Bytes image) where
       reply-of image bytes (rewriteRefusals (length out)) (rewriteTests (length out)) (λ v b w. (refl, tests-lt (length out) (length (encode v b)), λ n12. tt))
       encode (λ v b w e. refl) out
 
-  pub serve-computed : (q : Request) (out : List ℕ) → Serve image q out (serve image q out .number) (serve image q out .len) (serve image q out .out)
-  serve-computed q out =
-      reply-of image bytes (λ v b. requestRefusals (anyMiddle b) q (length out) b) (serveTests q (length out))
-      (λ v b w. request-agrees (anyMiddle b) b (w .lawful) (length out) q) (served q) holds out
-    where
-      holds : (v : ℕ) (b : Book) → Stored image v b → firstNumber (serveTests q (length out) v b) ≡ 0 → MadeImage (anyMiddle b) b q (served q v b)
-      holds v b w e =
-          let d = request-done (anyMiddle b) b (w .lawful) (length out) q e in
-          (d .0, d .2, ap (λ (o : Option Book). encode newest (orGiven o b)) (d .1))
+  module _ (out : List ℕ) where
+    pub post-computed : (qs : List Request) (before : List ℕ)
+        → Post image qs out before (post image qs out before .whole .number) (post image qs out before .whole .len) (post image qs out before .whole .out) (post image qs out before .answers)
+    post-computed qs before =
+        call-of image bytes (postRefusals (length qs) (length out)) (postTests (length qs) (length out))
+        (λ v b w. (refl, tests-lt mostRequests (length qs), λ n26. (refl, tests-lt (length out) (longestImage newest), λ n12. tt)))
+        (refused (postNumber image qs out))
+        (λ e w. done (postNumber image qs out) e (in-order-computed (anyMiddle (bookIn image)) (bookIn image) (workable (w .lawful)) qs))
+      where
+        b : Book
+        b = bookIn image
+
+        last : Book
+        last = lastBook (anyMiddle b) b qs
+
+        output : ℕ → Output
+        output n = whenDone n (postOutput b qs out) (kept out)
+
+        refused : (n : ℕ) → (n ≡ 0 → ⊥) → Unchanged out (output n .len) (output n .out) × (whenDone n (answersOn b qs) before ≡ before)
+        refused zero f = absurd (f refl)
+        refused (suc n) f = (record { length-is = refl; buffer = refl }, refl)
+
+        posted : (t : Bool) (answers : List ℕ) → Tests t (0 ∈ answers)
+            → Posted answers last out (cond t (put (imageAfter b qs) out) (kept out) .len) (cond t (put (imageAfter b qs) out) (kept out) .out)
+        posted true answers h = record { some = λ m. record { length-is = refl; buffer = refl }; none = λ f. absurd (f (h .yes refl)) }
+        posted false answers h = record { some = λ m. never (h .back m); none = λ f. record { length-is = refl; buffer = refl } }
+
+        done : (n : ℕ) → n ≡ 0 → InOrder (Work (anyMiddle b)) b qs (answersOn b qs) last
+            → (c : Book) × InOrder (Work (anyMiddle b)) b qs (whenDone n (answersOn b qs) before) c × Posted (whenDone n (answersOn b qs) before) c out (output n .len) (output n .out)
+        done zero e h = (last, h, posted (someDone (answersOn b qs)) (answersOn b qs) (tests-in 0 (answersOn b qs)))
+        done (suc n) e h = absurd (omega arith)
+
+    -- a list of one
+    pub serve-computed : (q : Request) → Serve image q out (serve image q out .number) (serve image q out .len) (serve image q out .out)
+    serve-computed q = record {
+      whole = postOne image q out .whole .number;
+      answer = getD (postOne image q out .answers) 0 0;
+      posted = subst (Post image (q ∷ []) out (0 ∷ []) (postOne image q out .whole .number) (postOne image q out .whole .len) (postOne image q out .whole .out))
+          (alone (postNumber image (q ∷ []) out)) (post-computed (q ∷ []) (0 ∷ []));
+      refused = refused (postOne image q out .whole .number) (getD (postOne image q out .answers) 0 0);
+      done = done (postOne image q out .whole .number) (getD (postOne image q out .answers) 0 0);
+    }
+      where
+        alone : (n : ℕ) → whenDone n (answersOn (bookIn image) (q ∷ [])) (0 ∷ []) ≡ getD (whenDone n (answersOn (bookIn image) (q ∷ [])) (0 ∷ [])) 0 0 ∷ []
+        alone zero = refl
+        alone (suc n) = refl
+
+        refused : (n answer : ℕ) → (n ≡ 0 → ⊥) → whenDone n answer n ≡ n
+        refused zero answer f = absurd (f refl)
+        refused (suc n) answer f = refl
+
+        done : (n answer : ℕ) → n ≡ 0 → whenDone n answer n ≡ answer
+        done zero answer e = refl
+        done (suc n) answer e = absurd (omega arith)
 
   module _ (node : ℕ) where
     pub expand-computed : (out : List ℕ) → Expand image node out (expand image node out .number) (expand image node out .len) (expand image node out .out)

@@ -1,26 +1,25 @@
 -- All of the document's worked examples hold.
-use mathlib.Core.Path.{_≡_, refl, sym, ap, subst}
+use mathlib.Core.Path.{_≡_, refl, sym, subst}
 use mathlib.Core.Logic.{⊎-elim}
 use mathlib.Core.Bool.{Bool, true, false, not, _&&_, _||_}
 use mathlib.Core.List.{List, [], _∷_}
-use mathlib.Core.Option.{Option}
 use Prim.Native.Nat.{ℕ, zero, suc}
 use lib.Dec.{T, eqb}
 use lib.ListN.{getD}
 use Rattle.rules.specs.Words.{Tests}
 use Rattle.rules.specs.Topology.{allNodes, Route}
-use Rattle.rules.specs.Book.{Row, Book, LawfulBook}
+use Rattle.rules.specs.Book.{Row, Book}
 use Rattle.rules.specs.Placing.{Asked, Planned, NewRows}
-use Rattle.rules.specs.Image.{newest, longestImage, encode, Stored}
+use Rattle.rules.specs.Image.{newest, encode, Stored}
 use Rattle.rules.specs.Table.{Entry}
-use Rattle.rules.specs.Calls.{Request, anyMiddle, Made}
+use Rattle.rules.specs.Calls.{Request, anyMiddle, Work}
 use Rattle.rules.specs.Calls.Request.{Open, Close}
 use Rattle.rules.proofs.Choice.{best-unique, planned-unique, rows-unique}
 use Rattle.rules.proofs.Tests.{tests-and, tests-or, tests-not, tests-eq, allOf, tests-all, tests-every}
 use Rattle.rules.proofs.Slots.{takes, tests-takes}
 use Rattle.model.specs.Test.{sameBy, same, sameRow, onData}
 use Rattle.model.specs.Search.{routeOf}
-use Rattle.model.specs.Answer.{passes, orGiven, routesOf, newRows, made}
+use Rattle.model.specs.Answer.{passes, routesOf, newRows}
 use Rattle.model.specs.Table.{cellOf}
 use Rattle.model.specs.Reading.{rowFits, isLawfulBook}
 use Rattle.model.specs.Examples.{planA, lineA, square, pair, empty, asked, askedTwo, opening, openingTwo, numberOn, SaysOn, after, rowsOn, opensWith, isStored}
@@ -28,7 +27,7 @@ use Rattle.model.specs.Examples.{after2, after3, after7, hop, operations
 use Rattle.model.proofs.Tests.{tests-same-by, tests-same, tests-same-row, tests-on-data, tests-meets, tests-clashes}
 use Rattle.model.proofs.Routes.{route-found, route-only}
 use Rattle.model.proofs.Firsts.{tests-passes}
-use Rattle.model.proofs.Answers.{planned-route, routes-found, rows-found, rows-or-none, request-says, request-done}
+use Rattle.model.proofs.Answers.{planned-route, routes-found, rows-found, rows-or-none, Workable, workable, request-says, work-computed}
 use Rattle.model.proofs.Tables.{entry-computed}
 use Rattle.model.proofs.Reading.{tests-version, tests-fits, tests-book}
 
@@ -57,16 +56,14 @@ holds n = each-true n examples all-examples
 
 -- what a request says that the list has
 module _ (b : Book) (h : T (isLawfulBook b)) where
-  lawful : LawfulBook b
-  lawful = tests-book b .yes (true-of _ h)
+  fit : Workable b
+  fit = workable (tests-book b .yes (true-of _ h))
 
   pub number-says : (q : Request) (n : ℕ) → eqb (numberOn b q) n ≡ true → SaysOn b q n
-  number-says q n e = subst (SaysOn b q) (tests-eq (numberOn b q) n .yes e) (request-says (anyMiddle b) b lawful (longestImage newest) q)
+  number-says q n e = subst (SaysOn b q) (tests-eq (numberOn b q) n .yes e) (request-says (anyMiddle b) b fit q)
 
   pub leaves : (q : Request) → eqb (numberOn b q) 0 ≡ true → Leaves b q (after b q)
-  leaves q e =
-      let d = request-done (anyMiddle b) b lawful (longestImage newest) q (tests-eq (numberOn b q) 0 .yes e) in
-      record { says = number-says q 0 e; made = subst (Made (anyMiddle b) b q) (sym (ap (λ (o : Option Book). orGiven o b) (d .1))) (d .2) }
+  leaves q e = subst (λ (n : ℕ). Work (anyMiddle b) b q n (after b q)) (tests-eq (numberOn b q) 0 .yes e) (work-computed (anyMiddle b) b fit q)
 
   pub opens-with : (q : Asked) (routes offsets : List (List ℕ)) → opensWith b q routes offsets ≡ true → OpensWith b q routes offsets (after b (Open q))
   opens-with q routes offsets e =
@@ -82,7 +79,7 @@ module _ (b : Book) (h : T (isLawfulBook b)) where
       given =
           tests-passes (λ ps g. planned-route (b .site .links) (anyMiddle b) q g) (λ ps qs g k. planned-unique g k) (λ (ps : List (List ℕ)). routes ≡ ps)
           (sameBy same routes) (λ ps g. tests-same-by same tests-same routes ps) (routesOf (b .site .links) (anyMiddle b) q)
-          (routes-found (b .site .links) (anyMiddle b) q (lawful .site .topologies .links-sound))
+          (routes-found (b .site .links) (anyMiddle b) q (fit .links-sound))
 
       placed : Tests (passes (sameBy sameRow (rowsOn q 1 routes offsets)) (newRows b q 1 routes))
           ((rs : List Row) × NewRows b q 1 routes rs × (rowsOn q 1 routes offsets ≡ rs))

@@ -1,49 +1,120 @@
 -- The second route is placed beside the book and the first's row.
-use mathlib.Core.Path.{_≡_, sym, ap, ap₂, _∙_, subst, subst₂}
-use mathlib.Core.List.{List, _∷_}
-use Prim.Native.Nat.{ℕ, _*_, _≤_, _<_}
+use mathlib.Core.Path.{_≡_, sym, ap, subst₂}
+use mathlib.Core.List.{List, [], _∷_}
+use Prim.Native.Nat.{ℕ, _*_, _<_}
 use native.Mathlib.Omega.{arith}
 use lib.ListN.{length}
-use Rattle.rules.specs.Words.{_∈_}
+use Rattle.rules.specs.Words.{total}
 use Rattle.rules.specs.Tiles.{Plan, periodAt}
-use Rattle.rules.specs.Topology.{nodes, hopCount}
-use Rattle.rules.specs.Book.{LawfulBook}
-use Rattle.rules.specs.Placing.{Asked}
-use Rattle.rules.specs.Image.{planOf, linksOf}
-use Rattle.rules.proofs.Reading.{rowsIn, bookIn}
+use Rattle.rules.specs.Topology.{hopCount}
+use Rattle.rules.specs.Book.{Offsets, LawfulBook}
+use Rattle.rules.specs.Placing.{Asked, FirstPlacing, Full}
+use Rattle.rules.specs.Image.{planOf}
+use Rattle.rules.proofs.Periods.{period-most}
+use Rattle.rules.proofs.Reading.{rowsIn, bookIn, withRows}
 use Rattle.image.specs.declared.Book.{Book}
 use Rattle.index.specs.Index.{indexLength, IndexOf}
-use Rattle.index.specs.Marks.{Adds, HopsTake}
-use Rattle.index.proofs.Rows.{index-more}
+use Rattle.index.specs.Marks.{Removes, HopsTake}
+use Rattle.index.proofs.Apart.{index-without}
 use Rattle.placing.specs.Marking as marking
-use Rattle.placing.specs.Marking.{Markable, Marked}
-use Rattle.opening.specs.Puts.{rowOn}
-use Rattle.opening.specs.Beside.{PlacedBeside}
+use Rattle.placing.specs.Marking.{Markable, Marked, Unmarked}
+use Rattle.opening.specs.Puts.{rowOn, Parts, Puttable}
+use Rattle.opening.specs.Keeping.{OneKept, TwoKept}
+use Rattle.opening.specs.Beside.{NewBeside, RouteBeside, PlacedBeside, MarkedBeside}
+use Rattle.opening.proofs.Routed.{room-left}
+use Rattle.opening.proofs.Keeping.{marked-row}
 
-module _ {s words : List ℕ} {book : Book} {q : Asked} {place at : ℕ} {hearing first offsets second : List ℕ}
-    (w : PlacedBeside s words book q place at hearing first offsets second) where
+module _ {s words : List ℕ} {book : Book} {q : Asked} {place at : ℕ} {hearing route : List ℕ} (w : RouteBeside s words book q place at hearing route) where
   lawful : LawfulBook (bookIn s)
-  lawful = w .routes .first-route .new .asked .image .newest .lawful .lawful
+  lawful = w .new .asked .image .newest .lawful .lawful
 
-  slots : book .plan .slots .0 ≡ planOf s .slots
-  slots = ap (λ (plan : Plan). plan .slots) (w .routes .first-route .new .asked .header .plan)
+  route-slots : book .plan .slots .0 ≡ planOf s .slots
+  route-slots = ap (λ (plan : Plan). plan .slots) (w .new .asked .header .plan)
 
-  pub markable : Markable (book .plan .slots .0) place first offsets
-  markable = record {
-    few = omega (arith, slots, lawful .site .plan .most);
-    period = w .routes .first-route .new .asked .period;
-    count = omega (arith, w .placed .placing .offsets-hold .count, w .routes .first-route .path .some);
-    known = λ a m. omega (arith, w .routes .first-route .path .known a m, lawful .site .nodes .1);
-    within = λ o m. subst₂ (λ (K S : ℕ). o < K * S) (sym (w .routes .first-route .new .asked .period-is)) (sym slots) (w .placed .placing .offsets-hold .within o m);
+  -- with an offset for each hop the route can be marked
+  pub route-markable : {offsets : List ℕ} → Offsets (planOf s .slots) (q .period) (hopCount route) offsets → Markable (book .plan .slots .0) place route offsets
+  route-markable h = record {
+    few = omega (arith, route-slots, lawful .site .plan .most);
+    period = w .new .asked .period;
+    count = omega (arith, h .count, w .path .some);
+    known = λ a m. omega (arith, w .path .known a m, lawful .site .nodes .1);
+    within = λ o m. subst₂ (λ (K S : ℕ). o < K * S) (sym (w .new .asked .period-is)) (sym route-slots) (h .within o m);
   }
+
+  route-parts : {offsets : List ℕ} → Offsets (planOf s .slots) (q .period) (hopCount route) offsets → Parts route offsets
+  route-parts h = record { count = omega (arith, h .count, w .path .some); few = omega (arith, h .count, w .few) }
+
+-- with room for the rows the image can take them
+puttable : {s words : List ℕ} {book : Book} {q : Asked} {place at hops : ℕ} → NewBeside s words book q place at → (routes : List (List ℕ)) → (Full (bookIn s) routes → ⊥)
+    → total hopCount routes ≡ hops → Puttable s at q (length routes) hops
+puttable {s} w routes f e =
+    let left = room-left s routes (w .asked .image .newest .lawful) f in
+    record {
+      image = w .asked .image .newest;
+      vacant = w .vacant;
+      period = omega (arith, w .asked .period-is, period-most _ (w .asked .period));
+      streams = left .0;
+      hops-in-all = omega (arith, left .1, e);
+    }
+
+-- the first, marked
+module _ {s words : List ℕ} {book : Book} {q : Asked} {place at : ℕ} {hearing first offsets second : List ℕ} (w : PlacedBeside s words book q place at hearing first offsets second) where
+  pub markable : Markable (book .plan .slots .0) place first offsets
+  markable = route-markable (w .routes .first-route) (w .placed .placing .offsets-hold)
 
   pub index-size : length words ≡ indexLength
   index-size = w .routes .first-route .new .asked .image .index .size
 
-  -- the marks are the index of the rows and the first's
-  pub index-beside : (marks : List ℕ) → Marked (book .plan .slots .0) place first offsets words marks
-      → IndexOf (planOf s .slots) (rowOn q 1 first offsets ∷ rowsIn s) marks
-  index-beside marks m =
-      index-more (w .routes .first-route .new .asked .image .index)
-      (subst₂ (λ (K S : ℕ). Adds (HopsTake S (marking.rowOn (q .id) 1 K first offsets) (hopCount first)) words marks) (w .routes .first-route .new .asked .period-is) slots
-      (m (q .id) 1))
+  pub marked-beside : {marks : List ℕ} → Marked (book .plan .slots .0) place first offsets words marks → MarkedBeside s marks book q place at hearing first offsets second
+  marked-beside {marks} m = record {
+    before = words;
+    placed = w;
+    index = marked-row {s = s} {q = q} 1 (record {
+      slots-are = route-slots (w .routes .first-route);
+      period-is = w .routes .first-route .new .asked .period-is;
+      markable = markable;
+      index = w .routes .first-route .new .asked .image .index;
+    }) m;
+  }
+
+-- and taken out again: no row of the book has a node at work where one of its hops has
+pub unmarked-beside : {s words marks : List ℕ} {book : Book} {q : Asked} {place at : ℕ} {hearing first offsets second : List ℕ}
+    → (w : MarkedBeside s words book q place at hearing first offsets second) → Unmarked (book .plan .slots .0) place first offsets words marks → IndexOf (planOf s .slots) (rowsIn s) marks
+unmarked-beside {s} {words} {marks} {q = q} {first = first} {offsets} w m =
+    index-without (bookIn s .site) (rowOn q 1 first offsets) (rowsIn s) (λ x k h. w .placed .placed .placing .free (h .hop) (h .there) .never-meet x k (h .meets)) (w .index)
+    (subst₂ (λ (K S : ℕ). Removes (HopsTake S (marking.rowOn (q .id) 1 K first offsets) (hopCount first)) words marks) (w .placed .routes .first-route .new .asked .period-is)
+    (route-slots (w .placed .routes .first-route)) (m (q .id) 1))
+
+-- a placed route with room for its row can be put in and marked
+pub one-kept : {s words : List ℕ} {book : Book} {q : Asked} {place at : ℕ} {hearing route offsets : List ℕ} → RouteBeside s words book q place at hearing route
+    → FirstPlacing (bookIn s) (q .period) route offsets → (Full (bookIn s) (route ∷ []) → ⊥) → OneKept s words q (book .plan .slots .0) place at route offsets
+one-kept {s} {route = route} w p f = record {
+  put = (puttable (w .new) (route ∷ []) f (omega (arith, p .placing .offsets-hold .count)), route-parts w (p .placing .offsets-hold));
+  marked = record {
+    slots-are = route-slots w;
+    period-is = w .new .asked .period-is;
+    markable = route-markable w (p .placing .offsets-hold);
+    index = w .new .asked .image .index;
+  };
+}
+
+-- and the second beside the first
+pub two-kept : {s words : List ℕ} {book : Book} {q : Asked} {place at : ℕ} {hearing first offsets second others : List ℕ}
+    → (w : MarkedBeside s words book q place at hearing first offsets second) → FirstPlacing (withRows (bookIn s) (rowOn q 1 first offsets ∷ rowsIn s)) (q .period) second others
+    → TwoKept s words q (book .plan .slots .0) place at first offsets second others
+two-kept {s} {first = first} {second = second} w p =
+    let r = w .placed .routes in
+    let h = w .placed .placed .placing .offsets-hold in
+    record {
+      put = (
+        puttable (r .first-route .new) (first ∷ second ∷ []) (w .placed .room) (omega (arith, h .count, p .placing .offsets-hold .count)),
+        route-parts (r .first-route) h,
+        route-parts (r .second-route) (p .placing .offsets-hold),
+      );
+      marked = record {
+        slots-are = route-slots (r .second-route);
+        period-is = r .second-route .new .asked .period-is;
+        markable = route-markable (r .second-route) (p .placing .offsets-hold);
+        index = w .index;
+      };
+    }

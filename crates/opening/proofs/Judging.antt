@@ -9,15 +9,19 @@ use Rattle.rules.specs.Tiles.{Period, periodAt}
 use Rattle.rules.specs.Periods.{InList}
 use Rattle.rules.specs.Topology.{nodes}
 use Rattle.rules.specs.Placing.{Asked}
-use Rattle.rules.specs.Image.{linksStart, versionOf, nodesOf, linksOf}
-use Rattle.rules.specs.Calls.{askedRefusals}
+use Rattle.rules.specs.Image.{linksStart, versionOf, planOf, nodesOf, linksOf}
+use Rattle.rules.specs.Calls.{anyMiddle, askedRefusals, openRefusals, Opened}
+use Rattle.rules.specs.Calls.Request.{Open}
 use Rattle.rules.proofs.Says.{None}
 use Rattle.rules.proofs.Written.{length-sets-at}
 use Rattle.image.specs.Header.{HeaderOf}
 use Rattle.image.specs.declared.Book as head
-use Rattle.answers.proofs.Replies.{reply-first, reply-then}
-use Rattle.opening.specs.Open.{JudgedBy, OpensAsked, Opens}
-use Rattle.opening.specs.Beside.{ImageBeside, AskedBeside}
+use Rattle.rules.proofs.Reading.{rowsIn, bookIn}
+use Rattle.index.specs.Index.{IndexOf}
+use Rattle.index.specs.Beside.{ImageBeside, Works}
+use Rattle.opening.specs.Open.{JudgedBy, Outcome, OpensAsked}
+use Rattle.opening.specs.Beside.{AskedBeside}
+use Rattle.opening.proofs.Outcomes.{out-first, out-then}
 use Rattle.opening.specs.declared.Judged.the-variants.{Refused, InOrder}
 
 module _ (q : Asked) (N : ℕ) where
@@ -49,6 +53,15 @@ module _ (q : Asked) (N : ℕ) where
 known-nodes : {s : List ℕ} {book : head.Book} → HeaderOf s book → book .nodes ≡ nodes (linksOf s)
 known-nodes {s} h = h .nodes ∙ sym (length-sets-at s (linksStart (versionOf s)) (nodesOf s))
 
+-- an outcome of all refusals of the open is what the open does
+works : {s out words : List ℕ} {q : Asked} {number len : ℕ}
+    → Outcome (openRefusals (anyMiddle (bookIn s)) q (bookIn s)) (Opened (anyMiddle (bookIn s)) (bookIn s) q) s number len out words → Works s (Open q) number len out words
+works r = record {
+  says = r .says;
+  refused = r .refused;
+  done = λ z. let k = r .done z in record { after = k .after; made = k .is; fits = k .fits; bytes = k .bytes; index = k .index };
+}
+
 below : {s : List ℕ} {book : head.Book} → HeaderOf s book → (a : ℕ) → (book .nodes ≤ a → ⊥) → a < nodesOf s
 below {s} h a f = go (decLt a (nodesOf s))
   where
@@ -57,14 +70,15 @@ below {s} h a f = go (decLt a (nodesOf s))
     go (no l) = absurd (f (omega (arith, h .nodes)))
 
 module _ {s : List ℕ} {book : head.Book} {q : Asked} (h : HeaderOf s book) where
-  pub judged-refused : {n number len : ℕ} {out : List ℕ} → JudgedBy q (book .nodes) (Refused n) → number ≡ n → len ≡ 0 → Opens s q out number len out
-  judged-refused {number = number} j e l =
+  pub judged-refused : {n number len : ℕ} {out words : List ℕ} → JudgedBy q (book .nodes) (Refused n) → number ≡ n → IndexOf (planOf s .slots) (rowsIn s) words
+      → Works s (Open q) number len out words
+  judged-refused {number = number} j e i =
       let k = subst (λ (N : ℕ). JudgedBy q N (Refused number)) (known-nodes h) (subst (λ (m : ℕ). JudgedBy q (book .nodes) (Refused m)) (sym e) j) in
-      reply-first (askedRefusals q (nodes (linksOf s))) _ (k .0) (k .1) l
+      works (out-first (askedRefusals q (nodes (linksOf s))) _ (k .0) (k .1) i)
 
   module _ {place : ℕ} (j : JudgedBy q (book .nodes) (InOrder place)) where
-    pub judged-opens : {number len : ℕ} {out out′ : List ℕ} → OpensAsked s q out number len out′ → Opens s q out number len out′
-    judged-opens r = reply-then (askedRefusals q (nodes (linksOf s))) _ (subst (λ (N : ℕ). None (askedRefusals q N)) (known-nodes h) (j .0)) r
+    pub judged-opens : {number len : ℕ} {out words : List ℕ} → OpensAsked s q number len out words → Works s (Open q) number len out words
+    judged-opens r = works (out-then (askedRefusals q (nodes (linksOf s))) _ (subst (λ (N : ℕ). None (askedRefusals q N)) (known-nodes h) (j .0)) r)
 
     pub judged-beside : {words : List ℕ} → ImageBeside s words → AskedBeside s words book q place
     judged-beside i = record {

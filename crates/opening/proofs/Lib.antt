@@ -1,3 +1,4 @@
+pub mod Outcomes
 pub mod Judging
 pub mod Routed
 pub mod More
@@ -6,3 +7,4 @@ pub mod Planned
 pub mod Placed
 pub mod Both
 pub mod Seconds
+pub mod Keeping

@@ -1,26 +1,25 @@
--- The book with rows more: its image, and that it is the only one.
+-- The book with rows more, and its image.
 use mathlib.Core.Path.{_≡_, refl, sym, ap, _∙_, subst}
 use mathlib.Core.Logic.{inl, inr, ⊎-elim}
 use mathlib.Core.List.{List, [], _∷_, _++_}
-use Prim.Native.Nat.{ℕ, _+_, _<_, _≤_}
+use Prim.Native.Nat.{ℕ, _+_, _*_, _<_, _≤_}
 use native.Mathlib.Omega.{arith}
-use lib.ListN.{length, drop, length-append, length-drop}
+use lib.ListN.{length, take, drop, length-append, length-drop}
+use lib.Seq.{take-at}
 use Rattle.rules.specs.Words.{_∈_, Reordered}
 use Rattle.rules.specs.Words.Reordered.{put}
-use Rattle.rules.specs.Book.{Row, Book, key, RisingByKey, hopsInAll, Plus}
-use Rattle.rules.specs.Image.{newest, headerLength, streamsOf, hopsOf, inTurn, encodeRow, encode}
-use Rattle.rules.proofs.Choice.{plus-unique}
+use Rattle.rules.specs.Book.{Row, Book, key, RisingByKey, hopsInAll, mostStreams, mostHops, Plus}
+use Rattle.rules.specs.Image.{newest, headerLength, linksStart, rowsStart, rowLength, longestImage, versionOf, nodesOf, streamsOf, hopsOf, inTurn, encodeRow, encode}
+use Rattle.rules.proofs.Written.{length-sets-at}
 use Rattle.rules.proofs.Lists.{reordered-same, in-left, in-right, in-append}
 use Rattle.rules.proofs.Reading.{rowsIn, bookIn, NewestImage, withRows, newest-bytes}
-use Rattle.image.proofs.Stands.{stored-rows}
+use Rattle.image.proofs.Stands.{stored-rows, stored-length}
 use Rattle.writer.specs.Over.{over, headed}
 use Rattle.writer.proofs.Laws.{then, over-front, length-headed}
 use Rattle.writer.proofs.Books.{length-body, rows-more}
-use Rattle.answers.proofs.Replies.{reply-refused, reply-next, reply-done}
 use Rattle.finding.specs.Spot.{Vacant}
 use Rattle.finding.proofs.Ids.{with-middle}
-use Rattle.opening.specs.Open.{PutsIn}
-use Rattle.opening.specs.Puts.{Fresh}
+use Rattle.opening.specs.Puts.{Fresh, PutIn}
 
 -- rows put into the middle are the rows with them in front, in another order
 reordered-middle : (new xs ys : List Row) → Reordered (new ++ (xs ++ ys)) (xs ++ (new ++ ys))
@@ -60,6 +59,15 @@ module _ {s : List ℕ} {id at : ℕ} (h : NewestImage s) (v : Vacant s id at) w
   way-most : (x : Row) → x ∈ v .before → x .way ≤ 2
   way-most x m = h .lawful .lawful .rows x (subst (λ (rows : List Row). x ∈ rows) (sym (v .all)) (in-left x (v .before) (v .rest) m)) .way-most
 
+-- with rows and hops that a book may have, the image stays within the longest
+pub put-fits : {s : List ℕ} (size rows hops : ℕ) → NewestImage s → size ≡ rowLength newest * rows + 3 * hops → streamsOf s + rows ≤ mostStreams → hopsOf s + hops ≤ mostHops
+    → length s + size ≤ longestImage newest
+put-fits {s} size rows hops h e l m =
+    let long : length s ≡ rowsStart newest (nodesOf s) + rowLength newest * length (rowsIn s) + 3 * hopsInAll (rowsIn s) =
+    stored-length (h .lawful) ∙ ap (λ (v : ℕ). rowsStart v (nodesOf s) + rowLength v * length (rowsIn s) + 3 * hopsInAll (rowsIn s)) (h .version) in
+    let few : nodesOf s ≤ 64 = omega (arith, length-sets-at s (linksStart (versionOf s)) (nodesOf s), h .lawful .lawful .site .nodes .1) in
+    omega (arith, long, few, stored-rows (h .lawful) .count, stored-rows (h .lawful) .hops)
+
 module _ {s : List ℕ} {id at : ℕ} {bytes : List ℕ} {new : List Row} (h : NewestImage s) (f : Fresh s id at bytes new) where
   abbrev pub more : Book
   more = withRows (bookIn s) (f .vacant .before ++ (new ++ f .vacant .rest))
@@ -73,9 +81,6 @@ module _ {s : List ℕ} {id at : ℕ} {bytes : List ℕ} {new : List Row} (h : N
         (λ x y m k. omega (arith, f .vacant .lower x m, f .named y k, way-most h (f .vacant) x m))
         (λ x y m k. omega (arith, f .vacant .higher y k, f .named x m, f .ways x m));
   }
-
-  pub only : (c : Book) → Plus (bookIn s) new c → c ≡ more
-  only c k = plus-unique (bookIn s) c more new k plus
 
   module _ (n k : ℕ) (e : n ≡ streamsOf s + length new) (g : k ≡ hopsOf s + hopsInAll new) where
     parts : headed s at n k ++ bytes ++ drop at s ≡ encode newest more
@@ -105,13 +110,15 @@ module _ {s : List ℕ} {id at : ℕ} {bytes : List ℕ} {new : List Row} (h : N
         let b = then d o₂ o₃ (headed s at n k ++ bytes) tail 0 e (omega arith) a (omega (arith, length-append (headed s at n k) bytes, long)) u in
         b ∙ ap (λ (x : List ℕ). over d 0 (headed s at n k ++ bytes ++ x)) t ∙ ap (over d 0) parts ∙ over-front d (encode newest more)
 
-    -- THE REPLY
-    pub in-refused : {number len : ℕ} (out : List ℕ) → length out < length s + length bytes → number ≡ 12 → len ≡ 0 → PutsIn s new out number len out
-    in-refused out l a b = reply-refused (more, plus, omega (arith, length-more)) (λ z. omega arith) a b
-
-    pub in-done : {number len : ℕ} (out o₁ o₂ o₃ tail : List ℕ) (e : ℕ) → number ≡ 0 → len ≡ length s + length bytes → length s + length bytes ≤ length out
-        → o₁ ≡ over out 0 (headed s at n k) → o₂ ≡ over o₁ at bytes → e ≡ at + length bytes → tail ≡ drop at s → o₃ ≡ over o₂ e tail
-        → PutsIn s new out number len o₃
-    in-done out o₁ o₂ o₃ tail e a b l p q z t u =
-        reply-next (λ c. omega (arith, c .2, length-more, ap (λ (v : Book). length (encode newest v)) (only (c .0) (c .1))))
-        (reply-done (encode newest more) (more, plus, refl) a (b ∙ length-more) (written out o₁ o₂ o₃ tail e p q z t u))
+    pub put-in : (d o₁ o₂ o₃ tail : List ℕ) (e len : ℕ) → length d ≡ longestImage newest → length s + length bytes ≤ longestImage newest → len ≡ length s + length bytes
+        → o₁ ≡ over d 0 (headed s at n k) → o₂ ≡ over o₁ at bytes → e ≡ at + length bytes → tail ≡ drop at s → o₃ ≡ over o₂ e tail → PutIn s new len o₃
+    put-in d o₁ o₂ o₃ tail e len a l b p q z t u =
+        let image : List ℕ = encode newest more in
+        let w : o₃ ≡ image ++ drop (length image) d = written d o₁ o₂ o₃ tail e p q z t u in
+        let m : len ≡ length image = b ∙ length-more in
+        record {
+          after = more;
+          plus = plus;
+          fits = omega (arith, ap length w, length-append image (drop (length image) d));
+          bytes = ap (take len) w ∙ take-at image (drop (length image) d) len (sym m);
+        }

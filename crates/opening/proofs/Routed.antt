@@ -10,12 +10,11 @@ use lib.ListN.{length}
 use Rattle.rules.specs.Words.{Tests, total}
 use Rattle.rules.specs.Says.{Refusal, _when_}
 use Rattle.rules.specs.Topology.{Topology, Route, NoRoute, TooFar, SecondPath, hopCount}
-use Rattle.rules.specs.Book.{Row, Book, Plus, mostStreams, mostHops, hopsInAll}
+use Rattle.rules.specs.Book.{Row, Book, mostStreams, mostHops, hopsInAll}
 use Rattle.rules.specs.Placing.{Asked, Planned, NoSecond, FirstPlacing, NoPlacings, Full, NewRow, beside, NewRows}
 use Rattle.rules.specs.Placing.Planned.{one, two}
-use Rattle.rules.specs.Image.{newest, streamsOf, hopsOf, encode}
-use Rattle.rules.specs.Calls.{anyMiddle, OfRoutes, Opened, NoRoom}
-use Rattle.rules.specs.Calls.Request.{Open}
+use Rattle.rules.specs.Image.{planOf, streamsOf, hopsOf}
+use Rattle.rules.specs.Calls.{anyMiddle, OfRoutes, Opened}
 use Rattle.rules.proofs.Choice.{best-unique, planned-unique, new-unique, rows-unique}
 use Rattle.rules.proofs.Cases.{route-near, route-some}
 use Rattle.rules.proofs.Tests.{never, alike}
@@ -23,10 +22,11 @@ use Rattle.rules.proofs.Reading.{rowsIn, bookIn, LawfulImage}
 use Rattle.image.specs.Header.{HeaderOf}
 use Rattle.image.specs.declared.Book as head
 use Rattle.image.proofs.Stands.{stored-rows}
-use Rattle.answers.specs.Reply.{Reply}
-use Rattle.answers.proofs.Replies.{reply-refused, reply-next, reply-alike}
+use Rattle.index.specs.Index.{IndexOf}
 use Rattle.opening.specs.Puts.{rowOn}
-use Rattle.opening.specs.Open.{moreRefusals, PutsIn, OpenedOn, routedRefusals, Routed, OpensNew}
+use Rattle.opening.specs.Keeping.{Keeps}
+use Rattle.opening.specs.Open.{OpenedOn, routedRefusals, Routed, OpensNew}
+use Rattle.opening.proofs.Outcomes.{out-refused, out-next, out-done, out-alike, kept-alike}
 
 -- rows that are placed leave no route without a placing
 some-placed : (b : Book) (q : Asked) (way : ℕ) (ps : List (List ℕ)) (rs : List Row) → NewRows b q way ps rs → NoPlacings b q way ps → ⊥
@@ -37,20 +37,10 @@ some-placed b q way (p ∷ ps) (r ∷ rs) h (inr n) =
     some-placed (beside r b) q (suc way) ps rs (h .1) (subst (λ (x : Row). NoPlacings (beside x b) q (suc way) ps) (new-unique (n .1) (h .0)) (n .2))
 
 -- rows that were put in are those on the routes
-pub routed-in : (s : List ℕ) {out out′ : List ℕ} {number len : ℕ} (q : Asked) (routes : List (List ℕ)) (new : List Row)
-    → NewRows (bookIn s) q 1 routes new → (Full (bookIn s) routes → ⊥) → PutsIn s new out number len out′ → Routed s q routes out number len out′
-routed-in s {out} q routes new h full w =
-    reply-next full
-    (reply-next (some-placed (bookIn s) q 1 routes new h)
-    (reply-alike (moreRefusals new (length out) (bookIn s)) ((12 when ((c : Book) × OpenedOn (bookIn s) q routes c × (length out < length (encode newest c)))) ∷ []) (
-      refl,
-      (
-        λ c. (c .0, record { new = new; placed = h; plus = c .1 }, c .2),
-        λ c. (c .0, subst (λ (rows : List Row). Plus (bookIn s) rows (c .0)) (rows-unique (bookIn s) q 1 routes (c .1 .new) new (c .1 .placed) h) (c .1 .plus), c .2),
-      ),
-      λ a b. tt,
-    )
-    (λ bytes c. (c .0, record { new = new; placed = h; plus = c .1 }, c .2)) w))
+pub routed-in : (s : List ℕ) {out words : List ℕ} {number len : ℕ} (q : Asked) (routes : List (List ℕ)) (new : List Row)
+    → NewRows (bookIn s) q 1 routes new → (Full (bookIn s) routes → ⊥) → Keeps s new number len out words → Routed s q routes number len out words
+routed-in s q routes new h full w =
+    out-next full (out-next (some-placed (bookIn s) q 1 routes new h) (out-done (w .0) (kept-alike (λ c p. record { new = new; placed = h; plus = p }) (w .1))))
 
 -- where there are routes, there is one
 some-route : {T : Topology} {middle : ℕ} {q : Asked} {routes : List (List ℕ)} → Planned T middle q routes → NoRoute T middle (q .source) (q .destination) → ⊥
@@ -76,42 +66,23 @@ module _ (b : Book) (middle : ℕ) (q : Asked) (routes : List (List ℕ)) (plann
   opened-on : (c : Book) → OpenedOn b q routes c → Opened middle b q c
   opened-on c o = record { routes = routes; planned = planned; new = o .new; placed = o .placed; plus = o .plus }
 
-  opened-back : (c : Book) → Opened middle b q c → OpenedOn b q routes c
-  opened-back c o = record { new = o .new; placed = subst (λ (ps : List (List ℕ)). NewRows b q 1 ps (o .new)) (planned-unique (o .planned) planned) (o .placed); plus = o .plus }
-
-pub routed-new : (s : List ℕ) {out out′ : List ℕ} {number len : ℕ} (q : Asked) (routes : List (List ℕ)) → Planned (bookIn s .site .links) (anyMiddle (bookIn s)) q routes
-    → Routed s q routes out number len out′ → OpensNew s q out number len out′
-routed-new s {out} q routes planned w =
+pub routed-new : (s : List ℕ) {out words : List ℕ} {number len : ℕ} (q : Asked) (routes : List (List ℕ)) → Planned (bookIn s .site .links) (anyMiddle (bookIn s)) q routes
+    → Routed s q routes number len out words → OpensNew s q number len out words
+routed-new s q routes planned w =
     let b : Book = bookIn s in
     let m : ℕ = anyMiddle (bookIn s) in
-    let room : ℕ = length out in
-    reply-next (some-route planned) (reply-next (near-route planned) (reply-next (some-second planned)
-    (reply-alike (routedRefusals q routes room b)
-    ((8 when OfRoutes m q b (Full b)) ∷ (9 when OfRoutes m q b (NoPlacings b q 1)) ∷ (12 when NoRoom m room (Open q) b) ∷ []) (
-      refl,
-      of-routes b m q routes planned (Full b),
-      λ a8 b8. (
-        refl,
-        of-routes b m q routes planned (NoPlacings b q 1),
-        λ a9 b9. (
-          refl,
-          (
-            λ c. (c .0, opened-on b m q routes planned (c .0) (c .1), c .2),
-            λ c. (c .0, opened-back b m q routes planned (c .0) (c .1), c .2),
-          ),
-          λ a b. tt,
-        ),
-      ),
-    )
-    (λ bytes c. (c .0, opened-on b m q routes planned (c .0) (c .1), c .2)) w)))
+    out-next (some-route planned) (out-next (near-route planned) (out-next (some-second planned)
+    (out-alike (routedRefusals q routes b) ((8 when OfRoutes m q b (Full b)) ∷ (9 when OfRoutes m q b (NoPlacings b q 1)) ∷ [])
+    (refl, of-routes b m q routes planned (Full b), λ a8 b8. (refl, of-routes b m q routes planned (NoPlacings b q 1), λ a b. tt))
+    (opened-on b m q routes planned) w)))
 
 -- where a route is missing
-pub second-refused : (s : List ℕ) {out : List ℕ} {number len : ℕ} (q : Asked) (first : List ℕ) → q .second ≡ true
+pub second-refused : (s : List ℕ) {out words : List ℕ} {number len : ℕ} (q : Asked) (first : List ℕ) → q .second ≡ true
     → Route (bookIn s .site .links) (anyMiddle (bookIn s)) (q .source) (q .destination) first
     → ((p : List ℕ) → SecondPath (bookIn s .site .links) (anyMiddle (bookIn s)) (q .source) (q .destination) first p → ⊥)
-    → number ≡ 18 → len ≡ 0 → OpensNew s q out number len out
-second-refused s q first y r none e l =
-    reply-next (route-some r) (reply-next (route-near r) (reply-refused (record { asked = y; first = first; planned = r; none = none }) (λ z. omega arith) e l))
+    → number ≡ 18 → IndexOf (planOf s .slots) (rowsIn s) words → OpensNew s q number len out words
+second-refused s q first y r none e i =
+    out-next (route-some r) (out-next (route-near r) (out-refused (record { asked = y; first = first; planned = r; none = none }) (λ z. omega arith) e i))
 
 -- THE ROWS
 

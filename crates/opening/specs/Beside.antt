@@ -8,16 +8,13 @@ use Rattle.rules.specs.Topology.{Path, hopCount, mostRouteHops, allNodes, Route
 use Rattle.rules.specs.Periods.{InList}
 use Rattle.rules.specs.Placing.{Asked, FirstPlacing, Full}
 use Rattle.rules.specs.Image.{planOf, nodesOf, linksOf, hearingOf}
-use Rattle.rules.proofs.Reading.{rowsIn, bookIn, NewestImage}
+use Rattle.rules.proofs.Reading.{rowsIn, bookIn}
 use Rattle.image.specs.Header.{HeaderOf}
 use Rattle.image.specs.declared.Book.{Book}
 use Rattle.index.specs.Index.{IndexOf}
+use Rattle.index.specs.Beside.{ImageBeside}
+use Rattle.opening.specs.Puts.{rowOn}
 use Rattle.finding.specs.Spot.{Vacant}
-
--- the image is that of a lawful book in the newest version, and the words are the index of its rows
-pub record ImageBeside (s words : List ℕ) : Type 0 where
-  pub newest : NewestImage s
-  pub index : IndexOf (planOf s .slots) (rowsIn s) words
 
 -- with what the header says; the request is in order, its period at the place
 pub record AskedBeside (s words : List ℕ) (book : Book) (q : Asked) (place : ℕ) : Type 0 where
@@ -51,6 +48,12 @@ pub record PlacedBeside (s words : List ℕ) (book : Book) (q : Asked) (place at
   pub routes : RoutesBeside s words book q place at hearing first second
   pub placed : FirstPlacing (bookIn s) (q .period) first offsets
   pub room : Full (bookIn s) (first ∷ second ∷ []) → ⊥
+
+-- and the first marked in the index: the words are that of the rows and the first's
+pub record MarkedBeside (s words : List ℕ) (book : Book) (q : Asked) (place at : ℕ) (hearing first offsets second : List ℕ) : Type 0 where
+  pub before : List ℕ
+  pub placed : PlacedBeside s before book q place at hearing first offsets second
+  pub index : IndexOf (planOf s .slots) (rowOn q 1 first offsets ∷ rowsIn s) words
 
 -- where the first is the planner's: with the links
 pub record PlannedBeside (s words : List ℕ) (book : Book) (q : Asked) (place at : ℕ) (links first : List ℕ) : Type 0 where

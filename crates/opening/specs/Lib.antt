@@ -1,3 +1,4 @@
 pub mod Open
 pub mod Beside
 pub mod Puts
+pub mod Keeping

@@ -2,20 +2,15 @@
 use mathlib.Core.Path.{_≡_}
 use mathlib.Core.List.{List}
 use Prim.Native.Nat.{ℕ, _+_, _<_, _≤_}
-use lib.ListN.{length}
+use lib.ListN.{length, take}
 use Rattle.rules.specs.Words.{_∈_}
 use Rattle.rules.specs.Topology.{mostRouteHops}
 use Rattle.rules.specs.Placing.{Asked}
-use Rattle.rules.specs.Book.{Row, RisingByKey, hopsInAll, mostStreams, mostHops}
-use Rattle.rules.specs.Image.{newest, inTurn, encodeRow, streamsOf, hopsOf}
+use Rattle.rules.specs.Book.{Row, Book, RisingByKey, hopsInAll, mostStreams, mostHops, Plus}
+use Rattle.rules.specs.Image.{newest, inTurn, encodeRow, encode, streamsOf, hopsOf}
 use Rattle.rules.proofs.Encoding.{AllSized}
-use Rattle.rules.proofs.Reading.{NewestImage}
+use Rattle.rules.proofs.Reading.{bookIn, NewestImage}
 use Rattle.finding.specs.Spot.{Vacant}
-use Rattle.opening.specs.Open.{PutsIn}
-
--- the bytes of two rows of the longest
-abbrev pub mostRowBytes : ℕ
-mostRowBytes = 102
 
 -- a place where rows of some id may stand
 abbrev pub SomeVacant : List ℕ → ℕ → Type 0
@@ -30,10 +25,16 @@ pub record Fresh (s : List ℕ) (id at : ℕ) (bytes : List ℕ) (new : List Row
   pub sized : AllSized newest new
   pub bytes-are : bytes ≡ inTurn (encodeRow newest) new
 
+-- the image of the book with the rows in it stands in the first bytes
+pub record PutIn (s : List ℕ) (new : List Row) (len : ℕ) (out : List ℕ) : Type 0 where
+  pub after : Book
+  pub plus : Plus (bookIn s) new after
+  pub fits : len ≤ length out
+  pub bytes : take len out ≡ encode newest after
+
 -- the rows of these bytes were put in
-abbrev pub PutsRows : List ℕ → ℕ → List ℕ → ℕ → ℕ → List ℕ → ℕ → ℕ → List ℕ → Type 0
-PutsRows s at bytes rows hops out number len out′ =
-    (id : ℕ) (new : List Row) → Fresh s id at bytes new → length new ≡ rows → hopsInAll new ≡ hops → PutsIn s new out number len out′
+abbrev pub PutsRows : List ℕ → ℕ → List ℕ → ℕ → ℕ → ℕ → List ℕ → Type 0
+PutsRows s at bytes rows hops len out = (id : ℕ) (new : List Row) → Fresh s id at bytes new → length new ≡ rows → hopsInAll new ≡ hops → PutIn s new len out
 
 -- the row of a way
 abbrev pub rowOn : Asked → ℕ → List ℕ → List ℕ → Row

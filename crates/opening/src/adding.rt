@@ -8,9 +8,7 @@ ghost use Rattle.rules.specs.Periods.{theAsked};
 ghost use Rattle.rules.specs.Book.{mostStreams, mostHops};
 ghost use Rattle.rules.specs.Image.{newest, rowLength, streamsOf, hopsOf};
 ghost use Rattle.rules.proofs.Reading.{NewestImage};
-ghost use Rattle.opening.specs.Open.{PutsIn};
-ghost use Rattle.opening.specs.Puts.{mostRowBytes, SomeVacant, PutsRows, rowOn, OnePut, TwoPut};
-use answers::Answer;
+ghost use Rattle.opening.specs.Puts.{SomeVacant, PutIn, PutsRows, rowOn, OnePut, TwoPut};
 use image::Book;
 use rules::Asked;
 
@@ -27,17 +25,20 @@ const FIRST: u8 = 1;
 const SECOND: u8 = 2;
 
 // Writes the image with rows more at the place: so many, of so many hops.
-fn put_in(image: &[u8], at: usize, new: &[u8], rows: usize, hops: usize, out: &mut [u8]) -> Answer
-    requires { ⌜ NewestImage (now image) × SomeVacant (now image) at × (length (now new) ≤ mostRowBytes) ⌝ }
+fn put_in(
+    image: &[u8],
+    at: usize,
+    new: &[u8],
+    rows: usize,
+    hops: usize,
+    out: &mut [u8; Book::LONGEST],
+) -> usize
+    requires { ⌜ NewestImage (now image) × SomeVacant (now image) at × (length (now new) ≡ rowLength newest * rows + 3 * hops) ⌝ }
     requires { ⌜ (streamsOf (now image) + rows ≤ mostStreams) × (hopsOf (now image) + hops ≤ mostHops) ⌝ }
-    ensures { λ r. ⌜ PutsRows (now (image .entry)) at (now (new .entry)) rows hops (now (out .entry)) (r .number) (r .length) (now (out .exit)) ⌝ }
+    ensures { λ r. ⌜ PutsRows (now (image .entry)) at (now (new .entry)) rows hops r (now (out .exit)) ⌝ }
 {
     let book = Book::read(image);
     let size = new.len();
-    let length = image.len() + size;
-    if out.len() < length {
-        return answers::refused(12);
-    }
     writer::put_head(
         image,
         out,
@@ -47,7 +48,7 @@ fn put_in(image: &[u8], at: usize, new: &[u8], rows: usize, hops: usize, out: &m
     );
     writer::put_part(new, out, at);
     writer::put_part(&image[at..], out, at + size);
-    answers::done(length)
+    image.len() + size
 }
 
 // The bytes of a row of so many hops.
@@ -65,10 +66,10 @@ pub fn put_one(
     q: Asked,
     route: &[u8],
     offsets: &[u16],
-    out: &mut [u8],
-) -> Answer
+    out: &mut [u8; Book::LONGEST],
+) -> usize
     requires { ⌜ OnePut (now image) at (theAsked q) (now route) (now offsets) ⌝ }
-    ensures { λ r. ⌜ PutsIn (now (image .entry)) (rowOn (theAsked q) 1 (now (route .entry)) (now (offsets .entry)) ∷ []) (now (out .entry)) (r .number) (r .length) (now (out .exit)) ⌝ }
+    ensures { λ r. ⌜ PutIn (now (image .entry)) (rowOn (theAsked q) 1 (now (route .entry)) (now (offsets .entry)) ∷ []) r (now (out .exit)) ⌝ }
 {
     let hops = offsets.len();
     let size = row_size(hops);
@@ -86,10 +87,10 @@ pub fn put_two(
     offsets: &[u16],
     second: &[u8],
     others: &[u16],
-    out: &mut [u8],
-) -> Answer
+    out: &mut [u8; Book::LONGEST],
+) -> usize
     requires { ⌜ TwoPut (now image) at (theAsked q) (now first) (now offsets) (now second) (now others) ⌝ }
-    ensures { λ r. ⌜ PutsIn (now (image .entry)) (rowOn (theAsked q) 1 (now (first .entry)) (now (offsets .entry)) ∷ rowOn (theAsked q) 2 (now (second .entry)) (now (others .entry)) ∷ []) (now (out .entry)) (r .number) (r .length) (now (out .exit)) ⌝ }
+    ensures { λ r. ⌜ PutIn (now (image .entry)) (rowOn (theAsked q) 1 (now (first .entry)) (now (offsets .entry)) ∷ rowOn (theAsked q) 2 (now (second .entry)) (now (others .entry)) ∷ []) r (now (out .exit)) ⌝ }
 {
     let size = row_size(offsets.len());
     let all = size + row_size(others.len());

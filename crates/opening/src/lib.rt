@@ -1,8 +1,10 @@
 // Opens a stream on the image of a lawful book in the newest version.
 ghost use mathlib.Core.Path.{_≡_};
 ghost use Rattle.rules.specs.Periods.{theAsked};
-ghost use Rattle.opening.specs.Open.{JudgedBy, OpensNew, OpensAsked, Opens};
-ghost use Rattle.opening.specs.Beside.{ImageBeside, AskedBeside, NewBeside};
+ghost use Rattle.rules.specs.Calls.Request.{Open};
+ghost use Rattle.index.specs.Beside.{ImageBeside, Works};
+ghost use Rattle.opening.specs.Open.{JudgedBy, OpensNew, OpensAsked};
+ghost use Rattle.opening.specs.Beside.{AskedBeside, NewBeside};
 use answers::Answer;
 use finding::Spot;
 use image::Book;
@@ -27,10 +29,10 @@ fn open_new(
     q: Asked,
     place: usize,
     at: usize,
-    out: &mut [u8],
+    out: &mut [u8; Book::LONGEST],
 ) -> Answer
     requires { ⌜ NewBeside (now image) (now index) book (theAsked q) place at ⌝ }
-    ensures { λ r. ⌜ OpensNew (now (image .entry)) (theAsked q) (now (out .entry)) (r .number) (r .length) (now (out .exit)) ⌝ }
+    ensures { λ r. ⌜ OpensNew (now (image .entry)) (theAsked q) (r .number) (r .length) (now (out .exit)) (now (index .exit)) ⌝ }
 {
     let n = book.nodes;
     let rows = image::sets(image, image::HEADER, n);
@@ -62,10 +64,10 @@ fn open_asked(
     book: Book,
     q: Asked,
     place: usize,
-    out: &mut [u8],
+    out: &mut [u8; Book::LONGEST],
 ) -> Answer
     requires { ⌜ AskedBeside (now image) (now index) book (theAsked q) place ⌝ }
-    ensures { λ r. ⌜ OpensAsked (now (image .entry)) (theAsked q) (now (out .entry)) (r .number) (r .length) (now (out .exit)) ⌝ }
+    ensures { λ r. ⌜ OpensAsked (now (image .entry)) (theAsked q) (r .number) (r .length) (now (out .exit)) (now (index .exit)) ⌝ }
 {
     match finding::find(image, q.id) {
         Spot::Here(_) => answers::refused(2),
@@ -96,9 +98,14 @@ fn judge(q: Asked, nodes: usize) -> Judged
 }
 
 // Opens the stream that is asked for.
-pub fn open_on(image: &[u8], index: &mut [u64; index::WORDS], q: Asked, out: &mut [u8]) -> Answer
+pub fn open_on(
+    image: &[u8],
+    index: &mut [u64; index::WORDS],
+    q: Asked,
+    out: &mut [u8; Book::LONGEST],
+) -> Answer
     requires { ⌜ ImageBeside (now image) (now index) ⌝ }
-    ensures { λ r. ⌜ Opens (now (image .entry)) (theAsked q) (now (out .entry)) (r .number) (r .length) (now (out .exit)) ⌝ }
+    ensures { λ r. ⌜ Works (now (image .entry)) (Open (theAsked q)) (r .number) (r .length) (now (out .exit)) (now (index .exit)) ⌝ }
 {
     let book = Book::read(image);
     match judge(q, book.nodes) {

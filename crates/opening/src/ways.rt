@@ -1,17 +1,24 @@
 // Opens a stream on the planner's route, and on a second one where it is asked for.
+ghost use mathlib.Core.Path.{_≡_};
 ghost use mathlib.Core.List.{[], _∷_};
 ghost use mathlib.Core.Logic.{_⊎_};
 ghost use Prim.Native.Nat.{_+_, _<_, _≤_};
+ghost use lib.ListN.{length};
 ghost use Rattle.rules.specs.Words.{Tests, TwoBytes};
 ghost use Rattle.rules.specs.Periods.{theAsked};
 ghost use Rattle.rules.specs.Book.{mostStreams, mostHops};
 ghost use Rattle.opening.specs.Open.{Routed, OpensNew};
-ghost use Rattle.opening.specs.Beside.{RouteBeside, RoutesBeside, PlacedBeside, PlannedBeside, SecondBeside};
+ghost use Rattle.index.specs.Index.{indexLength};
+ghost use Rattle.placing.specs.Marking.{Markable, Unmarked};
+ghost use Rattle.opening.specs.Puts.{rowOn};
+ghost use Rattle.opening.specs.Keeping.{OneKept, TwoKept, Keeps};
+ghost use Rattle.opening.specs.Beside.{RouteBeside, RoutesBeside, PlacedBeside, MarkedBeside, PlannedBeside, SecondBeside};
 use crate::adding;
 use answers::Answer;
 use image::Book;
 use placing::Found;
 use rules::Asked;
+use rules::Slot;
 
 // Whether the book has no room for so many rows of so many hops.
 fn is_full(book: Book, rows: usize, hops: usize) -> bool
@@ -24,20 +31,40 @@ fn is_full(book: Book, rows: usize, hops: usize) -> bool
     Book::HOPS < book.hops + hops
 }
 
+// Writes the image with the row of a placed route, and marks it in the index.
+fn keep_one(
+    image: &[u8],
+    index: &mut [u64; index::WORDS],
+    q: Asked,
+    slots: Slot,
+    place: usize,
+    at: usize,
+    route: &[u8],
+    offsets: &[u16],
+    out: &mut [u8; Book::LONGEST],
+) -> Answer
+    requires { ⌜ OneKept (now image) (now index) (theAsked q) (slots .0) place at (now route) (now offsets) ⌝ }
+    ensures { λ r. ⌜ Keeps (now (image .entry)) (rowOn (theAsked q) 1 (now (route .entry)) (now (offsets .entry)) ∷ []) (r .number) (r .length) (now (out .exit)) (now (index .exit)) ⌝ }
+{
+    let length = adding::put_one(image, at, q, route, offsets, out);
+    placing::marking::mark(slots, place, route, offsets, index);
+    answers::done(length)
+}
+
 // Places the stream on its route, and writes the image with its row.
 fn open_one(
     image: &[u8],
-    index: &[u64; index::WORDS],
+    index: &mut [u64; index::WORDS],
     book: Book,
     q: Asked,
     place: usize,
     at: usize,
     hearing: &[u64],
     route: &[u8],
-    out: &mut [u8],
+    out: &mut [u8; Book::LONGEST],
 ) -> Answer
     requires { ⌜ RouteBeside (now image) (now index) book (theAsked q) place at (now hearing) (now route) ⌝ }
-    ensures { λ r. ⌜ Routed (now (image .entry)) (theAsked q) (now (route .entry) ∷ []) (now (out .entry)) (r .number) (r .length) (now (out .exit)) ⌝ }
+    ensures { λ r. ⌜ Routed (now (image .entry)) (theAsked q) (now (route .entry) ∷ []) (r .number) (r .length) (now (out .exit)) (now (index .exit)) ⌝ }
 {
     let hops = route.len() - 1;
     if is_full(book, 1, hops) {
@@ -49,11 +76,98 @@ fn open_one(
     let offsets = placing.offsets;
     match found {
         Found::NoPlacing => answers::refused(9),
-        Found::Placed => adding::put_one(image, at, q, route, &offsets[..hops], out),
+        Found::Placed => keep_one(
+            image,
+            index,
+            q,
+            plan.slots,
+            place,
+            at,
+            route,
+            &offsets[..hops],
+            out,
+        ),
     }
 }
 
-// Places the second route beside the first, which is placed, and writes the image with both rows.
+// Writes the image with the rows of two placed routes, and marks the second in the index.
+fn keep_two(
+    image: &[u8],
+    index: &mut [u64; index::WORDS],
+    q: Asked,
+    slots: Slot,
+    place: usize,
+    at: usize,
+    first: &[u8],
+    offsets: &[u16],
+    second: &[u8],
+    others: &[u16],
+    out: &mut [u8; Book::LONGEST],
+) -> Answer
+    requires { ⌜ TwoKept (now image) (now index) (theAsked q) (slots .0) place at (now first) (now offsets) (now second) (now others) ⌝ }
+    ensures { λ r. ⌜ Keeps (now (image .entry)) (rowOn (theAsked q) 1 (now (first .entry)) (now (offsets .entry)) ∷ rowOn (theAsked q) 2 (now (second .entry)) (now (others .entry)) ∷ []) (r .number) (r .length) (now (out .exit)) (now (index .exit)) ⌝ }
+{
+    let length = adding::put_two(image, at, q, first, offsets, second, others, out);
+    placing::marking::mark(slots, place, second, others, index);
+    answers::done(length)
+}
+
+// Takes the first route out of the index again, since the second has no placing beside it.
+fn give_up(
+    slots: Slot,
+    place: usize,
+    first: &[u8],
+    offsets: &[u16],
+    index: &mut [u64; index::WORDS],
+) -> Answer
+    requires { ⌜ Markable (slots .0) place (now first) (now offsets) × (length (now index) ≡ indexLength) ⌝ }
+    ensures { λ r. ⌜ (r .number ≡ 9) × Unmarked (slots .0) place (now (first .entry)) (now (offsets .entry)) (now (index .entry)) (now (index .exit)) ⌝ }
+{
+    placing::marking::unmark(slots, place, first, offsets, index);
+    answers::refused(9)
+}
+
+// Places the second route beside the first, which is placed and marked, and writes the image with both rows.
+fn place_second(
+    image: &[u8],
+    index: &mut [u64; index::WORDS],
+    book: Book,
+    q: Asked,
+    place: usize,
+    at: usize,
+    hearing: &[u64],
+    first: &[u8],
+    offsets: &[u16],
+    second: &[u8],
+    out: &mut [u8; Book::LONGEST],
+) -> Answer
+    requires { ⌜ MarkedBeside (now image) (now index) book (theAsked q) place at (now hearing) (now first) (now offsets) (now second) ⌝ }
+    ensures { λ r. ⌜ Routed (now (image .entry)) (theAsked q) (now (first .entry) ∷ now (second .entry) ∷ []) (r .number) (r .length) (now (out .exit)) (now (index .exit)) ⌝ }
+{
+    let hops = second.len() - 1;
+    let plan = book.plan;
+    let placing = placing::first_placing(plan, hearing, second, place, index);
+    let found = placing.found;
+    let others = placing.offsets;
+    match found {
+        Found::NoPlacing => give_up(plan.slots, place, first, offsets, index),
+        Found::Placed => keep_two(
+            image,
+            index,
+            q,
+            plan.slots,
+            place,
+            at,
+            first,
+            offsets,
+            second,
+            &others[..hops],
+            out,
+        ),
+    }
+}
+
+// Marks the first route, which is placed, and places the second beside it.
 fn open_second(
     image: &[u8],
     index: &mut [u64; index::WORDS],
@@ -65,30 +179,25 @@ fn open_second(
     first: &[u8],
     offsets: &[u16],
     second: &[u8],
-    out: &mut [u8],
+    out: &mut [u8; Book::LONGEST],
 ) -> Answer
     requires { ⌜ PlacedBeside (now image) (now index) book (theAsked q) place at (now hearing) (now first) (now offsets) (now second) ⌝ }
-    ensures { λ r. ⌜ Routed (now (image .entry)) (theAsked q) (now (first .entry) ∷ now (second .entry) ∷ []) (now (out .entry)) (r .number) (r .length) (now (out .exit)) ⌝ }
+    ensures { λ r. ⌜ Routed (now (image .entry)) (theAsked q) (now (first .entry) ∷ now (second .entry) ∷ []) (r .number) (r .length) (now (out .exit)) (now (index .exit)) ⌝ }
 {
-    let hops = second.len() - 1;
-    let plan = book.plan;
-    placing::marking::mark(plan.slots, place, first, offsets, index);
-    let placing = placing::first_placing(plan, hearing, second, place, index);
-    let found = placing.found;
-    let others = placing.offsets;
-    match found {
-        Found::NoPlacing => answers::refused(9),
-        Found::Placed => adding::put_two(
-            image,
-            at,
-            q,
-            first,
-            offsets,
-            second,
-            &others[..hops],
-            out,
-        ),
-    }
+    placing::marking::mark(book.plan.slots, place, first, offsets, index);
+    place_second(
+        image,
+        index,
+        book,
+        q,
+        place,
+        at,
+        hearing,
+        first,
+        offsets,
+        second,
+        out,
+    )
 }
 
 // Places the stream on two routes, and writes the image with its rows.
@@ -102,10 +211,10 @@ fn open_both(
     hearing: &[u64],
     first: &[u8],
     second: &[u8],
-    out: &mut [u8],
+    out: &mut [u8; Book::LONGEST],
 ) -> Answer
     requires { ⌜ RoutesBeside (now image) (now index) book (theAsked q) place at (now hearing) (now first) (now second) ⌝ }
-    ensures { λ r. ⌜ Routed (now (image .entry)) (theAsked q) (now (first .entry) ∷ now (second .entry) ∷ []) (now (out .entry)) (r .number) (r .length) (now (out .exit)) ⌝ }
+    ensures { λ r. ⌜ Routed (now (image .entry)) (theAsked q) (now (first .entry) ∷ now (second .entry) ∷ []) (r .number) (r .length) (now (out .exit)) (now (index .exit)) ⌝ }
 {
     let hops = first.len() - 1;
     if is_full(book, 2, hops + (second.len() - 1)) {
@@ -144,10 +253,10 @@ fn open_beside(
     links: &[u64],
     hearing: &[u64],
     first: &[u8],
-    out: &mut [u8],
+    out: &mut [u8; Book::LONGEST],
 ) -> Answer
     requires { ⌜ SecondBeside (now image) (now index) book (theAsked q) place at (now links) (now hearing) (now first) ⌝ }
-    ensures { λ r. ⌜ OpensNew (now (image .entry)) (theAsked q) (now (out .entry)) (r .number) (r .length) (now (out .exit)) ⌝ }
+    ensures { λ r. ⌜ OpensNew (now (image .entry)) (theAsked q) (r .number) (r .length) (now (out .exit)) (now (index .exit)) ⌝ }
 {
     let sought = routes::second::second(links, bitset::ALL, q.source, q.destination, first);
     let found = sought.found;
@@ -180,10 +289,10 @@ pub fn open_routed(
     at: usize,
     links: &[u64],
     first: &[u8],
-    out: &mut [u8],
+    out: &mut [u8; Book::LONGEST],
 ) -> Answer
     requires { ⌜ PlannedBeside (now image) (now index) book (theAsked q) place at (now links) (now first) ⌝ }
-    ensures { λ r. ⌜ OpensNew (now (image .entry)) (theAsked q) (now (out .entry)) (r .number) (r .length) (now (out .exit)) ⌝ }
+    ensures { λ r. ⌜ OpensNew (now (image .entry)) (theAsked q) (r .number) (r .length) (now (out .exit)) (now (index .exit)) ⌝ }
 {
     let hearing = links;
     if q.second {

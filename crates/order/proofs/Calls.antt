@@ -1,26 +1,26 @@
--- A request's call on an image with a full-size buffer is a step on its rows.
+-- A list posted on an image is its requests worked through on the book, and the last image holds the last book.
 use mathlib.Core.Path.{_≡_, refl, sym, ap, _∙_, subst}
-use mathlib.Core.Logic.{inl, inr}
-use mathlib.Core.List.{List, [], _∷_}
-use Prim.Native.Nat.{ℕ, zero, suc}
+use mathlib.Core.Logic.{inl, inr, ⊎-elim}
+use mathlib.Core.List.{List, [], _∷_, _++_}
+use Prim.Native.Nat.{ℕ, zero, suc, _≤_}
 use native.Mathlib.Omega.{arith}
-use native.Mathlib.Nat.{le-refl}
 use lib.ListN.{length, take, drop, replicate, length-replicate}
 use lib.Seq.{take-at}
 use Rattle.rules.specs.Words.{_∈_}
-use Rattle.rules.specs.Says.{Refusal, Says}
 use Rattle.rules.specs.Book.{Site, Book}
-use Rattle.rules.specs.Image.{newest, longestImage, FullSize, imageRefusals, Stored}
-use Rattle.rules.specs.Calls.{OfBook, SaysOf, Wrote, Request, anyMiddle, Made, MadeImage, requestRefusals, Serve}
-use Rattle.rules.specs.Order.{IdInRange, current, Sequence}
-use Rattle.rules.proofs.Says.{says-unique}
-use Rattle.rules.proofs.Encoding.{stored-unique, stored-says}
+use Rattle.rules.specs.Image.{newest, longestImage, FullSize, encode, Stored}
+use Rattle.rules.specs.Calls.{OfBook, SaysOf, Wrote, Request, mostRequests, anyMiddle, Work, InOrder, postRefusals, Posted, Post, Serve}
+use Rattle.rules.specs.Order.{IdInRange, current, Posting}
+use Rattle.rules.proofs.Lists.{in-append, in-left, in-right}
+use Rattle.rules.proofs.Lawful.{same-site, work-site, in-order-site}
+use Rattle.rules.proofs.Encoding.{stored-unique}
 use Rattle.rules.proofs.Bytes.{stored-bytes}
-use Rattle.model.specs.Calls.{serve}
-use Rattle.model.proofs.Calls.{serve-computed}
-use Rattle.order.proofs.Steps.{Rows, on, refusals, Answers, Step}
-use Rattle.order.proofs.Lawful.{same-site, made-site, made-stored}
-use Rattle.order.proofs.Same.{agree-same, says-same}
+use Rattle.rules.proofs.Choice.{work-unique, in-order-unique}
+use Rattle.rules.proofs.Unique.{says-of-unique, zero-in}
+use Rattle.model.specs.Calls.{post}
+use Rattle.model.proofs.Calls.{post-computed}
+use Rattle.order.proofs.Steps.{Rows, on, Step}
+use Rattle.order.proofs.Lawful.{works-lawful, stored-anew}
 
 -- what is true of the book that an image holds is true of the one that it is known to hold
 pub of-stored : {image : List ℕ} {v : ℕ} {b : Book} {P : ℕ → Book → Type 0} → Stored image v b → OfBook image P → P v b
@@ -28,63 +28,161 @@ of-stored {image} {v} {b} {P} s (w, c, t, p) =
     let e = stored-unique image w v c b t s in
     subst (λ (u : ℕ). P u b) (e .0) (subst (λ (x : Book). P w x) (e .1) p)
 
--- what a call says of the book that the image holds
-pub says-on : (image : List ℕ) (v : ℕ) (b : Book) (refusals : ℕ → Book → List Refusal) (n : ℕ) → Stored image v b → SaysOf image refusals n → Says (refusals v b) n
-says-on image v b refusals n s (inl h) = absurd (h .1 (says-unique (imageRefusals image) n 0 (h .0) (stored-says image v b s)))
-says-on image v b refusals n s (inr h) = of-stored {P = λ u x. Says (refusals u x) n} s h
-
 pub taken : {bytes out out′ : List ℕ} {len : ℕ} → Wrote bytes out len out′ → take len out′ ≡ bytes
 taken {bytes} {out} {out′} {len} w = ap (take len) (w .buffer) ∙ take-at bytes (drop (length bytes) out) len (sym (w .length-is))
 
-module _ (site : Site) where
-  -- a step, and the image that then holds its rows: in the newest version where it was done
-  pub record Stepped (v : ℕ) (b : Rows) (q : Request) (n : ℕ) (now : List ℕ) : Type 0 where
-    pub rows : Rows
-    pub step : Step site b q n rows
-    pub version : ℕ
-    pub holds : Stored now version (on site rows)
-    pub written : n ≡ 0 → version ≡ newest
-    pub kept : (n ≡ 0 → ⊥) → version ≡ v
+-- THE CURRENT IMAGE, where one was written and where none was
+pub current-wrote : (image : List ℕ) (c : Book) (out : List ℕ) (len : ℕ) (out′ : List ℕ) → Wrote (encode newest c) out len out′ → current image len out′ ≡ encode newest c
+current-wrote image c out zero out′ w = absurd (omega (arith, w .length-is))
+current-wrote image c out (suc len) out′ w = taken w
 
-  module _ (image : List ℕ) (v : ℕ) (b : Rows) (s : Stored image v (on site b)) (out : List ℕ) (full : FullSize out) where
-    answer : (q : Request) (n : ℕ) → IdInRange q → Says (refusals site (length out) q b) n → Answers site b q n
-    answer q n small =
-        says-same site b b (s .lawful) (s .lawful) q small (agree-same (on site b) q) (length out) (longestImage newest) full (le-refl (longestImage newest)) n
+current-kept : (image : List ℕ) (len : ℕ) (out′ : List ℕ) → len ≡ 0 → current image len out′ ≡ image
+current-kept image zero out′ e = refl
+current-kept image (suc len) out′ e = absurd (omega arith)
 
-    pub stepped : (q : Request) (n len : ℕ) (out′ : List ℕ) → IdInRange q → Serve image q out n len out′ → Stepped v b q n (current n image (take len out′))
-    stepped q n len out′ small h = go n (says-on image v (on site b) (λ v b. requestRefusals (anyMiddle b) q (length out) b) n s (h .says)) (h .done)
+-- A RUN: what a posted list does to the book that the image holds
+pub record Ran (image : List ℕ) (b : Book) (qs : List Request) (answers last : List ℕ) : Type 0 where
+  pub book : Book
+  pub works : InOrder (Work (anyMiddle b)) b qs answers book
+  pub version : ℕ
+  pub holds : Stored last version book
+  pub some : 0 ∈ answers → last ≡ encode newest book
+  pub none : (0 ∈ answers → ⊥) → last ≡ image
+
+-- where no record was done the book is the one before
+none-done : (middle : ℕ) (b : Book) (qs : List Request) (ns : List ℕ) (c : Book) → InOrder (Work middle) b qs ns c → (0 ∈ ns → ⊥) → c ≡ b
+none-done middle b [] [] c w f = w
+none-done middle b [] (n ∷ ns) c w f = absurd w
+none-done middle b (q ∷ qs) [] c w f = absurd w
+none-done middle b (q ∷ qs) (n ∷ ns) c (d, step, rest) f = none-done middle d qs ns c rest (λ z. f (inr z)) ∙ step .refused (λ e. f (inl (sym e)))
+
+module _ {image : List ℕ} {v : ℕ} {b : Book} (s : Stored image v b) (qs : List Request) where
+  -- with a full-size buffer a list of at most 64 is not refused as a whole
+  whole-none : length qs ≤ mostRequests → (out : List ℕ) → FullSize out → (n : ℕ) → SaysOf image (postRefusals (length qs) (length out)) n → n ≡ 0
+  whole-none few out full n h =
+      says-of-unique image (postRefusals (length qs) (length out)) n 0 h (inr (v, b, s, inr (λ k. omega arith, inr (λ k. omega arith, refl))))
+
+  module _ (small : (q : Request) → q ∈ qs → IdInRange q) where
+    ran : (out before : List ℕ) (len : ℕ) (out′ answers : List ℕ) → Post image qs out before 0 len out′ answers → Ran image b qs answers (current image len out′)
+    ran out before len out′ answers p =
+        let (c, w, h) = of-stored {P = λ v b. (c : Book) × InOrder (Work (anyMiddle b)) b qs answers c × Posted answers c out len out′} s (p .done refl) in
+        go c w h (zero-in answers)
       where
-        go : (n : ℕ) → Says (refusals site (length out) q b) n
-            → (n ≡ 0 → (bytes : List ℕ) × OfBook image (λ (v : ℕ) (b : Book). MadeImage (anyMiddle b) b q bytes) × Wrote bytes out len out′)
-            → Stepped v b q n (current n image (take len out′))
-        go zero said done =
-            let (bytes, o, w) = done refl in
-            let (c, g, e) = of-stored {P = λ v b. MadeImage (anyMiddle b) b q bytes} s o in
-            let same : c ≡ on site (c .rows) = sym (same-site (on site b) c (made-site (anyMiddle (on site b)) (on site b) q c g)) in
-            let stored : Stored (take len out′) newest c =
-            subst (λ (t : List ℕ). Stored t newest c) (sym (taken w ∙ e)) (made-stored s (anyMiddle (on site b)) q (length out) small said c g) in
+        go : (c : Book) → InOrder (Work (anyMiddle b)) b qs answers c → Posted answers c out len out′ → Dec (0 ∈ answers) → Ran image b qs answers (current image len out′)
+        go c w h (yes z) =
+            let l = works-lawful (anyMiddle b) b qs answers c w (s .lawful) small in
+            let e = current-wrote image c out len out′ (h .some z) in
             record {
-              rows = c .rows;
-              step = record {
-                says = answer q 0 small said;
-                refused = λ f. absurd (f refl);
-                done = λ z. subst (Made (anyMiddle (on site b)) (on site b) q) same g;
-              };
+              book = c;
+              works = w;
               version = newest;
-              holds = subst (Stored (take len out′) newest) same stored;
-              written = λ z. refl;
-              kept = λ f. absurd (f refl);
+              holds = subst (λ (t : List ℕ). Stored t newest c) (sym e) (stored-anew s c l (in-order-site (anyMiddle b) b qs answers c w));
+              some = λ k. e;
+              none = λ f. absurd (f z);
             }
-        go (suc n) said done = record {
-          rows = b;
-          step = record { says = answer q (suc n) small said; refused = λ f. refl; done = λ z. absurd (omega arith) };
-          version = v;
-          holds = s;
-          written = λ z. absurd (omega arith);
-          kept = λ f. refl;
-        }
+        go c w h (no f) =
+            let e = current-kept image len out′ (h .none f .length-is) in
+            record {
+              book = c;
+              works = w;
+              version = v;
+              holds = subst (λ (t : List ℕ). Stored t v c) (sym e) (subst (Stored image v) (sym (none-done (anyMiddle b) b qs answers c w f)) s);
+              some = λ z. absurd (f z);
+              none = λ k. e;
+            }
 
--- EVERY LIST CAN BE CALLED
+    pub posting-ran : length qs ≤ mostRequests → (n : ℕ) (answers last : List ℕ) → Posting FullSize image qs n answers last → (n ≡ 0) × Ran image b qs answers last
+    posting-ran few n answers last p =
+        let z = whole-none few (p .out) (p .size) n (p .post .says) in
+        let r = ran (p .out) (p .before) (p .len) (p .out′) answers (subst (λ (k : ℕ). Post image qs (p .out) (p .before) k (p .len) (p .out′) answers) z (p .post)) in
+        (z, subst (Ran image b qs answers) (sym (p .last-is)) r)
+
+-- there is one result
+pub ran-unique : {image : List ℕ} {b : Book} {qs : List Request} {ns ms last last′ : List ℕ} → Ran image b qs ns last → Ran image b qs ms last′
+    → (ns ≡ ms) × (last ≡ last′)
+ran-unique {image} {b} {qs} {ns} {ms} {last} {last′} r r′ =
+    let u = in-order-unique (Work (anyMiddle b)) (work-unique (anyMiddle b)) b qs ns ms (r .book) (r′ .book) (r .works) (r′ .works) in
+    (u .0, same (u .0) (u .1) (zero-in ns))
+  where
+    same : ns ≡ ms → r .book ≡ r′ .book → Dec (0 ∈ ns) → last ≡ last′
+    same e d (yes z) = r .some z ∙ ap (encode newest) d ∙ sym (r′ .some (subst (λ (ks : List ℕ). 0 ∈ ks) e z))
+    same e d (no f) = r .none f ∙ sym (r′ .none (λ z. f (subst (λ (ks : List ℕ). 0 ∈ ks) (sym e) z)))
+
+-- ONE LIST AFTER THE OTHER
+in-order-joined : (Step : Book → Request → ℕ → Book → Type 0) (b : Book) (qs ps : List Request) (ns ms : List ℕ) (c d : Book)
+    → InOrder Step b qs ns c → InOrder Step c ps ms d → InOrder Step b (qs ++ ps) (ns ++ ms) d
+in-order-joined Step b [] ps [] ms c d g h = subst (λ (x : Book). InOrder Step x ps ms d) g h
+in-order-joined Step b [] ps (n ∷ ns) ms c d g h = absurd g
+in-order-joined Step b (q ∷ qs) ps [] ms c d g h = absurd g
+in-order-joined Step b (q ∷ qs) ps (n ∷ ns) ms c d (x, step, rest) h = (x, step, in-order-joined Step x qs ps ns ms c d rest h)
+
+pub ran-joined : {image : List ℕ} {b : Book} {qs ps : List Request} {ns ms between last : List ℕ} (r : Ran image b qs ns between) → r .book .site ≡ b .site
+    → Ran between (r .book) ps ms last → Ran image b (qs ++ ps) (ns ++ ms) last
+ran-joined {image} {b} {qs} {ps} {ns} {ms} {between} {last} r e t = record {
+  book = t .book;
+  works = in-order-joined (Work (anyMiddle b)) b qs ps ns ms (r .book) (t .book) (r .works) works;
+  version = t .version;
+  holds = t .holds;
+  some = λ z. ⊎-elim (written (zero-in ms)) (t .some) (in-append 0 ns ms z);
+  none = λ f. t .none (λ z. f (in-right 0 ns ms z)) ∙ r .none (λ z. f (in-left 0 ns ms z));
+}
+  where
+    works : InOrder (Work (anyMiddle b)) (r .book) ps ms (t .book)
+    works = subst (λ (s : Site). InOrder (Work (anyMiddle (record { site = s; rows = [] }))) (r .book) ps ms (t .book)) e (t .works)
+
+    written : Dec (0 ∈ ms) → 0 ∈ ns → last ≡ encode newest (t .book)
+    written (yes z) k = t .some z
+    written (no f) k = t .none f ∙ r .some k ∙ ap (encode newest) (sym (none-done (anyMiddle (r .book)) (r .book) ps ms (t .book) (t .works) f))
+
+-- A LIST OF ONE
+pub ran-one : {image : List ℕ} {b : Book} {q : Request} (answers : List ℕ) {last : List ℕ} (r : Ran image b (q ∷ []) answers last)
+    → (n : ℕ) × (answers ≡ n ∷ []) × Work (anyMiddle b) b q n (r .book)
+ran-one {image} {b} {q} answers r = go answers (r .works)
+  where
+    go : (ns : List ℕ) → InOrder (Work (anyMiddle b)) b (q ∷ []) ns (r .book) → (n : ℕ) × (ns ≡ n ∷ []) × Work (anyMiddle b) b q n (r .book)
+    go [] w = absurd w
+    go (n ∷ []) (d, step, e) = (n, refl, subst (Work (anyMiddle b) b q n) (sym e) step)
+    go (n ∷ m ∷ ns) (d, step, e) = absurd e
+
+only : {q : Request} → IdInRange q → (x : Request) → x ∈ (q ∷ []) → IdInRange x
+only small x (inl e) = subst IdInRange (sym e) small
+only small x (inr m) = absurd m
+
+-- a single call with a full-size buffer is a list of one
+pub served-ran : {image : List ℕ} {v : ℕ} {b : Book} → Stored image v b → (q : Request) → IdInRange q
+    → (out : List ℕ) → FullSize out → (n len : ℕ) (out′ : List ℕ) → Serve image q out n len out′ → Ran image b (q ∷ []) (n ∷ []) (current image len out′)
+served-ran {image} {v} {b} s q small out full n len out′ h =
+    let z = whole-none s (q ∷ []) (omega arith) out full (h .whole) (h .posted .says) in
+    let p : Post image (q ∷ []) out (0 ∷ []) 0 len out′ (n ∷ []) =
+    subst (λ (k : ℕ). Post image (q ∷ []) out (0 ∷ []) 0 len out′ (k ∷ [])) (sym (h .done z))
+    (subst (λ (k : ℕ). Post image (q ∷ []) out (0 ∷ []) k len out′ (h .answer ∷ [])) z (h .posted)) in
+    ran s (q ∷ []) (only small) out (0 ∷ []) len out′ (n ∷ []) p
+
+-- a step on the rows, and the image that then holds them
+pub record Alone (b : Book) (q : Request) (answers last : List ℕ) : Type 0 where
+  pub answer : ℕ
+  pub answers-are : answers ≡ answer ∷ []
+  pub rows : Rows
+  pub step : Step (b .site) (b .rows) q answer rows
+  pub version : ℕ
+  pub holds : Stored last version (on (b .site) rows)
+
+pub alone : {image : List ℕ} {v : ℕ} {b : Book} → Stored image v b → (q : Request) → IdInRange q
+    → (n : ℕ) (answers last : List ℕ) → Posting FullSize image (q ∷ []) n answers last → Alone b q answers last
+alone {b = b} s q small n answers last p =
+    let r = posting-ran s (q ∷ []) (only small) (omega arith) n answers last p .1 in
+    let (m, e, w) = ran-one answers r in
+    let same : r .book ≡ on (b .site) (r .book .rows) = sym (same-site b (r .book) (work-site (anyMiddle b) b q m (r .book) w)) in
+    record {
+      answer = m;
+      answers-are = e;
+      rows = r .book .rows;
+      step = subst (Work (anyMiddle b) b q m) same w;
+      version = r .version;
+      holds = subst (Stored last (r .version)) same (r .holds);
+    }
+
+-- EVERY LIST CAN BE POSTED
 zeros : List ℕ
 zeros = replicate (longestImage newest) 0
 
@@ -92,12 +190,20 @@ zeros-full : FullSize zeros
 unfolding zeros
 zeros-full = let e : length zeros ≡ longestImage newest = length-replicate {A = ℕ} (longestImage newest) 0 in omega arith
 
-pub some-sequence : (image : List ℕ) (v : ℕ) (b : Book) (qs : List Request) → Stored image v b → ((q : Request) → q ∈ qs → IdInRange q)
-    → (ns last : List ℕ) × Sequence FullSize image qs ns last
-some-sequence image v b [] s small = ([], image, refl)
-some-sequence image v b (q ∷ qs) s small =
-    let r = serve image q zeros in
-    let call : Serve image q zeros (r .number) (r .len) (r .out) = serve-computed image (stored-bytes image v b s) q zeros in
-    let d = stepped (b .site) image v (b .rows) s zeros zeros-full q (r .number) (r .len) (r .out) (small q (inl refl)) call in
-    let t = some-sequence (current (r .number) image (take (r .len) (r .out))) (d .version) (on (b .site) (d .rows)) qs (d .holds) (λ v m. small v (inr m)) in
-    (r .number ∷ t .0, t .1, (zeros, r .out, r .len, zeros-full, call, t .2))
+pub some-posting : {image : List ℕ} {v : ℕ} {b : Book} → Stored image v b → (qs : List Request) → length qs ≤ mostRequests
+    → (answers last : List ℕ) × Posting FullSize image qs 0 answers last
+some-posting {image} {v} {b} s qs few =
+    let r = post image qs zeros [] in
+    let call = post-computed image (stored-bytes image v b s) zeros qs [] in (
+      r .answers,
+      current image (r .whole .len) (r .whole .out),
+      record {
+        out = zeros;
+        out′ = r .whole .out;
+        before = [];
+        len = r .whole .len;
+        size = zeros-full;
+        post = subst (λ (n : ℕ). Post image qs zeros [] n (r .whole .len) (r .whole .out) (r .answers)) (whole-none s qs few zeros zeros-full (r .whole .number) (call .says)) call;
+        last-is = refl;
+      },
+    )

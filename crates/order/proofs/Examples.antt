@@ -1,44 +1,53 @@
 -- The premises of demand 3 can be met, and each is needed.
-use mathlib.Core.Path.{_≡_, refl, subst}
+use mathlib.Core.Path.{_≡_, refl, sym, ap, _∙_, subst}
 use mathlib.Core.Logic.{inl, inr}
 use mathlib.Core.Bool.{not}
-use mathlib.Core.List.{List, [], _∷_}
-use Prim.Native.Nat.{ℕ}
+use mathlib.Core.List.{List, [], _∷_, _++_}
+use Prim.Native.Nat.{ℕ, _-_}
 use native.Mathlib.Omega.{arith}
 use lib.Dec.{T}
-use lib.ListN.{length, replicate}
-use Rattle.rules.specs.Words.{_∈_}
+use lib.ListN.{length, getD, replicate}
+use Rattle.rules.specs.Words.{_∈_, With}
 use Rattle.rules.specs.Words.With.{here, there}
 use Rattle.rules.specs.Words.Reordered.{none, put}
 use Rattle.rules.specs.Book.{Book}
 use Rattle.rules.specs.Image.{newest, longestImage, FullSize, encode, Stored}
-use Rattle.rules.specs.Calls.{Request, Serve}
+use Rattle.rules.specs.Calls.{Request}
 use Rattle.rules.specs.Calls.Request.{Close}
-use Rattle.rules.specs.Order.{Sequence, InAnyOrder}
-use Rattle.rules.proofs.Reading.{withRows}
+use Rattle.rules.specs.Order.{Posting, InAnyOrder}
 use Rattle.rules.proofs.Tests.{tests-not, tests-eq, tests-le}
+use Rattle.rules.proofs.Lists.{reordered-same}
 use Rattle.model.specs.Test.{same}
 use Rattle.model.specs.Examples.{lineA, pair, empty, opening, openingTwo}
 use Rattle.model.proofs.Tests.{tests-same}
-use Rattle.order.specs.Examples.{image, before, after, requests, backwards, beforeBoth, afterBoth, onBoth, onBothBack, Kept}
-use Rattle.order.specs.Examples.{oneHop, BothOrders, twoPairs, ring, goneRound, goneAcross, nearlyFull, nowFull, oneMore, Decides}
+use Rattle.order.specs.Examples.{image, JustFull, before, after, requests, backwards, beforeBoth, afterBoth, onBoth, onBothBack, Met, Kept}
+use Rattle.order.specs.Examples.{nearlyFull, fullWith, closes, threes, longOnes, shortAfter, onLong, onLongBack, BothOrders, ring, goneRound, goneAcross, oneMore, Decides}
 use Rattle.order.specs.Needed.{RoomForDone, Needed}
 use Rattle.order.proofs.Same.{agree-same}
+use Rattle.order.proofs.Calls.{some-posting}
 use Rattle.order.proofs.AnyOrder.{any-order}
 use Rattle.order.proofs.Depends.{depends}
-use Rattle.order.proofs.Premises.{so, runs, held, small, different, apart, firsts-apart, no-node, room, room-for-one, ran}
+use Rattle.order.proofs.Premises.{so, posts, held, sound-links, small, different, apart, firsts-apart, no-node, room, room-for-one, posted, worked}
+use Rattle.order.proofs.Long.{long-held}
 
 abbrev zeros : ℕ → List ℕ
 zeros n = replicate n 0
 
+just-full : JustFull (zeros (longestImage newest))
+just-full = tests-eq (length (zeros (longestImage newest))) (longestImage newest) .yes (so tt)
+
 full : FullSize (zeros (longestImage newest))
-full = tests-le (longestImage newest) (length (zeros (longestImage newest))) .yes (so tt)
+full = omega (arith, just-full)
 
 -- ALL PREMISES KEPT
 
--- computed calls, each with a full-size buffer and no byte more
-calls : (image : List ℕ) (qs : List Request) (ns last : List ℕ) → T (runs (zeros (longestImage newest)) image qs ns last) → Sequence FullSize image qs ns last
-calls = ran FullSize (zeros (longestImage newest)) full
+-- computed with a full-size buffer and no byte more
+justly : (image : List ℕ) (qs : List Request) (ns last : List ℕ) → T (posts (zeros (longestImage newest)) image qs 0 ns last) → Posting JustFull image qs 0 ns last
+justly image qs = posted JustFull (zeros (longestImage newest)) just-full image qs 0
+
+with-end : {A : Type 0} (x : A) (xs : List A) → With x xs (xs ++ (x ∷ []))
+with-end x [] = here
+with-end x (y ∷ xs) = there (with-end x xs)
 
 before-held : Stored (encode 1 before) 1 before
 before-held = held 1 before refl tt
@@ -46,140 +55,198 @@ before-held = held 1 before refl tt
 both-held : Stored (image beforeBoth) newest beforeBoth
 both-held = held newest beforeBoth refl tt
 
+nearly : Stored (image nearlyFull) newest nearlyFull
+nearly = held newest nearlyFull refl tt
+
+abbrev atLimits : List Request
+atLimits = openingTwo 65535 2 5 100 ∷ closes 63 62
+
 pub kept : Kept
 kept = record {
   old = record {
     held = before-held;
+    most = omega arith;
     small = small requests tt;
     ids = different requests tt;
-    apart = apart before (before-held .lawful) requests tt;
-    room = room before (before-held .lawful) requests tt;
+    apart = apart before (sound-links before-held) requests tt;
+    room = room before (sound-links before-held) requests tt;
     reordered = put (put (put (put (put none here) (there here)) (there (there here))) (there (there (there here)))) (there (there (there (there here))));
-    forth = calls (encode 1 before) requests (0 ∷ 0 ∷ 9 ∷ 3 ∷ 7 ∷ []) (image after) tt;
-    back = calls (encode 1 before) backwards (7 ∷ 3 ∷ 9 ∷ 0 ∷ 0 ∷ []) (image after) tt;
+    forth = justly (encode 1 before) requests (0 ∷ 0 ∷ 9 ∷ 3 ∷ 7 ∷ []) (image after) tt;
+    back = justly (encode 1 before) backwards (7 ∷ 3 ∷ 9 ∷ 0 ∷ 0 ∷ []) (image after) tt;
   };
   refused = record {
     held = before-held;
+    most = omega arith;
     small = small (opening 6 5 4 1 ∷ Close 9 ∷ []) tt;
     ids = different (opening 6 5 4 1 ∷ Close 9 ∷ []) tt;
-    apart = apart before (before-held .lawful) (opening 6 5 4 1 ∷ Close 9 ∷ []) tt;
-    room = room before (before-held .lawful) (opening 6 5 4 1 ∷ Close 9 ∷ []) tt;
+    apart = apart before (sound-links before-held) (opening 6 5 4 1 ∷ Close 9 ∷ []) tt;
+    room = room before (sound-links before-held) (opening 6 5 4 1 ∷ Close 9 ∷ []) tt;
     reordered = put (put none here) (there here);
-    forth = calls (encode 1 before) (opening 6 5 4 1 ∷ Close 9 ∷ []) (9 ∷ 3 ∷ []) (encode 1 before) tt;
-    back = calls (encode 1 before) (Close 9 ∷ opening 6 5 4 1 ∷ []) (3 ∷ 9 ∷ []) (encode 1 before) tt;
+    forth = justly (encode 1 before) (opening 6 5 4 1 ∷ Close 9 ∷ []) (9 ∷ 3 ∷ []) (encode 1 before) tt;
+    back = justly (encode 1 before) (Close 9 ∷ opening 6 5 4 1 ∷ []) (3 ∷ 9 ∷ []) (encode 1 before) tt;
   };
   seconds = record {
     held = both-held;
+    most = omega arith;
     small = small onBoth tt;
     ids = different onBoth tt;
-    apart = apart beforeBoth (both-held .lawful) onBoth tt;
-    room = room beforeBoth (both-held .lawful) onBoth tt;
+    apart = apart beforeBoth (sound-links both-held) onBoth tt;
+    room = room beforeBoth (sound-links both-held) onBoth tt;
     reordered = put (put (put none here) (there here)) (there (there here));
-    forth = calls (encode newest beforeBoth) onBoth (0 ∷ 0 ∷ 18 ∷ []) (image afterBoth) tt;
-    back = calls (encode newest beforeBoth) onBothBack (18 ∷ 0 ∷ 0 ∷ []) (image afterBoth) tt;
+    forth = justly (encode newest beforeBoth) onBoth (0 ∷ 0 ∷ 18 ∷ []) (image afterBoth) tt;
+    back = justly (encode newest beforeBoth) onBothBack (18 ∷ 0 ∷ 0 ∷ []) (image afterBoth) tt;
+  };
+  limits = record {
+    held = nearly;
+    most = tests-le (length atLimits) 64 .yes (so tt);
+    small = small atLimits tt;
+    ids = different atLimits tt;
+    apart = apart nearlyFull (sound-links nearly) atLimits tt;
+    room = room nearlyFull (sound-links nearly) atLimits tt;
+    reordered = put (reordered-same (closes 63 62)) (with-end (openingTwo 65535 2 5 100) (closes 63 62));
+    forth = justly (image nearlyFull) atLimits (0 ∷ threes 63) (image (fullWith 65535)) tt;
+    back = justly (image nearlyFull) (closes 63 62 ++ (openingTwo 65535 2 5 100 ∷ [])) (threes 63 ++ (0 ∷ [])) (image (fullWith 65535)) tt;
+  };
+  hops = record {
+    held = long-held;
+    most = omega arith;
+    small = small onLong tt;
+    ids = different onLong tt;
+    apart = apart longOnes (sound-links long-held) onLong tt;
+    room = room longOnes (sound-links long-held) onLong tt;
+    reordered = put (put none here) (there here);
+    forth = worked JustFull (zeros (longestImage newest)) just-full full long-held onLong (omega arith) (0 ∷ 0 ∷ []) (image shortAfter) (inl refl) tt;
+    back = worked JustFull (zeros (longestImage newest)) just-full full long-held onLongBack (omega arith) (0 ∷ 0 ∷ []) (image shortAfter) (inl refl) tt;
   };
 }
 
+met : {v : ℕ} {b : Book} {qs ps : List Request} {ns last ms : List ℕ} → Met v b qs ns last ps ms → InAnyOrder FullSize (encode v b) qs
+met {v} {b} {qs} m = any-order (encode v b) v b qs (m .held) (m .most) (m .small) (m .ids) (m .apart) (m .room)
+
 pub kept-in-any-order : InAnyOrder FullSize (encode 1 before) requests × InAnyOrder FullSize (image beforeBoth) onBoth
-kept-in-any-order =
-    let o = kept .old in
-    let s = kept .seconds in (
-      any-order (encode 1 before) 1 before requests (o .held) (o .small) (o .ids) (o .apart) (o .room),
-      any-order (image beforeBoth) newest beforeBoth onBoth (s .held) (s .small) (s .ids) (s .apart) (s .room),
-    )
+    × InAnyOrder FullSize (image nearlyFull) atLimits × InAnyOrder FullSize (image longOnes) onLong
+kept-in-any-order = (met (kept .old), met (kept .seconds), met (kept .limits), met (kept .hops))
 
 -- ALL BUT ONE
-both : (Size : List ℕ → Type 0) (n : ℕ) → Size (zeros n) → (b : Book) (q q′ : Request) (ns : List ℕ) (last : Book) (ns′ : List ℕ) (last′ : Book)
-    → T (runs (zeros n) (image b) (q ∷ q′ ∷ []) ns (image last)) → T (runs (zeros n) (image b) (q′ ∷ q ∷ []) ns′ (image last′)) → BothOrders Size b q q′ ns last ns′ last′
-both Size n fit b q q′ ns last ns′ last′ h h′ = record {
-  forth = ran Size (zeros n) fit (image b) (q ∷ q′ ∷ []) ns (image last) h;
-  back = ran Size (zeros n) fit (image b) (q′ ∷ q ∷ []) ns′ (image last′) h′;
+fully : (image : List ℕ) (qs : List Request) (n : ℕ) (ns last : List ℕ) → T (posts (zeros (longestImage newest)) image qs n ns last) → Posting FullSize image qs n ns last
+fully = posted FullSize (zeros (longestImage newest)) full
+
+both : {b : Book} {q q′ : Request} {ns : List ℕ} {last : Book} {ns′ : List ℕ} {last′ : Book} → T (posts (zeros (longestImage newest)) (image b) (q ∷ q′ ∷ []) 0 ns (image last))
+    → T (posts (zeros (longestImage newest)) (image b) (q′ ∷ q ∷ []) 0 ns′ (image last′)) → BothOrders b q q′ ns last ns′ last′
+both {b} {q} {q′} {ns} {last} {ns′} {last′} h h′ = record {
+  forth = fully (image b) (q ∷ q′ ∷ []) 0 ns (image last) h;
+  back = fully (image b) (q′ ∷ q ∷ []) 0 ns′ (image last′) h′;
 }
 
--- with full-size buffers; the books are given by name, since those found from the type are written out, at forty times the cost
-orders : (b : Book) (q q′ : Request) (ns : List ℕ) (last : Book) (ns′ : List ℕ) (last′ : Book)
-    → T (runs (zeros (longestImage newest)) (image b) (q ∷ q′ ∷ []) ns (image last))
-    → T (runs (zeros (longestImage newest)) (image b) (q′ ∷ q ∷ []) ns′ (image last′)) → BothOrders FullSize b q q′ ns last ns′ last′
-orders = both FullSize (longestImage newest) full
+seconds-decide : BothOrders (empty ring) (openingTwo 1 0 1 2) (opening 2 5 6 2) (0 ∷ 0 ∷ []) goneRound (0 ∷ 9 ∷ []) goneAcross
+seconds-decide = record {
+  forth = fully (image (empty ring)) (openingTwo 1 0 1 2 ∷ opening 2 5 6 2 ∷ []) 0 (0 ∷ 0 ∷ []) (image goneRound) tt;
+  back = fully (image (empty ring)) (opening 2 5 6 2 ∷ openingTwo 1 0 1 2 ∷ []) 0 (0 ∷ 9 ∷ []) (image goneAcross) tt;
+}
+
+room-decides : BothOrders nearlyFull (openingTwo 63 2 5 100) (opening 65 0 1 1) (0 ∷ 8 ∷ []) (fullWith 63) (9 ∷ 0 ∷ []) (fullWith 63)
+room-decides = record {
+  forth = fully (image nearlyFull) (openingTwo 63 2 5 100 ∷ opening 65 0 1 1 ∷ []) 0 (0 ∷ 8 ∷ []) (image (fullWith 63)) tt;
+  back = fully (image nearlyFull) (opening 65 0 1 1 ∷ openingTwo 63 2 5 100 ∷ []) 0 (9 ∷ 0 ∷ []) (image (fullWith 63)) tt;
+}
+
+rows-decide : BothOrders nearlyFull (openingTwo 63 2 5 100) (opening 64 0 1 100) (0 ∷ 8 ∷ []) (fullWith 63) (0 ∷ 8 ∷ []) oneMore
+rows-decide = record {
+  forth = fully (image nearlyFull) (openingTwo 63 2 5 100 ∷ opening 64 0 1 100 ∷ []) 0 (0 ∷ 8 ∷ []) (image (fullWith 63)) tt;
+  back = fully (image nearlyFull) (opening 64 0 1 100 ∷ openingTwo 63 2 5 100 ∷ []) 0 (0 ∷ 8 ∷ []) (image oneMore) tt;
+}
+
+-- a byte less than full size
+abbrev short : ℕ
+short = longestImage newest - 1
 
 pub decides : Decides
 decides = record {
-  ids = orders (empty pair) (opening 1 0 1 2) (Close 1) (0 ∷ 0 ∷ []) (empty pair) (3 ∷ 0 ∷ []) (withRows (empty pair) (oneHop 1 2 0 1 2 ∷ [])) tt tt;
-  hearing = orders (empty lineA) (opening 1 0 1 1) (opening 2 2 3 1)
-      (0 ∷ 0 ∷ []) (withRows (empty lineA) (oneHop 1 1 0 1 2 ∷ oneHop 2 1 2 3 3 ∷ []))
-      (0 ∷ 0 ∷ []) (withRows (empty lineA) (oneHop 1 1 0 1 3 ∷ oneHop 2 1 2 3 2 ∷ [])) tt tt;
-  seconds = orders (empty ring) (openingTwo 1 0 1 2) (opening 2 5 6 2) (0 ∷ 0 ∷ []) goneRound (0 ∷ 9 ∷ []) goneAcross tt tt;
-  room = orders nearlyFull (openingTwo 63 2 5 100) (opening 65 0 1 1) (0 ∷ 8 ∷ []) nowFull (9 ∷ 0 ∷ []) nowFull tt tt;
-  rows = orders nearlyFull (openingTwo 63 2 5 100) (opening 64 0 1 100) (0 ∷ 8 ∷ []) nowFull (0 ∷ 8 ∷ []) oneMore tt tt;
-  full-size = both (λ (out : List ℕ). length out ≡ 57) 57 (tests-eq (length (zeros 57)) 57 .yes (so tt)) (empty twoPairs) (opening 1 0 1 2) (opening 2 2 3 2)
-      (0 ∷ 12 ∷ []) (withRows (empty twoPairs) (oneHop 1 2 0 1 2 ∷ [])) (0 ∷ 12 ∷ []) (withRows (empty twoPairs) (oneHop 2 2 2 3 2 ∷ [])) tt tt;
+  ids = both tt tt;
+  hearing = both tt tt;
+  seconds = seconds-decide;
+  room = room-decides;
+  rows = rows-decide;
+  most = fully (image (empty pair)) (closes 65 0) 26 (threes 65) (image (empty pair)) tt;
+  full-size = posted (λ out. length out ≡ short) (zeros short) (tests-eq (length (zeros short)) short .yes (so tt)) (image (empty pair)) (opening 1 0 1 2 ∷ []) 12 (0 ∷ [])
+      (image (empty pair)) tt;
 }
 
 -- in any order they would come to one book, and the second would be answered as alone
-module _ {Size : List ℕ → Type 0} {b : Book} {q q′ : Request} (i : InAnyOrder Size (image b) (q ∷ q′ ∷ [])) where
-  one-last : {ns ns′ : List ℕ} {last last′ : Book} → BothOrders Size b q q′ ns last ns′ last′ → image last ≡ image last′
-  one-last {ns} {ns′} {last} {last′} h =
-      i .one (q ∷ q′ ∷ []) (q′ ∷ q ∷ []) ns ns′ (image last) (image last′) (put (put none here) here) (put (put none here) (there here)) (h .forth) (h .back)
+module _ {b : Book} {q q′ : Request} (h : Stored (image b) newest b) (i : InAnyOrder FullSize (image b) (q ∷ q′ ∷ [])) where
+  one-last : {ns ns′ : List ℕ} {last last′ : Book} → BothOrders b q q′ ns last ns′ last′ → image last ≡ image last′
+  one-last {ns} {ns′} {last} {last′} o =
+      i .one (q ∷ q′ ∷ []) (q′ ∷ q ∷ []) 0 0 ns ns′ (image last) (image last′) (put (put none here) here) (put (put none here) (there here)) (o .forth) (o .back)
 
-  one-number : {n m n′ m′ : ℕ} {last last′ : Book} → BothOrders Size b q q′ (n ∷ m ∷ []) last (m′ ∷ n′ ∷ []) last′ → m ≡ m′
-  one-number {n} {m} {n′} {m′} {last} {last′} h =
-      let (out, out′, len, fit, call, rest) = h .back in
-      i .each (q ∷ q′ ∷ []) (n ∷ m ∷ []) (image last) (put (put none here) here) (h .forth) .1 .0 out m′ len out′ fit call .0
+  one-answer : {n m n′ m′ : ℕ} {last last′ : Book} → BothOrders b q q′ (n ∷ m ∷ []) last (m′ ∷ n′ ∷ []) last′ → m ≡ m′
+  one-answer {n} {m} {n′} {m′} {last} {last′} o =
+      let (answers, alone, p) = some-posting h (q′ ∷ []) (omega arith) in
+      let f = i .each (q ∷ q′ ∷ []) 0 (n ∷ m ∷ []) (image last) (put (put none here) here) (o .forth) .1 .1 .0 0 answers alone p .0 in
+      let g = i .each (q′ ∷ q ∷ []) 0 (m′ ∷ n′ ∷ []) (image last′) (put (put none here) (there here)) (o .back) .1 .0 0 answers alone p .0 in
+      ap (λ (ns : List ℕ). getD ns 0 0) (sym f ∙ g)
 
 pub unlike : {xs ys : List ℕ} → T (not (same xs ys)) → xs ≡ ys → ⊥
 unlike {xs} {ys} t = tests-not (tests-same xs ys) .yes (so t)
 
-nearly : Stored (image nearlyFull) newest nearlyFull
-nearly = held newest nearlyFull refl tt
+pair-held : Stored (image (empty pair)) newest (empty pair)
+pair-held = held newest (empty pair) refl tt
 
 room-for-done : RoomForDone (image nearlyFull) nearlyFull (openingTwo 63 2 5 100 ∷ opening 65 0 1 1 ∷ [])
-room-for-done = record { done = openingTwo 63 2 5 100 ∷ []; all-done = done; room = room nearlyFull (nearly .lawful) (openingTwo 63 2 5 100 ∷ []) tt }
+room-for-done = record { done = openingTwo 63 2 5 100 ∷ []; all-done = done; room = room nearlyFull (sound-links nearly) (openingTwo 63 2 5 100 ∷ []) tt }
   where
-    not-done : (out : List ℕ) (len : ℕ) (out′ : List ℕ) → FullSize out → Serve (image nearlyFull) (opening 65 0 1 1) out 0 len out′ → ⊥
-    not-done out len out′ fit call =
-        let (o, o′, l, fit′, call′, rest) = decides .room .back in
-        let e : _≡_ {A = ℕ} 0 9 =
-        depends (image nearlyFull) (image nearlyFull) newest newest nearlyFull nearlyFull (opening 65 0 1 1) nearly nearly (omega arith)
-        (agree-same nearlyFull (opening 65 0 1 1)) out o 0 9 len l out′ o′ fit fit′ call call′ .0 in
+    not-done : (last : List ℕ) → Posting FullSize (image nearlyFull) (opening 65 0 1 1 ∷ []) 0 (0 ∷ []) last → ⊥
+    not-done last p =
+        let nine : Posting FullSize (image nearlyFull) (opening 65 0 1 1 ∷ []) 0 (9 ∷ []) (image nearlyFull) =
+        fully (image nearlyFull) (opening 65 0 1 1 ∷ []) 0 (9 ∷ []) (image nearlyFull) tt in
+        let e : _≡_ {A = ℕ} 0 9 = ap (λ (ns : List ℕ). getD ns 0 0)
+        (depends (image nearlyFull) (image nearlyFull) newest newest nearlyFull nearlyFull (opening 65 0 1 1) nearly nearly (omega arith)
+        (agree-same nearlyFull (opening 65 0 1 1)) 0 0 (0 ∷ []) (9 ∷ []) last (image nearlyFull) p nine .0) in
         omega arith
 
-    done : (q : Request) → q ∈ (openingTwo 63 2 5 100 ∷ opening 65 0 1 1 ∷ []) → (out : List ℕ) (len : ℕ) (out′ : List ℕ) → FullSize out
-        → Serve (image nearlyFull) q out 0 len out′ → q ∈ (openingTwo 63 2 5 100 ∷ [])
-    done q (inl e) out len out′ fit call = inl e
-    done q (inr (inl e)) out len out′ fit call = absurd (not-done out len out′ fit (subst (λ (v : Request). Serve (image nearlyFull) v out 0 len out′) e call))
-    done q (inr (inr m)) out len out′ fit call = absurd m
+    done : (q : Request) → q ∈ (openingTwo 63 2 5 100 ∷ opening 65 0 1 1 ∷ []) → (last : List ℕ) → Posting FullSize (image nearlyFull) (q ∷ []) 0 (0 ∷ []) last
+        → q ∈ (openingTwo 63 2 5 100 ∷ [])
+    done q (inl e) last p = inl e
+    done q (inr (inl e)) last p = absurd (not-done last (subst (λ (v : Request). Posting FullSize (image nearlyFull) (v ∷ []) 0 (0 ∷ []) last) e p))
+    done q (inr (inr m)) last p = absurd m
 
 pub needed : Needed
 needed = record {
+  most = λ f.
+      let qs : List Request = closes 65 0 in
+      let b : Book = empty pair in
+      let i = f (image b) newest b qs pair-held (small qs tt) (different qs tt) (apart b (sound-links pair-held) qs tt) (room b (sound-links pair-held) qs tt) in
+      let e : _≡_ {A = ℕ} 26 0 = i .each qs 26 (threes 65) (image b) (reordered-same qs) (decides .most) .0 in
+      omega arith;
   ids = λ f.
       let qs : List Request = opening 1 0 1 2 ∷ Close 1 ∷ [] in
       let b : Book = empty pair in
-      let h : Stored (image b) newest b = held newest b refl tt in
-      unlike tt (one-last (f (image b) newest b qs h (small qs tt) (apart b (h .lawful) qs tt) (room b (h .lawful) qs tt)) (decides .ids));
+      let i = f (image b) newest b qs pair-held (omega arith) (small qs tt) (apart b (sound-links pair-held) qs tt) (room b (sound-links pair-held) qs tt) in
+      unlike tt (one-last pair-held i (decides .ids));
   hearing = λ f.
       let qs : List Request = opening 1 0 1 1 ∷ opening 2 2 3 1 ∷ [] in
       let b : Book = empty lineA in
       let h : Stored (image b) newest b = held newest b refl tt in
-      unlike tt (one-last (f (image b) newest b qs h (small qs tt) (different qs tt) (no-node b (h .lawful) qs tt) (room b (h .lawful) qs tt)) (decides .hearing));
+      unlike tt (one-last h (f (image b) newest b qs h (omega arith) (small qs tt) (different qs tt) (no-node b (sound-links h) qs tt) (room b (sound-links h) qs tt)) (decides .hearing));
   seconds = λ f.
       let qs : List Request = openingTwo 1 0 1 2 ∷ opening 2 5 6 2 ∷ [] in
       let b : Book = empty ring in
       let h : Stored (image b) newest b = held newest b refl tt in
-      unlike tt (one-last (f (image b) newest b qs h (small qs tt) (different qs tt) (firsts-apart b (h .lawful) qs tt) (room b (h .lawful) qs tt)) (decides .seconds));
+      unlike tt (one-last h (f (image b) newest b qs h (omega arith) (small qs tt) (different qs tt) (firsts-apart b (sound-links h) qs tt) (room b (sound-links h) qs tt)) seconds-decide);
   room = λ f.
       let qs : List Request = openingTwo 63 2 5 100 ∷ opening 65 0 1 1 ∷ [] in
-      let i = f (image nearlyFull) newest nearlyFull qs nearly (small qs tt) (different qs tt) (apart nearlyFull (nearly .lawful) qs tt) room-for-done in
-      let e : _≡_ {A = ℕ} 8 9 = one-number i (decides .room) in
+      let i = f (image nearlyFull) newest nearlyFull qs nearly (omega arith) (small qs tt) (different qs tt) (apart nearlyFull (sound-links nearly) qs tt) room-for-done in
+      let e : _≡_ {A = ℕ} 8 9 = one-answer nearly i room-decides in
       omega arith;
   rows = λ f.
       let qs : List Request = openingTwo 63 2 5 100 ∷ opening 64 0 1 100 ∷ [] in
-      let fit = room-for-one nearlyFull (nearly .lawful) qs tt in
-      let i = f (image nearlyFull) newest nearlyFull qs nearly (small qs tt) (different qs tt) (apart nearlyFull (nearly .lawful) qs tt) fit in
-      let e : _≡_ {A = ℕ} 8 0 = one-number i (decides .rows) in
+      let fit = room-for-one nearlyFull (sound-links nearly) qs tt in
+      let i = f (image nearlyFull) newest nearlyFull qs nearly (omega arith) (small qs tt) (different qs tt) (apart nearlyFull (sound-links nearly) qs tt) fit in
+      let e : _≡_ {A = ℕ} 8 0 = one-answer nearly i rows-decide in
       omega arith;
   full-size = λ f.
-      let qs : List Request = opening 1 0 1 2 ∷ opening 2 2 3 2 ∷ [] in
-      let b : Book = empty twoPairs in
-      let h : Stored (image b) newest b = held newest b refl tt in
-      unlike tt (one-last (f 57 (image b) newest b qs h (small qs tt) (different qs tt) (apart b (h .lawful) qs tt) (room b (h .lawful) qs tt)) (decides .full-size));
+      let qs : List Request = opening 1 0 1 2 ∷ [] in
+      let b : Book = empty pair in
+      let i = f short (image b) newest b qs pair-held (omega arith) (small qs tt) (different qs tt) (apart b (sound-links pair-held) qs tt) (room b (sound-links pair-held) qs tt) in
+      let e : _≡_ {A = ℕ} 12 0 = i .each qs 12 (0 ∷ []) (image b) (reordered-same qs) (decides .full-size) .0 in
+      omega arith;
 }

@@ -1,36 +1,37 @@
--- Tests that compute the premises of demand 3, and runs that are computed.
-use mathlib.Core.Path.{_≡_, refl, sym, ap, subst}
+-- Tests that compute the premises of demand 3, and postings that are computed.
+use mathlib.Core.Path.{_≡_, refl, sym, ap, _∙_, subst}
 use mathlib.Core.Logic.{inl, inr}
 use mathlib.Core.Bool.{Bool, true, false, not, cond, _&&_}
-use mathlib.Core.List.{List, [], _∷_}
+use mathlib.Core.List.{List, [], _∷_, _++_}
 use mathlib.Core.Option.{Option, some, none}
 use Prim.Native.Nat.{ℕ, zero, suc, _+_, _<_, _≤_}
 use native.Mathlib.Omega.{arith}
 use lib.Dec.{T, eqb, leb, ltb}
-use lib.ListN.{length, take}
+use lib.ListN.{length, take, drop}
 use Rattle.rules.specs.Words.{_∈_, Pairwise, Each, total, Tests}
-use Rattle.rules.specs.Topology.{Topology, hopCount, hopAt, NoClash}
-use Rattle.rules.specs.Book.{Row, Book, hopsInAll, mostStreams, mostHops, LawfulBook}
+use Rattle.rules.specs.Topology.{Topology, SoundTopology, hopCount, hopAt, NoClash}
+use Rattle.rules.specs.Book.{Row, Book, hopsInAll, mostStreams, mostHops}
 use Rattle.rules.specs.Placing.{Asked, Planned}
-use Rattle.rules.specs.Image.{encode, Stored}
-use Rattle.rules.specs.Calls.{Request, anyMiddle, Serve}
+use Rattle.rules.specs.Image.{newest, FullSize, encode, Stored}
+use Rattle.rules.specs.Calls.{Wrote, Request, mostRequests, anyMiddle, Work, InOrder, Post}
 use Rattle.rules.specs.Calls.Request.{Open, Close}
-use Rattle.rules.specs.Order.{idOf, IdInRange, DifferentIds, RouteOf, Apart, opens, Asks, Room, current, Sequence}
+use Rattle.rules.specs.Order.{idOf, IdInRange, DifferentIds, RouteOf, Apart, opens, Asks, Room, current, Posting}
 use Rattle.rules.proofs.Tests.{never, alike, tests-and, tests-not, tests-eq, tests-le, tests-lt, allBelow, allOf, tests-all, tests-every}
 use Rattle.rules.proofs.Choice.{planned-unique}
 use Rattle.rules.proofs.Written.{Bytes}
 use Rattle.model.specs.Test.{same, clashes}
-use Rattle.model.specs.Answer.{orGiven, routesOf}
+use Rattle.model.specs.Answer.{orGiven, routesOf, answersOf, lastBook}
 use Rattle.model.specs.Reading.{allPairs}
 use Rattle.model.specs.Examples.{isStored}
-use Rattle.model.specs.Calls.{serve}
+use Rattle.model.specs.Calls.{post}
 use Rattle.model.proofs.Tests.{tests-same, tests-clashes}
 use Rattle.model.proofs.Searches.{Found}
-use Rattle.model.proofs.Answers.{NotPlanned, planned-route, routes-found}
+use Rattle.model.proofs.Answers.{NotPlanned, planned-route, routes-found, workable, in-order-computed}
 use Rattle.model.proofs.Reading.{tests-pairs}
 use Rattle.model.proofs.Examples.{stored}
-use Rattle.model.proofs.Calls.{serve-computed}
+use Rattle.model.proofs.Calls.{post-computed}
 use Rattle.order.specs.Needed.{NoNodeShared, FirstRouteOf, FirstsApart, RoomForOne}
+use Rattle.order.proofs.Calls.{current-wrote}
 
 -- what computes to true is true
 pub so : {t : Bool} → T t → t ≡ true
@@ -40,6 +41,9 @@ so {t = false} h = absurd h
 -- A LAWFUL BOOK, whose hearing is its links
 pub held : (v : ℕ) (b : Book) → b .site .hearing ≡ b .site .links → T (isStored (encode v b) v b) → Stored (encode v b) v b
 held v b e h = stored (encode v b) v b e (so h)
+
+pub sound-links : {s : List ℕ} {v : ℕ} {b : Book} → Stored s v b → SoundTopology (b .site .links)
+sound-links h = h .lawful .site .topologies .links-sound
 
 -- IDS
 pub small : (qs : List Request) → T (allOf (λ (q : Request). ltb (idOf q) 65536) qs) → (q : Request) → q ∈ qs → IdInRange q
@@ -119,10 +123,10 @@ allAsked b (q ∷ qs) = hopsAsked b q ∷ allAsked b qs
 abbrev fits : Book → List Request → ℕ → Bool
 fits b qs n = leb (length (b .rows) + n) mostStreams && leb (hopsInAll (b .rows) + total (λ (k : ℕ). k) (allAsked b qs)) mostHops
 
--- ON A LAWFUL BOOK
-module _ (b : Book) (l : LawfulBook b) where
+-- ON A BOOK of sound links
+module _ (b : Book) (sound : SoundTopology (b .site .links)) where
   given-routes : (q : Asked) (ps : List (List ℕ)) → Planned (b .site .links) (anyMiddle b) q ps → givenRoutes b q ≡ ps
-  given-routes q ps h = go (routesOf (b .site .links) (anyMiddle b) q) (routes-found (b .site .links) (anyMiddle b) q (l .site .topologies .links-sound))
+  given-routes q ps h = go (routesOf (b .site .links) (anyMiddle b) q) (routes-found (b .site .links) (anyMiddle b) q sound)
     where
       go : (o : Option (List (List ℕ))) → Found (Planned (b .site .links) (anyMiddle b) q) (NotPlanned (b .site .links) (anyMiddle b) q) o → orGiven o [] ≡ ps
       go none g = absurd (planned-route (b .site .links) (anyMiddle b) q h g)
@@ -161,32 +165,64 @@ module _ (b : Book) (l : LawfulBook b) where
   pub room-for-one : (qs : List Request) → T (fits b qs (length qs)) → RoomForOne b qs
   room-for-one qs h = let t = tests-room qs (length qs) .yes (so h) in record { streams = t .0; asked = allAsked b qs; asks = all-asked qs; hops = t .1 }
 
--- RUNS
+-- POSTINGS
 
--- the calls, each with this buffer and on bytes, say these numbers and come to this image
-abbrev pub runs : List ℕ → List ℕ → List Request → List ℕ → List ℕ → Bool
-runs out image [] [] last = same last image
-runs out image [] (n ∷ ns) last = false
-runs out image (q ∷ qs) [] last = false
-runs out image (q ∷ qs) (n ∷ ns) last =
-    let r = serve image q out in
-    allOf (λ (x : ℕ). ltb x 256) image && (eqb (r .number) n && runs out (current n image (take (r .len) (r .out))) qs ns last)
+-- the list, posted with this buffer on bytes, gives this number and these answers, which unmarked stay, and comes to this image
+abbrev pub posts : List ℕ → List ℕ → List Request → ℕ → List ℕ → List ℕ → Bool
+posts out image qs n ns last =
+    let r = post image qs out ns in
+    allOf (λ (x : ℕ). ltb x 256) image && (eqb (r .whole .number) n && (same (r .answers) ns && same last (current image (r .whole .len) (r .whole .out))))
 
 bytes : (s : List ℕ) → ((x : ℕ) → x ∈ s → x < 256) → Bytes s
 bytes [] h i = omega arith
 bytes (x ∷ xs) h zero = h x (inl refl)
 bytes (x ∷ xs) h (suc i) = bytes xs (λ y m. h y (inr m)) i
 
-pub ran : (Size : List ℕ → Type 0) (out : List ℕ) → Size out → (image : List ℕ) (qs : List Request) (ns last : List ℕ) → T (runs out image qs ns last)
-    → Sequence Size image qs ns last
-ran Size out fit image qs ns last h = go image qs ns (so h)
-  where
-    go : (image : List ℕ) (qs : List Request) (ns : List ℕ) → runs out image qs ns last ≡ true → Sequence Size image qs ns last
-    go image [] [] e = tests-same last image .yes e
-    go image [] (n ∷ ns) e = never e
-    go image (q ∷ qs) [] e = never e
-    go image (q ∷ qs) (n ∷ ns) e =
-        let r = serve image q out in
-        let t = tests-and (tests-every (λ x. ltb x 256) (λ x. tests-lt x 256) image) (tests-and (tests-eq (r .number) n) record { yes = λ e. e; back = λ e. e }) .yes e in
-        let call : Serve image q out n (r .len) (r .out) = subst (λ (k : ℕ). Serve image q out k (r .len) (r .out)) (t .1 .0) (serve-computed image (bytes image (t .0)) q out) in
-        (out, r .out, r .len, fit, call, go (current n image (take (r .len) (r .out))) qs ns (t .1 .1))
+pub posted : (Size : List ℕ → Type 0) (out : List ℕ) → Size out → (image : List ℕ) (qs : List Request) (n : ℕ) (ns last : List ℕ) → T (posts out image qs n ns last)
+    → Posting Size image qs n ns last
+posted Size out fit image qs n ns last h =
+    let r = post image qs out ns in
+    let t = tests-and (tests-every (λ x. ltb x 256) (λ x. tests-lt x 256) image)
+    (tests-and (tests-eq (r .whole .number) n) (tests-and (tests-same (r .answers) ns) (tests-same last (current image (r .whole .len) (r .whole .out))))) .yes (so h) in
+    record {
+      out = out;
+      out′ = r .whole .out;
+      before = ns;
+      len = r .whole .len;
+      size = fit;
+      post = subst (λ (k : ℕ). Post image qs out ns k (r .whole .len) (r .whole .out) ns) (t .1 .0)
+          (subst (Post image qs out ns (r .whole .number) (r .whole .len) (r .whole .out)) (t .1 .1 .0) (post-computed image (bytes image (t .0)) out qs ns));
+      last-is = t .1 .1 .1;
+    }
+
+-- and posted on an image that is known to hold the book, where a record is done
+pub worked : (Size : List ℕ → Type 0) (out : List ℕ) → Size out → FullSize out
+    → {image : List ℕ} {v : ℕ} {b : Book} → Stored image v b → (qs : List Request) → length qs ≤ mostRequests → (ns last : List ℕ) → 0 ∈ ns
+    → T (same (answersOf (anyMiddle b) b qs) ns && same (encode newest (lastBook (anyMiddle b) b qs)) last) → Posting Size image qs 0 ns last
+worked Size out fit full {image} {v} {b} s qs few ns last z h =
+    let c : Book = lastBook (anyMiddle b) b qs in
+    let t = tests-and (tests-same (answersOf (anyMiddle b) b qs) ns) (tests-same (encode newest c) last) .yes (so h) in
+    let out′ : List ℕ = encode newest c ++ drop (length (encode newest c)) out in
+    let wrote : Wrote (encode newest c) out (length (encode newest c)) out′ = record { length-is = refl; buffer = refl } in
+    record {
+      out = out;
+      out′ = out′;
+      before = ns;
+      len = length (encode newest c);
+      size = fit;
+      post = record {
+        says = inr (v, b, s, inr (λ k. omega (arith, k, few), inr (λ k. omega (arith, k, full), refl)));
+        refused = λ f. absurd (f refl);
+        done = λ e. (
+          v,
+          b,
+          s,
+          (
+            c,
+            subst (λ (ks : List ℕ). InOrder (Work (anyMiddle b)) b qs ks c) (t .0) (in-order-computed (anyMiddle b) b (workable (s .lawful)) qs),
+            record { some = λ k. wrote; none = λ f. absurd (f z) },
+          ),
+        );
+      };
+      last-is = sym (t .1) ∙ sym (current-wrote image c out (length (encode newest c)) out′ wrote);
+    }

@@ -1,17 +1,16 @@
 -- The law under demand 3: what a request's answer depends on.
 use mathlib.Core.Path.{_≡_}
 use mathlib.Core.Logic.{_↔_}
-use mathlib.Core.List.{List}
+use mathlib.Core.List.{List, [], _∷_}
 use Prim.Native.Nat.{ℕ}
-use lib.ListN.{take}
 use Rattle.rules.specs.Words.{_∈_}
 use Rattle.rules.specs.Topology.{NoClash}
 use Rattle.rules.specs.Book.{Row, Book, Known}
 use Rattle.rules.specs.Placing.{Full}
 use Rattle.rules.specs.Image.{FullSize, Stored}
-use Rattle.rules.specs.Calls.{Request, anyMiddle, OfRoutes, Serve}
+use Rattle.rules.specs.Calls.{Request, anyMiddle, OfRoutes}
 use Rattle.rules.specs.Calls.Request.{Open, Close}
-use Rattle.rules.specs.Order.{idOf, IdInRange, RouteOf, current, SameStream}
+use Rattle.rules.specs.Order.{idOf, IdInRange, RouteOf, Posting, SameStream}
 
 -- the row clashes with a route of the open; a close has no hop to place, so none clashes with it
 abbrev pub Clashing : Book → Request → Row → Type 0
@@ -30,10 +29,9 @@ pub record Agree (b c : Book) (q : Request) : Type 0 where
   pub clashing : (r : Row) → Clashing b q r → (r ∈ b .rows) ↔ (r ∈ c .rows)
   pub room : FullFor b q ↔ FullFor c q
 
--- on nothing else: books that agree so give the request one number, and where it is done one stream
+-- on nothing else: books that agree so give the request one answer, and where it is done one stream
 abbrev pub Depends : Type 0
 Depends =
     (image image′ : List ℕ) (v w : ℕ) (b c : Book) (q : Request) → Stored image v b → Stored image′ w c → IdInRange q → Agree b c q
-    → (out o : List ℕ) (n m len l : ℕ) (out′ o′ : List ℕ) → FullSize out → FullSize o
-    → Serve image q out n len out′ → Serve image′ q o m l o′
-    → (n ≡ m) × (n ≡ 0 → SameStream (idOf q) (current n image (take len out′)) (current m image′ (take l o′)))
+    → (n n′ : ℕ) (answers answers′ last last′ : List ℕ) → Posting FullSize image (q ∷ []) n answers last → Posting FullSize image′ (q ∷ []) n′ answers′ last′
+    → (answers ≡ answers′) × (answers ≡ 0 ∷ [] → SameStream (idOf q) last last′)

@@ -1,15 +1,15 @@
--- Demand 3 in examples: requests that keep all its premises, and pairs that keep all but one.
+-- Demand 3 in examples: lists that keep all its premises, and lists that keep all but one.
 use mathlib.Core.Path.{_≡_}
 use mathlib.Core.List.{List, [], _∷_, _++_}
-use Prim.Native.Nat.{ℕ, zero, suc}
-use lib.ListN.{length}
+use Prim.Native.Nat.{ℕ, zero, suc, _*_, _-_, _≤_}
+use lib.ListN.{length, replicate}
 use Rattle.rules.specs.Words.{_∈_, Pairwise, Reordered}
 use Rattle.rules.specs.Topology.{Topology}
 use Rattle.rules.specs.Book.{Row, Book}
-use Rattle.rules.specs.Image.{newest, FullSize, encode, Stored}
-use Rattle.rules.specs.Calls.{Request}
+use Rattle.rules.specs.Image.{newest, longestImage, FullSize, encode, Stored}
+use Rattle.rules.specs.Calls.{Request, mostRequests}
 use Rattle.rules.specs.Calls.Request.{Close}
-use Rattle.rules.specs.Order.{IdInRange, DifferentIds, Apart, Room, Sequence}
+use Rattle.rules.specs.Order.{IdInRange, DifferentIds, Apart, Room, Posting}
 use Rattle.rules.proofs.Reading.{withRows}
 use Rattle.model.specs.Examples.{planA, lineA, pair, bookOn, empty, opening, openingTwo}
 
@@ -29,16 +29,21 @@ image = encode newest
 
 -- ALL PREMISES KEPT
 
--- the premises hold of the requests on the image of a book, and both orders give one number for each and one last image
+-- a full-size buffer, and no byte more
+abbrev pub JustFull : List ℕ → Type 0
+JustFull out = length out ≡ longestImage newest
+
+-- the premises hold of the requests on the image of a book, and both orders give one answer for each and one last image
 pub record Met (v : ℕ) (b : Book) (qs : List Request) (ns last : List ℕ) (ps : List Request) (ms : List ℕ) : Type 0 where
   pub held : Stored (encode v b) v b
+  pub most : length qs ≤ mostRequests
   pub small : (q : Request) → q ∈ qs → IdInRange q
   pub ids : Pairwise DifferentIds qs
   pub apart : Pairwise (Apart b) qs
   pub room : Room b qs
   pub reordered : Reordered qs ps
-  pub forth : Sequence FullSize (encode v b) qs ns last
-  pub back : Sequence FullSize (encode v b) ps ms last
+  pub forth : Posting JustFull (encode v b) qs 0 ns last
+  pub back : Posting JustFull (encode v b) ps 0 ms last
 
 -- three pairs of linked nodes
 abbrev pub threePairs : Topology
@@ -74,25 +79,89 @@ onBoth = openingTwo 1 0 3 2 ∷ Close 3 ∷ openingTwo 65535 8 9 2 ∷ []
 abbrev pub onBothBack : List Request
 onBothBack = openingTwo 65535 8 9 2 ∷ Close 3 ∷ openingTwo 1 0 3 2 ∷ []
 
+-- THE LIMITS: 64 requests, 64 rows, ids up to 65,535
+
+-- a pair of linked nodes and a square
+abbrev pub pairAndSquare : Topology
+pairAndSquare = record { rows = 2 ∷ 1 ∷ 24 ∷ 36 ∷ 36 ∷ 24 ∷ [] }
+
+-- n streams of one hop, each a slot after the one before
+abbrev pub streams : ℕ → ℕ → List Row
+streams zero id = []
+streams (suc n) id = oneHop (suc id) 100 0 1 id ∷ streams n (suc id)
+
+-- 62 of them on the pair, with one slot to a tile, and all of them data
+abbrev pub nearlyFull : Book
+nearlyFull = bookOn (record { slots = 1; tiles = 1; kinds = 0; down = 0; up = 0 }) pairAndSquare (streams 62 0)
+
+-- with a stream on both routes of the square: 64 rows
+abbrev pub fullWith : ℕ → Book
+fullWith id = withRows nearlyFull (streams 62 0 ++ (
+    record { id = id; way = 1; period = 100; route = 2 ∷ 3 ∷ 5 ∷ []; offsets = 0 ∷ 1 ∷ [] }
+    ∷ record { id = id; way = 2; period = 100; route = 2 ∷ 4 ∷ 5 ∷ []; offsets = 1 ∷ 2 ∷ [] }
+    ∷ []))
+
+-- n closes of ids that are not there, after an id
+abbrev pub closes : ℕ → ℕ → List Request
+closes zero id = []
+closes (suc n) id = Close (suc id) ∷ closes n (suc id)
+
+-- each is answered 3
+abbrev pub threes : ℕ → List ℕ
+threes n = replicate n 3
+
+-- AND 512 HOPS
+
+-- a line of 16 nodes, and one of 3
+abbrev pub twoLines : Topology
+twoLines = record {
+  rows = 2 ∷ 5 ∷ 10 ∷ 20 ∷ 40 ∷ 80 ∷ 160 ∷ 320 ∷ 640 ∷ 1280 ∷ 2560 ∷ 5120 ∷ 10240 ∷ 20480 ∷ 40960 ∷ 16384 ∷ 131072 ∷ 327680 ∷ 131072 ∷ [];
+}
+
+-- n numbers from k on
+abbrev pub from : ℕ → ℕ → List ℕ
+from k zero = []
+from k (suc n) = k ∷ from (suc k) n
+
+-- n streams along the line of 16, each in the 15 slots after the one before
+abbrev pub along : ℕ → ℕ → List Row
+along zero id = []
+along (suc n) id = record { id = suc id; way = 1; period = 100; route = from 0 16; offsets = from (id * 15) 15 } ∷ along n (suc id)
+
+-- 34 of them have 510 hops
+abbrev pub longOnes : Book
+longOnes = bookOn (record { slots = 8; tiles = 1; kinds = 0; down = 0; up = 0 }) twoLines (along 34 0)
+
+-- without the first of them, and with a stream of 2 hops along the line of 3
+abbrev pub shortAfter : Book
+shortAfter = withRows longOnes (along 33 1 ++ (record { id = 65535; way = 1; period = 100; route = from 16 3; offsets = from 0 2 } ∷ []))
+
+abbrev pub onLong : List Request
+onLong = opening 65535 16 18 100 ∷ Close 1 ∷ []
+
+abbrev pub onLongBack : List Request
+onLongBack = Close 1 ∷ opening 65535 16 18 100 ∷ []
+
 -- where all premises are kept the order decides nothing
 pub record Kept : Type 0 where
-  -- of an image in version 1, from the first request that is done on in the newest
+  -- of an image in version 1, written in the newest
   pub old : Met 1 before requests (0 ∷ 0 ∷ 9 ∷ 3 ∷ 7 ∷ []) (image after) backwards (7 ∷ 3 ∷ 9 ∷ 0 ∷ 0 ∷ [])
   -- where none is done the image stays as it came
   pub refused : Met 1 before (opening 6 5 4 1 ∷ Close 9 ∷ []) (9 ∷ 3 ∷ []) (encode 1 before) (Close 9 ∷ opening 6 5 4 1 ∷ []) (3 ∷ 9 ∷ [])
   -- streams on both routes come and go
   pub seconds : Met newest beforeBoth onBoth (0 ∷ 0 ∷ 18 ∷ []) (image afterBoth) onBothBack (18 ∷ 0 ∷ 0 ∷ [])
+  -- 64 requests and 64 rows
+  pub limits : Met newest nearlyFull (openingTwo 65535 2 5 100 ∷ closes 63 62) (0 ∷ threes 63) (image (fullWith 65535))
+      (closes 63 62 ++ (openingTwo 65535 2 5 100 ∷ [])) (threes 63 ++ (0 ∷ []))
+  -- 512 hops before the close gives 15 of them back
+  pub hops : Met newest longOnes onLong (0 ∷ 0 ∷ []) (image shortAfter) onLongBack (0 ∷ 0 ∷ [])
 
 -- ALL BUT ONE
 
--- two requests on a book in both orders: their numbers, and the last book
-pub record BothOrders (Size : List ℕ → Type 0) (b : Book) (q q′ : Request) (ns : List ℕ) (last : Book) (ns′ : List ℕ) (last′ : Book) : Type 0 where
-  pub forth : Sequence Size (image b) (q ∷ q′ ∷ []) ns (image last)
-  pub back : Sequence Size (image b) (q′ ∷ q ∷ []) ns′ (image last′)
-
--- two pairs of linked nodes
-abbrev pub twoPairs : Topology
-twoPairs = record { rows = 2 ∷ 1 ∷ 8 ∷ 4 ∷ [] }
+-- two requests on a book in both orders: their answers, and the last book
+pub record BothOrders (b : Book) (q q′ : Request) (ns : List ℕ) (last : Book) (ns′ : List ℕ) (last′ : Book) : Type 0 where
+  pub forth : Posting FullSize (image b) (q ∷ q′ ∷ []) 0 ns (image last)
+  pub back : Posting FullSize (image b) (q′ ∷ q ∷ []) 0 ns′ (image last′)
 
 -- a ring of five nodes, and two more linked to the node 3 of it
 abbrev pub ring : Topology
@@ -113,43 +182,24 @@ goneRound = bookOn planA ring (
     ∷ across 7
     ∷ [])
 
--- a pair of linked nodes and a square
-abbrev pub pairAndSquare : Topology
-pairAndSquare = record { rows = 2 ∷ 1 ∷ 24 ∷ 36 ∷ 36 ∷ 24 ∷ [] }
-
--- n streams of one hop, each a slot after the one before
-abbrev pub streams : ℕ → ℕ → List Row
-streams zero id = []
-streams (suc n) id = oneHop (suc id) 100 0 1 id ∷ streams n (suc id)
-
--- 62 of them on the pair, with one slot to a tile, and all of them data
-abbrev pub nearlyFull : Book
-nearlyFull = bookOn (record { slots = 1; tiles = 1; kinds = 0; down = 0; up = 0 }) pairAndSquare (streams 62 0)
-
--- with a stream on both routes of the square: 64 rows
-abbrev pub nowFull : Book
-nowFull = withRows nearlyFull (streams 62 0 ++ (
-    record { id = 63; way = 1; period = 100; route = 2 ∷ 3 ∷ 5 ∷ []; offsets = 0 ∷ 1 ∷ [] }
-    ∷ record { id = 63; way = 2; period = 100; route = 2 ∷ 4 ∷ 5 ∷ []; offsets = 1 ∷ 2 ∷ [] }
-    ∷ []))
-
 -- with one more on the pair
 abbrev pub oneMore : Book
 oneMore = withRows nearlyFull (streams 62 0 ++ (oneHop 64 100 0 1 62 ∷ []))
 
--- what just one premise less lets the order decide
+-- what just one premise less lets the order decide, or the call refuse
 pub record Decides : Type 0 where
   -- one id is opened and closed
-  pub ids : BothOrders FullSize (empty pair) (opening 1 0 1 2) (Close 1) (0 ∷ 0 ∷ []) (empty pair) (3 ∷ 0 ∷ []) (withRows (empty pair) (oneHop 1 2 0 1 2 ∷ []))
+  pub ids : BothOrders (empty pair) (opening 1 0 1 2) (Close 1) (0 ∷ 0 ∷ []) (empty pair) (3 ∷ 0 ∷ []) (withRows (empty pair) (oneHop 1 2 0 1 2 ∷ []))
   -- the receiver 1 hears the sender 2: who comes first has slot 2
-  pub hearing : BothOrders FullSize (empty lineA) (opening 1 0 1 1) (opening 2 2 3 1) (0 ∷ 0 ∷ []) (withRows (empty lineA) (oneHop 1 1 0 1 2 ∷ oneHop 2 1 2 3 3 ∷ []))
+  pub hearing : BothOrders (empty lineA) (opening 1 0 1 1) (opening 2 2 3 1) (0 ∷ 0 ∷ []) (withRows (empty lineA) (oneHop 1 1 0 1 2 ∷ oneHop 2 1 2 3 3 ∷ []))
       (0 ∷ 0 ∷ []) (withRows (empty lineA) (oneHop 1 1 0 1 3 ∷ oneHop 2 1 2 3 2 ∷ []))
   -- the first routes are apart, but the second has no placing beside a stream across it
-  pub seconds : BothOrders FullSize (empty ring) (openingTwo 1 0 1 2) (opening 2 5 6 2) (0 ∷ 0 ∷ []) goneRound (0 ∷ 9 ∷ []) goneAcross
+  pub seconds : BothOrders (empty ring) (openingTwo 1 0 1 2) (opening 2 5 6 2) (0 ∷ 0 ∷ []) goneRound (0 ∷ 9 ∷ []) goneAcross
   -- there is room for the one that is done: the other has no placing, and after it no room
-  pub room : BothOrders FullSize nearlyFull (openingTwo 63 2 5 100) (opening 65 0 1 1) (0 ∷ 8 ∷ []) nowFull (9 ∷ 0 ∷ []) nowFull
+  pub room : BothOrders nearlyFull (openingTwo 63 2 5 100) (opening 65 0 1 1) (0 ∷ 8 ∷ []) (fullWith 63) (9 ∷ 0 ∷ []) (fullWith 63)
   -- there is room for a row of each, and one of them has two
-  pub rows : BothOrders FullSize nearlyFull (openingTwo 63 2 5 100) (opening 64 0 1 100) (0 ∷ 8 ∷ []) nowFull (0 ∷ 8 ∷ []) oneMore
-  -- 57 bytes hold the image with either stream, and not with both
-  pub full-size : BothOrders (λ (out : List ℕ). length out ≡ 57) (empty twoPairs) (opening 1 0 1 2) (opening 2 2 3 2)
-      (0 ∷ 12 ∷ []) (withRows (empty twoPairs) (oneHop 1 2 0 1 2 ∷ [])) (0 ∷ 12 ∷ []) (withRows (empty twoPairs) (oneHop 2 2 2 3 2 ∷ []))
+  pub rows : BothOrders nearlyFull (openingTwo 63 2 5 100) (opening 64 0 1 100) (0 ∷ 8 ∷ []) (fullWith 63) (0 ∷ 8 ∷ []) oneMore
+  -- of 65 requests the list is refused as a whole, and no record is marked
+  pub most : Posting FullSize (image (empty pair)) (closes 65 0) 26 (threes 65) (image (empty pair))
+  -- and so it is with a buffer that is a byte shorter
+  pub full-size : Posting (λ (out : List ℕ). length out ≡ longestImage newest - 1) (image (empty pair)) (opening 1 0 1 2 ∷ []) 12 (0 ∷ []) (image (empty pair))

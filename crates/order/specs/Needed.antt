@@ -1,20 +1,26 @@
 -- Demand 3 with one premise less: none of these holds.
 use mathlib.Core.Path.{_≡_}
-use mathlib.Core.List.{List}
+use mathlib.Core.List.{List, [], _∷_}
 use Prim.Native.Nat.{ℕ, _+_, _≤_}
 use lib.ListN.{length, take}
 use Rattle.rules.specs.Words.{_∈_, Pairwise, Each, total}
 use Rattle.rules.specs.Topology.{NoClash}
 use Rattle.rules.specs.Book.{Row, Book, hopsInAll, mostStreams, mostHops}
 use Rattle.rules.specs.Image.{FullSize, Stored}
-use Rattle.rules.specs.Calls.{Request, anyMiddle, OfRoutes, Serve}
+use Rattle.rules.specs.Calls.{Request, mostRequests, anyMiddle, OfRoutes}
 use Rattle.rules.specs.Calls.Request.{Open, Close}
-use Rattle.rules.specs.Order.{IdInRange, DifferentIds, RouteOf, Apart, Asks, Room, InAnyOrder}
+use Rattle.rules.specs.Order.{IdInRange, DifferentIds, RouteOf, Apart, Asks, Room, Posting, InAnyOrder}
+
+-- there may be over 64 requests
+abbrev pub WithoutMost : Type 0
+WithoutMost =
+    (image : List ℕ) (v : ℕ) (b : Book) (qs : List Request) → Stored image v b → ((q : Request) → q ∈ qs → IdInRange q)
+    → Pairwise DifferentIds qs → Pairwise (Apart b) qs → Room b qs → InAnyOrder FullSize image qs
 
 -- ids may repeat
 abbrev pub WithoutIds : Type 0
 WithoutIds =
-    (image : List ℕ) (v : ℕ) (b : Book) (qs : List Request) → Stored image v b → ((q : Request) → q ∈ qs → IdInRange q)
+    (image : List ℕ) (v : ℕ) (b : Book) (qs : List Request) → Stored image v b → length qs ≤ mostRequests → ((q : Request) → q ∈ qs → IdInRange q)
     → Pairwise (Apart b) qs → Room b qs → InAnyOrder FullSize image qs
 
 -- the routes share no node, though a receiver of one may hear a sender of another
@@ -23,7 +29,7 @@ NoNodeShared b q q′ = (p p′ : List ℕ) → RouteOf b q p → RouteOf b q′
 
 abbrev pub WithoutHearing : Type 0
 WithoutHearing =
-    (image : List ℕ) (v : ℕ) (b : Book) (qs : List Request) → Stored image v b → ((q : Request) → q ∈ qs → IdInRange q)
+    (image : List ℕ) (v : ℕ) (b : Book) (qs : List Request) → Stored image v b → length qs ≤ mostRequests → ((q : Request) → q ∈ qs → IdInRange q)
     → Pairwise DifferentIds qs → Pairwise (NoNodeShared b) qs → Room b qs → InAnyOrder FullSize image qs
 
 -- a request's first route alone
@@ -37,18 +43,18 @@ FirstsApart b q q′ = (p p′ : List ℕ) → FirstRouteOf b q p → FirstRoute
 
 abbrev pub WithoutSeconds : Type 0
 WithoutSeconds =
-    (image : List ℕ) (v : ℕ) (b : Book) (qs : List Request) → Stored image v b → ((q : Request) → q ∈ qs → IdInRange q)
+    (image : List ℕ) (v : ℕ) (b : Book) (qs : List Request) → Stored image v b → length qs ≤ mostRequests → ((q : Request) → q ∈ qs → IdInRange q)
     → Pairwise DifferentIds qs → Pairwise (FirstsApart b) qs → Room b qs → InAnyOrder FullSize image qs
 
 -- there is room for the requests that are done alone
 pub record RoomForDone (image : List ℕ) (b : Book) (qs : List Request) : Type 0 where
   pub done : List Request
-  pub all-done : (q : Request) → q ∈ qs → (out : List ℕ) (len : ℕ) (out′ : List ℕ) → FullSize out → Serve image q out 0 len out′ → q ∈ done
+  pub all-done : (q : Request) → q ∈ qs → (last : List ℕ) → Posting FullSize image (q ∷ []) 0 (0 ∷ []) last → q ∈ done
   pub room : Room b done
 
 abbrev pub WithRoomForDone : Type 0
 WithRoomForDone =
-    (image : List ℕ) (v : ℕ) (b : Book) (qs : List Request) → Stored image v b → ((q : Request) → q ∈ qs → IdInRange q)
+    (image : List ℕ) (v : ℕ) (b : Book) (qs : List Request) → Stored image v b → length qs ≤ mostRequests → ((q : Request) → q ∈ qs → IdInRange q)
     → Pairwise DifferentIds qs → Pairwise (Apart b) qs → RoomForDone image b qs → InAnyOrder FullSize image qs
 
 -- there is room for a row of each, and for all hops
@@ -60,16 +66,17 @@ pub record RoomForOne (b : Book) (qs : List Request) : Type 0 where
 
 abbrev pub WithRoomForOne : Type 0
 WithRoomForOne =
-    (image : List ℕ) (v : ℕ) (b : Book) (qs : List Request) → Stored image v b → ((q : Request) → q ∈ qs → IdInRange q)
+    (image : List ℕ) (v : ℕ) (b : Book) (qs : List Request) → Stored image v b → length qs ≤ mostRequests → ((q : Request) → q ∈ qs → IdInRange q)
     → Pairwise DifferentIds qs → Pairwise (Apart b) qs → RoomForOne b qs → InAnyOrder FullSize image qs
 
 -- all buffers have n bytes
 abbrev pub WithoutFullSize : Type 0
 WithoutFullSize =
-    (n : ℕ) (image : List ℕ) (v : ℕ) (b : Book) (qs : List Request) → Stored image v b → ((q : Request) → q ∈ qs → IdInRange q)
+    (n : ℕ) (image : List ℕ) (v : ℕ) (b : Book) (qs : List Request) → Stored image v b → length qs ≤ mostRequests → ((q : Request) → q ∈ qs → IdInRange q)
     → Pairwise DifferentIds qs → Pairwise (Apart b) qs → Room b qs → InAnyOrder (λ (out : List ℕ). length out ≡ n) image qs
 
 pub record Needed : Type 0 where
+  pub most : WithoutMost → ⊥
   pub ids : WithoutIds → ⊥
   pub hearing : WithoutHearing → ⊥
   pub seconds : WithoutSeconds → ⊥

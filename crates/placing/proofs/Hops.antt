@@ -1,5 +1,5 @@
 -- The hops of a placing, marked one after the other.
-use mathlib.Core.Path.{subst}
+use mathlib.Core.Path.{_≡_, subst}
 use mathlib.Core.Bool.{Bool}
 use mathlib.Core.List.{List}
 use Prim.Native.Nat.{ℕ, _+_, _<_}
@@ -9,11 +9,13 @@ use lib.ListN.{length, getD}
 use Rattle.rules.specs.Tiles.{periodAt}
 use Rattle.rules.proofs.Lists.{at-in}
 use Rattle.rules.proofs.Periods.{at-period}
+use Rattle.clash.specs.Reach.{End, nodeAt}
 use Rattle.clash.specs.declared.Reach.{Reach}
 use Rattle.index.specs.declared.Repeats.{Repeats}
-use Rattle.index.specs.Turns.{RepeatsOf, InIndex}
-use Rattle.index.specs.Marks.{Adds, HopsTake, Marks}
+use Rattle.index.specs.Turns.{RepeatsOf, TakesIn, InIndex}
+use Rattle.index.specs.Marks.{Adds, Removes, HopsTake, Marks}
 use Rattle.index.proofs.Rows.{hops-more}
+use Rattle.index.proofs.Removing.{unhops-more}
 use Rattle.index.proofs.Turns.{in-index}
 use Rattle.placing.specs.Marking.{Markable, rowOn}
 
@@ -31,3 +33,12 @@ pub marked-more : {S K : ℕ} {route offsets before after index : List ℕ} {rep
 marked-more {S} {K} {route} {offsets} {before} {after} {index} {repeats} {reach} {t} v i id way a m =
     hops-more S (rowOn id way K route offsets) i v a
     (subst (λ (j : ℕ). Marks repeats (getD offsets i 0) (record { from = getD route i 0; to = getD route j 0 }) reach index after t) (add-one i) m .adds)
+
+pub unmarked-more : {S K : ℕ} {route offsets before after index : List ℕ} {repeats : Repeats} (v : RepeatsOf S K repeats) (i id way : ℕ)
+    → Removes (HopsTake S (rowOn id way K route offsets) i) before index
+    → Removes (λ (end : End) (slot node : ℕ). TakesIn repeats (getD offsets i 0) slot × (node ≡ nodeAt end (record { from = getD route i 0; to = getD route (i + 1) 0 }))) index after
+    → Removes (HopsTake S (rowOn id way K route offsets) (i + 1)) before after
+unmarked-more {S} {K} {route} {offsets} {before} {after} {index} {repeats} v i id way a m =
+    unhops-more S (rowOn id way K route offsets) i v a
+    (subst (λ (j : ℕ). Removes (λ (end : End) (slot node : ℕ). TakesIn repeats (getD offsets i 0) slot × (node ≡ nodeAt end (record { from = getD route i 0; to = getD route j 0 }))) index after)
+    (add-one i) m)

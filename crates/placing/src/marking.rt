@@ -1,8 +1,8 @@
-// A placing, marked in the index.
+// A placing, marked in the index and taken out again.
 ghost use mathlib.Core.Path.{_≡_};
 ghost use lib.ListN.{length};
 ghost use Rattle.index.specs.Index.{indexLength};
-ghost use Rattle.placing.specs.Marking.{Markable, Marked};
+ghost use Rattle.placing.specs.Marking.{Markable, Marked, Unmarked};
 use clash::Reach;
 use rules::Node;
 use rules::Slot;
@@ -32,6 +32,31 @@ pub fn mark(
             Node(route[i]),
             Node(route[i + 1]),
             nobody,
+        );
+        i += 1;
+    }
+}
+
+// Takes them out again.
+pub fn unmark(
+    slots: Slot,
+    place: usize,
+    route: &[u8],
+    offsets: &[u16],
+    index: &mut [u64; index::WORDS],
+)
+    requires { ⌜ Markable (slots .0) place (now route) (now offsets) × (length (now index) ≡ indexLength) ⌝ }
+    ensures { λ _. ⌜ Unmarked (slots .0) place (now (route .entry)) (now (offsets .entry)) (now (index .entry)) (now (index .exit)) ⌝ }
+{
+    let repeats = index::repeats_of(slots, place);
+    let mut i = 0;
+    while i < offsets.len() {
+        index::unmark(
+            index,
+            repeats,
+            Slot(offsets[i]),
+            Node(route[i]),
+            Node(route[i + 1]),
         );
         i += 1;
     }

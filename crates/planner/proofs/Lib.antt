@@ -1,4 +1,3 @@
 pub mod Lifts
 pub mod Making
 pub mod Listing
-pub mod Newer

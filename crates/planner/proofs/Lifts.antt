@@ -13,8 +13,8 @@ use Rattle.rules.specs.Periods.{thePlan}
 use Rattle.rules.specs.Book.{Book}
 use Rattle.rules.specs.Image.{imageRefusals, encode, linksStart, versionOf, planOf, nodesOf, linksOf}
 use Rattle.rules.specs.Table.{tableLength, TableOf, BalanceOf}
-use Rattle.rules.specs.Calls.{SaysOf, CallOf, ReplyOf, rewriteRefusals, Request, anyMiddle, MadeImage, requestRefusals}
-use Rattle.rules.specs.Calls.{expandRefusals, balanceRefusals, checkRefusals, Check, Rewrite, Serve, Expand, Balance}
+use Rattle.rules.specs.Calls.{SaysOf, CallOf, ReplyOf, rewriteRefusals}
+use Rattle.rules.specs.Calls.{expandRefusals, balanceRefusals, checkRefusals, Check, Rewrite, Expand, Balance}
 use Rattle.rules.proofs.Written.{length-sets-at}
 use Rattle.rules.proofs.Reading.{bookIn, LawfulImage}
 use Rattle.image.specs.Header.{HeaderOf}
@@ -44,9 +44,6 @@ module _ {s words : List ℕ} {n number : ℕ} (v : Verdict s n words) (f : n �
     pub rewrite-refused : Rewrite s out number len out
     rewrite-refused = reply-image (rewriteRefusals (length out)) (λ v b bytes. bytes ≡ encode v b) out b
 
-    pub serve-refused : (q : Request) → Serve s q out number len out
-    serve-refused q = reply-image (λ v b. requestRefusals (anyMiddle b) q (length out) b) (λ v b. MadeImage (anyMiddle b) b q) out b
-
     pub expand-refused : (node : ℕ) → Expand s node out number len out
     expand-refused node = reply-image (expandRefusals node (length out)) (λ v b. TableOf b node) out b
 
@@ -61,18 +58,6 @@ reply-book {s} h refusals P w = record {
   refused = w .refused;
   done = λ z. let d = w .done z in (d .0, (versionOf s, bookIn s, h, d .1), d .2);
 }
-
--- OPEN AND CLOSE
-pub serve-on : {s : List ℕ} → LawfulImage s → (q : Request) {number len : ℕ} {out out′ : List ℕ}
-    → Reply (requestRefusals (anyMiddle (bookIn s)) q (length out) (bookIn s)) (MadeImage (anyMiddle (bookIn s))
-    (bookIn s) q) out number len out′ → Serve s q out number len out′
-serve-on h q {out = out} w = reply-book h (λ v b. requestRefusals (anyMiddle b) q (length out) b) (λ v b. MadeImage (anyMiddle b) b q) w
-
--- on another image of the same book
-pub serve-newer : {s : List ℕ} {c : Book} → LawfulImage s → c ≡ bookIn s → (q : Request) {number len : ℕ} {out out′ : List ℕ}
-    → Reply (requestRefusals (anyMiddle c) q (length out) c) (MadeImage (anyMiddle c) c q) out number len out′ → Serve s q out number len out′
-serve-newer h e q {number} {len} {out} {out′} w =
-    serve-on h q (subst (λ (b : Book). Reply (requestRefusals (anyMiddle b) q (length out) b) (MadeImage (anyMiddle b) b q) out number len out′) e w)
 
 -- CHECK says the image's number
 pub checked : (s : List ℕ) {words : List ℕ} {n number len : ℕ} → Verdict s n words → number ≡ n → len ≡ 0 → Check s number len

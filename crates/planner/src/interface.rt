@@ -1,8 +1,10 @@
-// The C interface: the eight calls over bare numbers.
+// The C interface: the nine calls over bare numbers.
 ghost use mathlib.Core.Path.{_≡_};
 ghost use Rattle.rules.specs.Calls.{New, Check, Rewrite, Serve, Expand, Balance};
 ghost use Rattle.rules.specs.Calls.Request.{Open, Close};
+ghost use Rattle.posting.specs.Posting.{Posts};
 ghost use Rattle.planner.specs.Marks.{RoutesMarked};
+use posting::Request;
 use rules::Asked;
 use rules::Node;
 use rules::Plan;
@@ -52,6 +54,21 @@ pub extern "C" fn lindurask_rewrite(book: &[u8], out: &mut [u8], length: &mut us
     ensures { λ r. ⌜ Rewrite (now (book .entry)) (now (out .entry)) r (now (length .exit)) (now (out .exit)) ⌝ }
 {
     let answer = crate::rewrite(book, out);
+    *length = answer.length;
+    answer.number
+}
+
+// Posts a list of requests.
+#[no_mangle]
+pub extern "C" fn lindurask_post(
+    book: &[u8],
+    requests: &mut [Request],
+    out: &mut [u8],
+    length: &mut usize,
+) -> u8
+    ensures { λ r. ⌜ Posts (now (book .entry)) (now (requests .entry)) (now (out .entry)) (record { number = r; length = now (length .exit) }) (now (requests .exit)) (now (out .exit)) ⌝ }
+{
+    let answer = crate::post(book, requests, out);
     *length = answer.length;
     answer.number
 }

@@ -3,10 +3,12 @@ ghost use mathlib.Core.Path.{_≡_};
 ghost use Rattle.rules.specs.Periods.{thePlan, theAsked};
 ghost use Rattle.rules.specs.Calls.{New, Check, Rewrite, Serve, Expand, Routes};
 ghost use Rattle.rules.specs.Calls.Request.{Open, Close};
+ghost use Rattle.posting.specs.Posting.{Posts};
 ghost use Rattle.planner.specs.Balances.{BalanceSays};
 use answers::Answer;
 use choices::Choices;
 use image::Book;
+use posting::Request;
 use rules::Asked;
 use rules::Node;
 use rules::Plan;
@@ -71,38 +73,43 @@ pub fn rewrite(image: &[u8], out: &mut [u8]) -> Answer
     answers::done(image.len())
 }
 
-// Opens a stream: writes the image of the book with it.
+// Posts a list of requests: each record receives its own answer, and the image is written once at the end.
+pub fn post(image: &[u8], requests: &mut [Request], out: &mut [u8]) -> Answer
+    ensures { λ r. ⌜ Posts (now (image .entry)) (now (requests .entry)) (now (out .entry)) r (now (requests .exit)) (now (out .exit)) ⌝ }
+{
+    posting::post(image, requests, out)
+}
+
+// Opens a stream: a list of one.
 pub fn open_stream(image: &[u8], asked: Asked, out: &mut [u8]) -> Answer
     ensures { λ r. ⌜ Serve (now (image .entry)) (Open (theAsked asked)) (now (out .entry)) (r .number) (r .length) (now (out .exit)) ⌝ }
 {
-    let mut index = [0u64; index::WORDS];
-    let number = lawful::verdict(image, &mut index);
-    if number != 0 {
-        return answers::refused(number);
-    }
-    if Book::read(image).version == image::NEWEST {
-        return opening::open_on(image, &mut index, asked, out);
-    }
-    let mut newer = [0u8; Book::LONGEST];
-    let length = transcribing::transcribe(image, &mut newer);
-    opening::open_on(&newer[..length], &mut index, asked, out)
+    let request = Request {
+        opens: true,
+        second: asked.second,
+        source: asked.source.0,
+        destination: asked.destination.0,
+        id: asked.id,
+        period: asked.period.0,
+        answer: 0,
+    };
+    posting::post_one(image, request, out)
 }
 
-// Closes a stream: writes the image of the book without it.
+// Closes a stream: a list of one.
 pub fn close_stream(image: &[u8], id: u16, out: &mut [u8]) -> Answer
     ensures { λ r. ⌜ Serve (now (image .entry)) (Close id) (now (out .entry)) (r .number) (r .length) (now (out .exit)) ⌝ }
 {
-    let mut index = [0u64; index::WORDS];
-    let number = lawful::verdict(image, &mut index);
-    if number != 0 {
-        return answers::refused(number);
-    }
-    if Book::read(image).version == image::NEWEST {
-        return closing::close_on(image, id, out);
-    }
-    let mut newer = [0u8; Book::LONGEST];
-    let length = transcribing::transcribe(image, &mut newer);
-    closing::close_on(&newer[..length], id, out)
+    let request = Request {
+        opens: false,
+        second: false,
+        source: 0,
+        destination: 0,
+        id,
+        period: 0,
+        answer: 0,
+    };
+    posting::post_one(image, request, out)
 }
 
 // Writes a node's slot table for all 100 tiles.

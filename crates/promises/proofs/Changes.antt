@@ -3,53 +3,94 @@ use mathlib.Core.Path.{_≡_, refl, sym, ap, _∙_, subst}
 use mathlib.Core.Logic.{inl, inr, ⊎-elim, _↔_}
 use mathlib.Core.List.{List, [], _∷_}
 use Prim.Native.Nat.{ℕ}
+use native.Mathlib.Decide.{ℕ-discrete}
 use native.Mathlib.Omega.{arith}
-use lib.ListN.{length, take}
+use lib.ListN.{getD, take}
 use Rattle.rules.specs.Words.{TwoBytes, _∈_}
 use Rattle.rules.specs.Says.{Says}
 use Rattle.rules.specs.Topology.{Topology}
-use Rattle.rules.specs.Book.{Row, Book, LawfulBook, Known}
+use Rattle.rules.specs.Book.{Row, Book, Known}
 use Rattle.rules.specs.Placing.{Asked, Planned, NewRows}
 use Rattle.rules.specs.Placing.Planned.{one, two}
 use Rattle.rules.specs.Image.{newest, encode, Stored}
-use Rattle.rules.specs.Calls.{OfBook, Wrote, Request, anyMiddle, Made, MadeImage, Closed, openRefusals, closeRefusals, requestRefusals, Serve}
+use Rattle.rules.specs.Calls.{Request, anyMiddle, Opened, Closed, Made, openRefusals, closeRefusals, Work, Serve}
 use Rattle.rules.specs.Calls.Request.{Open, Close}
-use Rattle.rules.specs.Order.{IdInRange}
-use Rattle.rules.proofs.Says.{None, says-none}
+use Rattle.rules.specs.Order.{idOf, IdInRange}
+use Rattle.rules.proofs.Says.{None, says-none, says-unique}
 use Rattle.rules.proofs.Lists.{reordered-in, reordered-back, in-append, in-left, in-right}
 use Rattle.rules.proofs.Tests.{never}
 use Rattle.rules.proofs.Choice.{closed-unique}
 use Rattle.rules.proofs.Encoding.{stored-unique}
-use Rattle.rules.proofs.Unique.{says-of-unique}
 use Rattle.rules.proofs.Reading.{withRows, stored-newest}
 use Rattle.rules.proofs.Added.{new-route}
 use Rattle.model.proofs.Tests.{tests-known}
 use Rattle.model.proofs.Reading.{stable}
-use Rattle.order.proofs.Lawful.{made-stored}
-use Rattle.order.proofs.Calls.{of-stored, says-on, taken}
-use Rattle.promises.specs.Promises.{OnlyMoves, HasWay, HasStream, OpenAdds, CloseRemoves, CloseUndoesOpen}
+use Rattle.rules.proofs.Lawful.{work-site}
+use Rattle.order.proofs.Lawful.{work-lawful, stored-anew}
+use Rattle.order.proofs.Calls.{taken, ran-one, served-ran}
+use Rattle.promises.specs.Promises.{OnlyMoves, Moves, HasWay, HasStream, OpenAdds, CloseRemoves, CloseUndoesOpen}
 
--- what a done request is: the book, what it made of it, and that this was written
-pub record Done (image : List ℕ) (q : Request) (size len : ℕ) (out′ : List ℕ) : Type 0 where
+-- ONLY ITS OWN STREAM moves where a request is done
+pub made-only : (middle : ℕ) (b : Book) (q : Request) (c : Book) → Made middle b q c → OnlyMoves (idOf q) b c
+made-only middle b (Open q) c g = record {
+  site = g .plus .site;
+  others = λ r f. (
+    λ m. reordered-back r (g .plus .rows) (in-right r (g .new) (b .rows) m),
+    λ m. ⊎-elim (λ (k : r ∈ g .new). absurd (f (new-route q b 1 (g .routes) (g .new) (g .placed) r k .new .named))) (λ (k : r ∈ b .rows). k)
+        (in-append r (g .new) (b .rows) (reordered-in r (g .plus .rows) m)),
+  );
+}
+made-only middle b (Close id) c g = record {
+  site = sym (g .plus .site);
+  others = λ r f. (
+    λ m. ⊎-elim (λ (k : r ∈ g .gone). absurd (f (g .of-id r k))) (λ (k : r ∈ c .rows). k) (in-append r (g .gone) (c .rows) (reordered-in r (g .plus .rows) m)),
+    λ m. reordered-back r (g .plus .rows) (in-right r (g .gone) (c .rows) m),
+  );
+}
+
+-- A DONE REQUEST: the book, what it made of it, and that this was written
+pub record Done (image : List ℕ) (q : Request) (len : ℕ) (out′ : List ℕ) : Type 0 where
   pub version : ℕ
   pub before : Book
   pub after : Book
   pub held : Stored image version before
-  pub says : Says (requestRefusals (anyMiddle before) q size before) 0
-  pub made : Made (anyMiddle before) before q after
-  pub stored : Stored (take len out′) newest after
+  pub work : Work (anyMiddle before) before q 0 after
+  pub bytes : take len out′ ≡ encode newest after
 
-done : (image : List ℕ) (q : Request) (out : List ℕ) (len : ℕ) (out′ : List ℕ)
-    → ((b : Book) → LawfulBook b → Says (requestRefusals (anyMiddle b) q (length out) b) 0 → IdInRange q) → Serve image q out 0 len out′ → Done image q (length out) len out′
-done image q out len out′ small h =
-    let (bytes, (v, b, held, (c, g, e)), w) = h .done refl in
-    let says = says-on image v b (λ v b. requestRefusals (anyMiddle b) q (length out) b) 0 held (h .says) in
-    let stored = made-stored held (anyMiddle b) q (length out) (small b (held .lawful) says) says c g in
-    record { version = v; before = b; after = c; held = held; says = says; made = g; stored = subst (λ (s : List ℕ). Stored s newest c) (sym (taken w ∙ e)) stored }
+done : (image : List ℕ) (q : Request) (out : List ℕ) (len : ℕ) (out′ : List ℕ) → Serve image q out 0 len out′ → Done image q len out′
+done image q out len out′ h = go (ℕ-discrete (h .whole) 0)
+  where
+    go : Dec (h .whole ≡ 0) → Done image q len out′
+    go (no f) = absurd (f (sym (h .refused f)))
+    go (yes z) =
+        let (v, b, held, (c, (d, w, e), p)) = h .posted .done z in
+        record {
+          version = v;
+          before = b;
+          after = c;
+          held = held;
+          work = subst (Work (anyMiddle b) b q 0) (sym e) (subst (λ (n : ℕ). Work (anyMiddle b) b q n d) (sym (h .done z)) w);
+          bytes = taken (p .some (inl (h .done z)));
+        }
+
+-- what is written is the image of a lawful book
+done-stored : {image : List ℕ} {q : Request} {len : ℕ} {out′ : List ℕ} (d : Done image q len out′) → IdInRange q → Stored (take len out′) newest (d .after)
+done-stored {q = q} {len} {out′} d small =
+    let l = work-lawful (anyMiddle (d .before)) (d .before) q 0 (d .after) (d .work) (d .held .lawful) small in
+    let e = work-site (anyMiddle (d .before)) (d .before) q 0 (d .after) (d .work) in
+    subst (λ (s : List ℕ). Stored s newest (d .after)) (sym (d .bytes)) (stored-anew (d .held) (d .after) l e)
+
+moves : {image : List ℕ} {q : Request} {len : ℕ} {out′ : List ℕ} (d : Done image q len out′) → IdInRange q → Moves image (idOf q) len out′ (d .before) (d .after)
+moves {q = q} d small = record {
+  version = d .version;
+  before = d .held;
+  after = done-stored d small;
+  only = made-only (anyMiddle (d .before)) (d .before) q (d .after) (d .work .done refl);
+}
 
 -- where no refusal applies to a close the id is there
-closing-known : (middle id size : ℕ) (b : Book) → Says (closeRefusals middle id size b) 0 → Known b id
-closing-known middle id size b h = stable (tests-known b id) (says-none (closeRefusals middle id size b) (omega arith) h .1 .0)
+closing-known : (id : ℕ) (b : Book) → Says (closeRefusals id b) 0 → Known b id
+closing-known id b h = stable (tests-known b id) (says-none (closeRefusals id b) (omega arith) h .1 .0)
 
 -- an open adds its first way, and its second exactly if that was asked for
 new-ways : {T : Topology} {middle : ℕ} {q : Asked} {ps : List (List ℕ)} (b : Book) (rs : List Row) → Planned T middle q ps → NewRows b q 1 ps rs
@@ -71,123 +112,87 @@ new-ways b (r ∷ x ∷ rs) (two s g k) n = record {
   second = (λ h. s, λ t. (x, inr (inl refl), n .1 .0 .named, n .1 .0 .nth));
 }
 
-module _ (image : List ℕ) (q : Asked) (out : List ℕ) (len : ℕ) (out′ : List ℕ) (small : TwoBytes (q .id)) (h : Serve image (Open q) out 0 len out′) where
-  opened : Done image (Open q) (length out) len out′
-  opened = done image (Open q) out len out′ (λ b l s. small) h
+-- AN OPEN
+module _ {image : List ℕ} {q : Asked} {len : ℕ} {out′ : List ℕ} (d : Done image (Open q) len out′) where
+  made : Opened (anyMiddle (d .before)) (d .before) q (d .after)
+  made = d .work .done refl
 
-  none-applies : None (openRefusals (anyMiddle (opened .before)) q (length out) (opened .before))
-  none-applies = says-none (openRefusals (anyMiddle (opened .before)) q (length out) (opened .before)) (omega arith) (opened .says)
+  none-applies : None (openRefusals (anyMiddle (d .before)) q (d .before))
+  none-applies = says-none (openRefusals (anyMiddle (d .before)) q (d .before)) (omega arith) (d .work .says)
 
-  new-named : (r : Row) → r ∈ opened .made .new → r .id ≡ q .id
-  new-named r m = new-route q (opened .before) 1 (opened .made .routes) (opened .made .new) (opened .made .placed) r m .new .named
-
-  fresh : (r : Row) → r ∈ opened .before .rows → r .id ≡ q .id → ⊥
+  fresh : (r : Row) → r ∈ d .before .rows → r .id ≡ q .id → ⊥
   fresh r m e = none-applies .1 .1 .1 .1 .0 record { row = r; there = m; named = e }
 
   -- the rows of the id are the new ones
-  new-there : (way : ℕ) → HasWay (opened .after) (q .id) way ↔ HasWay (withRows (opened .before) (opened .made .new)) (q .id) way
+  new-there : (way : ℕ) → HasWay (d .after) (q .id) way ↔ HasWay (withRows (d .before) (made .new)) (q .id) way
   new-there way = (
     λ (r, m, i, w). (
       r,
-      ⊎-elim (λ (k : r ∈ opened .made .new). k) (λ (k : r ∈ opened .before .rows). absurd (fresh r k i))
-          (in-append r (opened .made .new) (opened .before .rows) (reordered-in r (opened .made .plus .rows) m)),
+      ⊎-elim (λ (k : r ∈ made .new). k) (λ (k : r ∈ d .before .rows). absurd (fresh r k i))
+          (in-append r (made .new) (d .before .rows) (reordered-in r (made .plus .rows) m)),
       i,
       w,
     ),
-    λ (r, m, i, w). (r, reordered-back r (opened .made .plus .rows) (in-left r (opened .made .new) (opened .before .rows) m), i, w),
+    λ (r, m, i, w). (r, reordered-back r (made .plus .rows) (in-left r (made .new) (d .before .rows) m), i, w),
   )
 
-  has-stream : HasStream q (opened .after)
+  has-stream : HasStream q (d .after)
   has-stream =
-      let t = new-ways (opened .before) (opened .made .new) (opened .made .planned) (opened .made .placed) in
+      let t = new-ways (d .before) (made .new) (made .planned) (made .placed) in
       record { first = new-there 1 .1 (t .first); second = (λ h. t .second .0 (new-there 2 .0 h), λ e. new-there 2 .1 (t .second .1 e)) }
 
-  only-added : OnlyMoves (q .id) (opened .before) (opened .after)
-  only-added = record {
-    site = opened .made .plus .site;
-    others = λ r f. (
-      λ m. reordered-back r (opened .made .plus .rows) (in-right r (opened .made .new) (opened .before .rows) m),
-      λ m. ⊎-elim (λ (k : r ∈ opened .made .new). absurd (f (new-named r k))) (λ (k : r ∈ opened .before .rows). k)
-          (in-append r (opened .made .new) (opened .before .rows) (reordered-in r (opened .made .plus .rows) m)),
-    );
+  -- without the new rows it is the book before
+  back : Closed (d .after) (q .id) (d .before)
+  back = record {
+    gone = made .new;
+    of-id = λ r m. new-route q (d .before) 1 (made .routes) (made .new) (made .placed) r m .new .named;
+    none-left = fresh;
+    rising = d .held .lawful .rising;
+    plus = made .plus;
   }
 
-  -- without the new rows it is the book before
-  back : Closed (opened .after) (q .id) (opened .before)
-  back = record { gone = opened .made .new; of-id = new-named; none-left = fresh; rising = opened .held .lawful .rising; plus = opened .made .plus }
-
 pub open-adds : OpenAdds
-open-adds image q out len out′ small h =
-    let d = opened image q out len out′ small h in (
-      d .before,
-      d .after,
-      record { version = d .version; before = d .held; after = d .stored; only = only-added image q out len out′ small h },
-      fresh image q out len out′ small h,
-      has-stream image q out len out′ small h,
-    )
+open-adds image q out len out′ small h = let d = done image (Open q) out len out′ h in (d .before, d .after, moves d small, fresh d, has-stream d)
 
+-- A CLOSE
 pub close-removes : CloseRemoves
-close-removes image id out len out′ h =
-    (d .before, d .after, record { version = d .version; before = d .held; after = d .stored; only = only }, (k .row, k .there, k .named), d .made .none-left)
+close-removes image id out len out′ h = (d .before, d .after, moves d small, (k .row, k .there, k .named), d .work .done refl .none-left)
   where
-    in-range : (b : Book) → LawfulBook b → Says (closeRefusals (anyMiddle b) id (length out) b) 0 → TwoBytes id
-    in-range b l s = let k = closing-known (anyMiddle b) id (length out) b s in omega (arith, l .rows (k .row) (k .there) .id-most, k .named)
-
-    d : Done image (Close id) (length out) len out′
-    d = done image (Close id) out len out′ in-range h
+    d : Done image (Close id) len out′
+    d = done image (Close id) out len out′ h
 
     k : Known (d .before) id
-    k = closing-known (anyMiddle (d .before)) id (length out) (d .before) (d .says)
+    k = closing-known id (d .before) (d .work .says)
 
-    only : OnlyMoves id (d .before) (d .after)
-    only = record {
-      site = sym (d .made .plus .site);
-      others = λ r f. (
-        λ m. ⊎-elim (λ (g : r ∈ d .made .gone). absurd (f (d .made .of-id r g))) (λ (g : r ∈ d .after .rows). g)
-            (in-append r (d .made .gone) (d .after .rows) (reordered-in r (d .made .plus .rows) m)),
-        λ m. reordered-back r (d .made .plus .rows) (in-right r (d .made .gone) (d .after .rows) m),
-      );
-    }
+    small : TwoBytes id
+    small = omega (arith, d .held .lawful .rows (k .row) (k .there) .id-most, k .named)
 
 pub close-undoes-open : CloseUndoesOpen
-close-undoes-open image v b held q out len out′ small h out₂ number len₂ out₂′ room k = (zero-said, holds (k .done zero-said), same-bytes (k .done zero-said))
+close-undoes-open image v b held q out len out′ small h out₂ number len₂ out₂′ full k =
+    (zero-said, subst (λ (s : List ℕ). Stored s newest b) (sym bytes) (stored-newest held), λ e. bytes ∙ ap (λ (w : ℕ). encode w b) (sym e) ∙ sym (held .bytes))
   where
-    d : Done image (Open q) (length out) len out′
-    d = opened image q out len out′ small h
+    d : Done image (Open q) len out′
+    d = done image (Open q) out len out′ h
 
-    one-book : d .before ≡ b
-    one-book = stored-unique image (d .version) v (d .before) b (d .held) held .1
+    opened : Stored (take len out′) newest (d .after)
+    opened = done-stored d small
 
     there : Closed (d .after) (q .id) b
-    there = subst (Closed (d .after) (q .id)) one-book (back image q out len out′ small h)
+    there = subst (Closed (d .after) (q .id)) (stored-unique image (d .version) v (d .before) b (d .held) held .1) (back d)
 
-    says : Says (closeRefusals (anyMiddle (d .after)) (q .id) (length out₂) (d .after)) 0
-    says =
-        inr (
-          none-applies image q out len out′ small h .0,
-          inr (
-            λ f. let t = has-stream image q out len out′ small h .first in f record { row = t .0; there = t .1; named = t .2 },
-            inr (
-              λ c. omega (arith, c .2, room, ap (λ (e : Book). length (encode newest e)) (closed-unique (d .after) (q .id) (c .0) b (c .1) there)),
-              refl,
-            ),
-          ),
-        )
+    says : Says (closeRefusals (q .id) (d .after)) 0
+    says = inr (none-applies d .0, inr (λ f. let t = has-stream d .first in f record { row = t .0; there = t .1; named = t .2 }, refl))
 
     zero-said : number ≡ 0
     zero-said =
-        says-of-unique (take len out′) (λ v b. closeRefusals (anyMiddle b) (q .id) (length out₂) b) number 0 (k .says) (inr (newest, d .after, d .stored, says))
+        let (n, e, w) = ran-one (number ∷ []) (served-ran opened (Close (q .id)) small out₂ full number len₂ out₂′ k) in
+        ap (λ (ns : List ℕ). getD ns 0 0) e ∙ says-unique (closeRefusals (q .id) (d .after)) n 0 (w .says) says
 
-    Result : Type 0
-    Result = (bytes : List ℕ) × OfBook (take len out′) (λ (v : ℕ) (b : Book). MadeImage (anyMiddle b) b (Close (q .id)) bytes) × Wrote bytes out₂ len₂ out₂′
+    c : Done (take len out′) (Close (q .id)) len₂ out₂′
+    c = done (take len out′) (Close (q .id)) out₂ len₂ out₂′ (subst (λ (n : ℕ). Serve (take len out′) (Close (q .id)) out₂ n len₂ out₂′) zero-said k)
 
-    undone : Result → take len₂ out₂′ ≡ encode newest b
-    undone (bytes, o, w) =
-        let (c, closed, e) = of-stored {P = λ v b. MadeImage (anyMiddle b) b (Close (q .id)) bytes} (d .stored) o in
-        taken w ∙ e ∙ ap (encode newest) (closed-unique (d .after) (q .id) c b closed there)
+    closed : Closed (d .after) (q .id) (c .after)
+    closed = subst (λ (x : Book). Closed x (q .id) (c .after)) (stored-unique (take len out′) (c .version) newest (c .before) (d .after) (c .held) opened .1) (c .work .done refl)
 
-    holds : Result → Stored (take len₂ out₂′) newest b
-    holds r = subst (λ (s : List ℕ). Stored s newest b) (sym (undone r)) (stored-newest held)
-
-    same-bytes : Result → v ≡ newest → take len₂ out₂′ ≡ image
-    same-bytes r e = undone r ∙ ap (λ (w : ℕ). encode w b) (sym e) ∙ sym (held .bytes)
+    bytes : take len₂ out₂′ ≡ encode newest b
+    bytes = c .bytes ∙ ap (encode newest) (closed-unique (d .after) (q .id) (c .after) b closed there)

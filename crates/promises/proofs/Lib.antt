@@ -7,3 +7,5 @@ pub mod Air
 pub mod OnAir
 pub mod Expanding
 pub mod Needed
+pub mod Lists
+pub mod Orders

@@ -22,7 +22,7 @@ use Rattle.rules.proofs.Lists.{at-in, rising-one, rising-unique}
 use Rattle.rules.proofs.Meeting.{period-divides, takes-iff}
 use Rattle.rules.proofs.Entries.{does-work, Working, on-way-works, idle-not-working, one-hop, entry-unique}
 use Rattle.order.proofs.Steps.{on}
-use Rattle.order.proofs.Lawful.{same-site}
+use Rattle.rules.proofs.Lawful.{same-site}
 use Rattle.promises.specs.OnAir.{LookAlike, NeverAlike}
 use Rattle.promises.proofs.Air.{Follow, Follows, within, first-turn, row-same}
 

@@ -2,18 +2,19 @@
 use mathlib.Core.Path.{_≡_}
 use mathlib.Core.Logic.{_⊎_, _↔_}
 use mathlib.Core.Bool.{true}
-use mathlib.Core.List.{List}
+use mathlib.Core.List.{List, [], _∷_, _++_}
 use Prim.Native.Nat.{ℕ, _+_, _≤_}
 use lib.ListN.{length, getD, take}
-use Rattle.rules.specs.Words.{TwoBytes, _∈_, Count}
+use Rattle.rules.specs.Words.{TwoBytes, _∈_, Count, Reordered, Each}
 use Rattle.rules.specs.Tiles.{cycleSlots}
 use Rattle.rules.specs.Topology.{Touches}
 use Rattle.rules.specs.Book.{Row, Book, hops, rowHop, LawfulBook}
 use Rattle.rules.specs.Placing.{NoPlacing, Asked}
-use Rattle.rules.specs.Image.{newest, encode, Stored}
+use Rattle.rules.specs.Image.{newest, FullSize, Stored}
 use Rattle.rules.specs.Table.{Active}
-use Rattle.rules.specs.Calls.{Check, Rewrite, Serve, Balance}
+use Rattle.rules.specs.Calls.{Check, Rewrite, Request, mostRequests, Serve, Balance}
 use Rattle.rules.specs.Calls.Request.{Open, Close}
+use Rattle.rules.specs.Order.{idOf, IdInRange, current, Posting, SameStream, InAnyOrder}
 use Rattle.rules.proofs.Balances.{Works}
 
 -- a check says 0 exactly if the bytes are the image of a lawful book, and that book is the only one
@@ -47,6 +48,8 @@ pub record HasStream (q : Asked) (c : Book) : Type 0 where
   pub first : HasWay c (q .id) 1
   pub second : HasWay c (q .id) 2 ↔ (q .second ≡ true)
 
+-- OPEN AND CLOSE
+
 -- a done open leaves a lawful book in which only the stream of the id is new
 abbrev pub OpenAdds : Type 0
 OpenAdds =
@@ -64,8 +67,69 @@ abbrev pub CloseUndoesOpen : Type 0
 CloseUndoesOpen =
     (image : List ℕ) (v : ℕ) (b : Book) → Stored image v b
     → (q : Asked) (out : List ℕ) (len : ℕ) (out′ : List ℕ) → TwoBytes (q .id) → Serve image (Open q) out 0 len out′
-    → (out₂ : List ℕ) (number len₂ : ℕ) (out₂′ : List ℕ) → length (encode newest b) ≤ length out₂ → Serve (take len out′) (Close (q .id)) out₂ number len₂ out₂′
+    → (out₂ : List ℕ) (number len₂ : ℕ) (out₂′ : List ℕ) → FullSize out₂ → Serve (take len out′) (Close (q .id)) out₂ number len₂ out₂′
     → (number ≡ 0) × Stored (take len₂ out₂′) newest b × (v ≡ newest → take len₂ out₂′ ≡ image)
+
+-- LISTS
+
+-- a posted list leaves a lawful book of the same site, in which only the streams of records that were done have moved
+abbrev pub PostMovesItsOwn : Type 0
+PostMovesItsOwn =
+    (image : List ℕ) (v : ℕ) (b : Book) (qs : List Request) → Stored image v b → length qs ≤ mostRequests → ((q : Request) → q ∈ qs → IdInRange q)
+    → (number : ℕ) (answers last : List ℕ) → Posting FullSize image qs number answers last
+    → (w : ℕ) × (c : Book) × Stored last w c × (c .site ≡ b .site)
+    × ((r : Row) → Each (λ (q : Request) (n : ℕ). n ≡ 0 → idOf q ≡ r .id → ⊥) qs answers → (r ∈ b .rows) ↔ (r ∈ c .rows))
+
+-- a list may be cut in two anywhere: the second part, posted on what the first left, gives the same answers and the same last image
+abbrev pub ListsJoin : Type 0
+ListsJoin =
+    (image : List ℕ) (v : ℕ) (b : Book) (qs ps : List Request) → Stored image v b → length (qs ++ ps) ≤ mostRequests
+    → ((q : Request) → q ∈ (qs ++ ps) → IdInRange q)
+    → (n m k : ℕ) (ns ms ks between last last′ : List ℕ)
+    → Posting FullSize image qs n ns between → Posting FullSize between ps m ms last → Posting FullSize image (qs ++ ps) k ks last′
+    → (ks ≡ ns ++ ms) × (last′ ≡ last)
+
+-- the calls of the requests by themselves, one after the other, each with a full-size buffer on the image that the one before left
+abbrev pub OneByOne : List ℕ → List Request → List ℕ → List ℕ → Type 0
+OneByOne image [] [] last = last ≡ image
+OneByOne image [] (n ∷ ns) last = ⊥
+OneByOne image (q ∷ qs) [] last = ⊥
+OneByOne image (q ∷ qs) (n ∷ ns) last =
+    (out out′ : List ℕ) × (len : ℕ) × FullSize out × Serve image q out n len out′ × OneByOne (current image len out′) qs ns last
+
+-- they give what the list gives: the same answers, and the same last image
+abbrev pub ListIsItsCalls : Type 0
+ListIsItsCalls =
+    (image : List ℕ) (v : ℕ) (b : Book) (qs : List Request) → Stored image v b → length qs ≤ mostRequests → ((q : Request) → q ∈ qs → IdInRange q)
+    → (n : ℕ) (ns ms last last′ : List ℕ) → OneByOne image qs ns last → Posting FullSize image qs n ms last′ → (ms ≡ ns) × (last′ ≡ last)
+
+-- IN ANY ORDER: what demand 3 says to those who file requests
+
+-- in the list the request is answered n
+abbrev pub Gets : Request → ℕ → List Request → List ℕ → Type 0
+Gets q n [] ns = ⊥
+Gets q n (p ∷ ps) [] = ⊥
+Gets q n (p ∷ ps) (m ∷ ns) = ((p ≡ q) × (m ≡ n)) ⊎ Gets q n ps ns
+
+-- every order of the list can be posted, all come to one image, and in it the streams that no request names stand as before
+pub record OneImage (image : List ℕ) (qs : List Request) : Type 0 where
+  pub last : List ℕ
+  pub every : (ps : List Request) → Reordered qs ps → (answers : List ℕ) × Posting FullSize image ps 0 answers last
+  pub others : (id : ℕ) → ((q : Request) → q ∈ qs → idOf q ≡ id → ⊥) → SameStream id last image
+
+-- to the clerk: the order in which envelopes are opened decides nothing
+abbrev pub OrderDecidesNothing : Type 0
+OrderDecidesNothing = (image : List ℕ) (qs : List Request) → InAnyOrder FullSize image qs → OneImage image qs
+
+-- to a yard: its request gets one answer and one stream, whatever else is in the list and in whatever order
+abbrev pub OwnRequestDecides : Type 0
+OwnRequestDecides =
+    (image : List ℕ) (v : ℕ) (b : Book) → Stored image v b → (qs qs′ : List Request) → InAnyOrder FullSize image qs → InAnyOrder FullSize image qs′
+    → (ps ps′ : List Request) (n n′ : ℕ) (ns ns′ last last′ : List ℕ) → Reordered qs ps → Reordered qs′ ps′
+    → Posting FullSize image ps n ns last → Posting FullSize image ps′ n′ ns′ last′
+    → (q : Request) (m m′ : ℕ) → Gets q m ps ns → Gets q m′ ps′ ns′ → (m ≡ m′) × SameStream (idOf q) last last′
+
+-- PLACINGS, ROUTES, BALANCES
 
 -- a stream that has no placing beside some rows has none beside those rows and more
 abbrev pub MoreRowsNeverHelp : Type 0

@@ -16,18 +16,10 @@ use Rattle.rules.proofs.Ways.{joined-known}
 use Rattle.rules.proofs.Seconds.{Without}
 use Rattle.bitset.specs.Rows.{topology}
 use Rattle.bitset.specs.Sets.{SetOf}
-use Rattle.bitset.proofs.Bits.{zero-none, within}
+use Rattle.bitset.proofs.Bits.{within}
 use Rattle.bitset.proofs.Members.{all-within}
 use Rattle.routes.specs.Planner.{Asked}
 use Rattle.routes.specs.Second.{mostNodes, Copied, LinkCut}
-
-pub removed : (set b : ℕ) {one r : ℕ} → SetOf (λ (k : ℕ). Has 0 k ⊎ (k ≡ b)) one → SetOf (λ (k : ℕ). Has set k × (Has one k → ⊥)) r
-    → SetOf (λ (k : ℕ). Has set k × (k ≡ b → ⊥)) r
-removed set b s d = record {
-  fits = d .fits;
-  only = λ k h. (d .only k h .0, λ e. d .only k h .1 (s .all k (inr e)));
-  all = λ k p. d .all k (p .0, λ h. ⊎-elim (λ z. zero-none k z) (λ e. p .1 e) (s .only k h));
-}
 
 -- THE COPY
 pub copied-none : (links : List ℕ) → Copied links 0 (replicate mostNodes 0)

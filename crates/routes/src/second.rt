@@ -25,14 +25,6 @@ pub struct Sought {
     pub nodes: [u8; ROUTE_HOPS + 1],
 }
 
-// The set without b.
-fn without(set: u64, b: usize) -> u64
-    requires { ⌜ b < mostNodes ⌝ }
-    ensures { λ r. ⌜ SetOf (λ (k : ℕ). Has set k × (k ≡ b → ⊥)) r ⌝ }
-{
-    bitset::difference(set, bitset::insert(0, b))
-}
-
 // The rows of a site, and zeros after them.
 fn copy(links: &[u64]) -> [u64; NODES]
     requires { ⌜ length (now links) ≤ mostNodes ⌝ }
@@ -53,8 +45,8 @@ fn without_link(links: &[u64], a: usize, b: usize) -> [u64; NODES]
     ensures { λ r. ⌜ LinkCut (now (links .entry)) a b r ⌝ }
 {
     let mut rows = copy(links);
-    rows[a] = without(rows[a], b);
-    rows[b] = without(rows[b], a);
+    rows[a] = bitset::remove(rows[a], b);
+    rows[b] = bitset::remove(rows[b], a);
     rows
 }
 
@@ -66,7 +58,7 @@ fn without_middles(set: u64, route: &[u8]) -> u64
     let mut left = set;
     let mut i = 1;
     while i + 1 < route.len() {
-        left = without(left, route[i] as usize);
+        left = bitset::remove(left, route[i] as usize);
         i += 1;
     }
     left

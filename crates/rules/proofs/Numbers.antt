@@ -7,17 +7,18 @@ use Rattle.rules.specs.Tiles.{Plan}
 use Rattle.rules.specs.Book.{Book}
 use Rattle.rules.specs.Placing.{Asked}
 use Rattle.rules.specs.Image.{imageRefusals}
-use Rattle.rules.specs.Calls.{newRefusals, checkRefusals, rewriteRefusals, openRefusals, closeRefusals, expandRefusals, balanceRefusals, routesRefusals}
+use Rattle.rules.specs.Calls.{newRefusals, checkRefusals, rewriteRefusals, postRefusals, openRefusals, closeRefusals, expandRefusals, balanceRefusals, routesRefusals}
 
 abbrev numbers : List Refusal → List ℕ
 numbers [] = []
 numbers (r ∷ rs) = r .number ∷ numbers rs
 
--- image; then open, close, rewrite, expand, balance, routes between; new book
-pub record InOrder : Type 0 where
+-- image; then post, and of its records open and close; rewrite, expand, balance, routes between; new book
+pub record Ordered : Type 0 where
   pub image : (s : List ℕ) → numbers (imageRefusals s) ≡ 14 ∷ 13 ∷ 10 ∷ 14 ∷ 11 ∷ 15 ∷ 16 ∷ []
-  pub opens : (middle : ℕ) (q : Asked) (room : ℕ) (b : Book) → numbers (openRefusals middle q room b) ≡ 1 ∷ 4 ∷ 5 ∷ 6 ∷ 2 ∷ 7 ∷ 17 ∷ 18 ∷ 8 ∷ 9 ∷ 12 ∷ []
-  pub closes : (middle id room : ℕ) (b : Book) → numbers (closeRefusals middle id room b) ≡ 1 ∷ 3 ∷ 12 ∷ []
+  pub posts : (count room v : ℕ) (b : Book) → numbers (postRefusals count room v b) ≡ 26 ∷ 12 ∷ []
+  pub opens : (middle : ℕ) (q : Asked) (b : Book) → numbers (openRefusals middle q b) ≡ 1 ∷ 4 ∷ 5 ∷ 6 ∷ 2 ∷ 7 ∷ 17 ∷ 18 ∷ 8 ∷ 9 ∷ []
+  pub closes : (id : ℕ) (b : Book) → numbers (closeRefusals id b) ≡ 1 ∷ 3 ∷ []
   pub rewrites : (room v : ℕ) (b : Book) → numbers (rewriteRefusals room v b) ≡ 12 ∷ []
   pub expands : (node room v : ℕ) (b : Book) → numbers (expandRefusals node room v b) ≡ 4 ∷ 12 ∷ []
   pub balances : (node v : ℕ) (b : Book) → numbers (balanceRefusals node v b) ≡ 4 ∷ []
@@ -25,11 +26,12 @@ pub record InOrder : Type 0 where
   pub news : (plan : Plan) (N : ℕ) (links : List ℕ) (room : ℕ) → numbers (newRefusals plan N links room) ≡ 10 ∷ 11 ∷ 12 ∷ []
   pub checks : (v : ℕ) (b : Book) → numbers (checkRefusals v b) ≡ []
 
-pub in-order : InOrder
-in-order = record {
+pub ordered : Ordered
+ordered = record {
   image = λ s. refl;
-  opens = λ middle q room b. refl;
-  closes = λ middle id room b. refl;
+  posts = λ count room v b. refl;
+  opens = λ middle q b. refl;
+  closes = λ id b. refl;
   rewrites = λ room v b. refl;
   expands = λ node room v b. refl;
   balances = λ node v b. refl;

@@ -1,6 +1,6 @@
 //! The jobs: each makes its calls, and shows what every call gave back.
 
-use crate::planners::{Planner, Said, Stream};
+use crate::planners::{Planner, Request, Said, Stream};
 use crate::site::{NODES, PLAN, doubled_streams, linked_topology, streams, topology};
 use reference::image;
 use reference::version::Version;
@@ -86,16 +86,20 @@ pub struct Job {
 /// A check of one image.
 pub const CHECK: Job = Job { name: "check: the full book", run: check };
 
-pub const JOBS: [Job; 13] = [
+pub const JOBS: [Job; 17] = [
     Job { name: "new: the empty book", run: new },
     Job { name: "open: 64 streams, one after the other", run: open },
     Job { name: "open: 32 streams with a second route, one after the other", run: open_doubled },
+    Job { name: "post: 64 opens in one list", run: post_opens },
+    Job { name: "post: 32 opens with a second route in one list", run: post_doubled },
     CHECK,
     Job { name: "rewrite: the full book", run: rewrite },
     Job { name: "expand: every node of the full book", run: expand },
     Job { name: "balance: every node of the full book", run: balance },
     Job { name: "close: 64 streams, one after the other", run: close },
     Job { name: "close: 32 streams with a second route, one after the other", run: close_doubled },
+    Job { name: "post: 64 closes in one list", run: post_closes },
+    Job { name: "post: 32 closes, each followed by its open, in one list", run: post_in_turn },
     Job { name: "close: each stream of the full book in version 1", run: close_older },
     Job { name: "routes: from 32 nodes to one two across and two down", run: routes },
     Job { name: "routes: from every node to one 3 to 6 hops away, empty book", run: far_routes },
@@ -119,6 +123,40 @@ fn open_doubled(planner: &dyn Planner, site: &Site, show: Show) {
 fn open_all(planner: &dyn Planner, empty: &[u8], streams: &[Stream], show: Show) -> Vec<u8> {
     let call = |book: &[u8], stream: &Stream, out: &mut [u8]| planner.open(book, stream, out);
     in_turn(empty, streams, call, show)
+}
+
+fn post_opens(planner: &dyn Planner, site: &Site, show: Show) {
+    post_all(planner, &site.empty, &site.streams, |stream| vec![Request::open(stream)], show);
+}
+
+fn post_doubled(planner: &dyn Planner, site: &Site, show: Show) {
+    post_all(planner, &site.empty, &site.doubled, |stream| vec![Request::open(stream)], show);
+}
+
+fn post_closes(planner: &dyn Planner, site: &Site, show: Show) {
+    post_all(planner, &site.full, &site.streams, |stream| vec![Request::close(stream)], show);
+}
+
+fn post_in_turn(planner: &dyn Planner, site: &Site, show: Show) {
+    let anew = |stream: &Stream| vec![Request::close(stream), Request::open(stream)];
+    post_all(planner, &site.full, &site.streams[..32], anew, show);
+}
+
+/// Posts the requests of every stream in one list, and shows each of their answers.
+fn post_all(
+    planner: &dyn Planner,
+    book: &[u8],
+    streams: &[Stream],
+    requests: impl Fn(&Stream) -> Vec<Request>,
+    show: Show,
+) {
+    let mut out = [0; LONGEST_IMAGE];
+    let mut list: Vec<Request> = streams.iter().flat_map(requests).collect();
+    let said = planner.post(book, &mut list, &mut out);
+    show_bytes(show, said, &out);
+    for request in &list {
+        show(request.answer, &[]);
+    }
 }
 
 fn check(planner: &dyn Planner, site: &Site, show: Show) {

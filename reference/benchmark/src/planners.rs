@@ -2,6 +2,7 @@
 
 use reference::calls;
 use reference::change::Open;
+use reference::record::Record;
 
 /// What a call gives back: its number, and the length of its answer.
 pub type Said = (u8, usize);
@@ -13,6 +14,7 @@ pub trait Planner {
     fn rewrite(&self, book: &[u8], out: &mut [u8]) -> Said;
     fn open(&self, book: &[u8], stream: &Stream, out: &mut [u8]) -> Said;
     fn close(&self, book: &[u8], id: u16, out: &mut [u8]) -> Said;
+    fn post(&self, book: &[u8], requests: &mut [Request], out: &mut [u8]) -> Said;
     fn expand(&self, book: &[u8], node: u8, out: &mut [u8]) -> Said;
     fn balance(&self, book: &[u8], node: u8) -> (u8, [u32; 3]);
     fn routes(&self, book: &[u8], source: u8, destination: u8, out: &mut [u8]) -> (Said, bool);
@@ -37,11 +39,37 @@ pub struct Stream {
     pub second: bool,
 }
 
+/// A request of a list, as `include/lindurask.h` lays it out.
+#[derive(Clone, Copy)]
+#[repr(C)]
+pub struct Request {
+    pub opens: bool,
+    pub second: bool,
+    pub source: u8,
+    pub destination: u8,
+    pub id: u16,
+    pub period: u16,
+    pub answer: u8,
+}
+
+impl Request {
+    pub fn open(stream: &Stream) -> Request {
+        let Stream { id, source, destination, period, second } = *stream;
+        Request { opens: true, second, source, destination, id, period, answer: u8::MAX }
+    }
+
+    pub fn close(stream: &Stream) -> Request {
+        Request { opens: false, ..Request::open(stream) }
+    }
+}
+
 /// A planner with the C interface of `include/lindurask.h`, under these names.
 macro_rules! planner_in_c {
     ($planner:ident, $module:ident, $new:literal, $check:literal, $rewrite:literal, $open:literal,
-     $close:literal, $expand:literal, $balance:literal, $routes:literal) => {
+     $close:literal, $post:literal, $expand:literal, $balance:literal, $routes:literal) => {
         mod $module {
+            use super::Request;
+
             unsafe extern "C" {
                 #[link_name = $new]
                 pub fn new(
@@ -85,6 +113,16 @@ macro_rules! planner_in_c {
                     book: *const u8,
                     book_len: usize,
                     id: u16,
+                    out: *mut u8,
+                    out_len: usize,
+                    length: *mut usize,
+                ) -> u8;
+                #[link_name = $post]
+                pub fn post(
+                    book: *const u8,
+                    book_len: usize,
+                    requests: *mut Request,
+                    count: usize,
                     out: *mut u8,
                     out_len: usize,
                     length: *mut usize,
@@ -183,6 +221,14 @@ macro_rules! planner_in_c {
                 })
             }
 
+            fn post(&self, book: &[u8], requests: &mut [Request], out: &mut [u8]) -> Said {
+                let (image, size) = (book.as_ptr(), book.len());
+                let (list, count) = (requests.as_mut_ptr(), requests.len());
+                said(|length| unsafe {
+                    $module::post(image, size, list, count, out.as_mut_ptr(), out.len(), length)
+                })
+            }
+
             fn expand(&self, book: &[u8], node: u8, out: &mut [u8]) -> Said {
                 let (image, size) = (book.as_ptr(), book.len());
                 said(|length| unsafe {
@@ -225,6 +271,7 @@ planner_in_c!(
     "lindurask_rewrite",
     "lindurask_open",
     "lindurask_close",
+    "lindurask_post",
     "lindurask_expand",
     "lindurask_balance",
     "lindurask_routes"
@@ -238,6 +285,7 @@ planner_in_c!(
     "fast_rewrite",
     "fast_open",
     "fast_close",
+    "fast_post",
     "fast_expand",
     "fast_balance",
     "fast_routes"
@@ -275,6 +323,15 @@ impl Planner for Reference {
         calls::close(book, id, out)
     }
 
+    fn post(&self, book: &[u8], requests: &mut [Request], out: &mut [u8]) -> Said {
+        let mut records: Vec<Record> = requests.iter().map(record).collect();
+        let said = calls::post(book, &mut records, out);
+        for (request, record) in requests.iter_mut().zip(records) {
+            request.answer = record.answer;
+        }
+        said
+    }
+
     fn expand(&self, book: &[u8], node: u8, out: &mut [u8]) -> Said {
         calls::expand(book, node, out)
     }
@@ -288,4 +345,9 @@ impl Planner for Reference {
         let (number, length, more) = calls::routes(book, source, destination, out);
         ((number, length), more)
     }
+}
+
+fn record(request: &Request) -> Record {
+    let Request { opens, second, source, destination, id, period, answer } = *request;
+    Record { opens, second, source, destination, id, period, answer }
 }

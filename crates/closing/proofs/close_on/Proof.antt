@@ -1,7 +1,7 @@
--- A close is refused by its own number, or writes the image without the row.
+-- A close is refused by its own number, or writes the image without the rows.
 use native.Mathlib.Omega.{arith}
 use mathlib.Core.Path.{subst}
-use Rattle.answers.proofs.Replies.{reply-refused, reply-next}
+use mathlib.Core.Logic.{inl, inr}
 use Rattle.finding.specs.Spot.{SpotOf}
 use Rattle.finding.proofs.Ids.{vacant-unknown, taken-known}
 use borrow.Author.Needs.{needs}
@@ -9,23 +9,36 @@ use Rattle.closing.proofs.close_on.Statement.{statement}
 use Rattle.closing.proofs.close_on.Tie as tie
 
 returns : tie.Need-returns
-returns c = reply-refused (c .before .if1 .taken) (λ z. omega arith) (c .refused .ensures .0) (c .refused .ensures .1)
+returns c = record {
+  says = inl (c .before .if1 .taken, c .refused .ensures .0);
+  refused = λ f. c .before .before .before .pre .index;
+  done = λ z. absurd (omega (arith, c .refused .ensures .0));
+}
 
 take-out-requires : tie.Need-take-out-requires
-take-out-requires c κs =
-    let f = c .before .before .before .before in (f .before .before .before .before .pre, subst (SpotOf _ _) (c .before .before .at .given .1) (f .find .ensures))
+take-out-requires c κs = (
+  c .before .before .before .before .before .before .before .before .pre,
+  subst (SpotOf _ _) (c .before .before .before .at .given .1) (c .before .before .before .before .before .find .ensures),
+)
 
 returns-2 : tie.Need-returns-2
 returns-2 c =
-    reply-next (c .before .before .before .before .if1 .left)
-    (reply-refused (λ k. vacant-unknown (subst (SpotOf _ _) (c .before .enum-told .given .1) (c .before .before .before .find .ensures)) k) (λ z. omega arith)
-    (c .refused2 .ensures .0) (c .refused2 .ensures .1))
+    let free = subst (SpotOf _ _) (c .before .enum-told .given .1) (c .before .before .before .find .ensures) in
+    record {
+      says = inr (c .before .before .before .before .if1 .left, inl (λ k. vacant-unknown free k, c .refused2 .ensures .0));
+      refused = λ f. c .before .before .before .before .before .before .pre .index;
+      done = λ z. absurd (omega (arith, c .refused2 .ensures .0));
+    }
 
 returns-3 : tie.Need-returns-3
 returns-3 c =
-    reply-next (c .before .before .before .before .before .before .before .before .if1 .left)
-    (reply-next (λ f. f (taken-known (subst (SpotOf _ _) (c .before .before .before .before .before .at .given .1)
-    (c .before .before .before .before .before .before .before .find .ensures)))) (c .before .before .take-out .ensures))
+    let here = subst (SpotOf _ _) (c .before .before .before .before .at .given .1) (c .before .before .before .before .before .before .find .ensures) in
+    let done = c .take-out .ensures in
+    record {
+      says = inr (c .before .before .before .before .before .before .before .if1 .left, inr (λ f. f (taken-known here), done .0));
+      refused = λ f. absurd (f (done .0));
+      done = λ z. done .1;
+    }
 
 pub close-on-spec : {M : Type 1} → statement M
 close-on-spec =
@@ -33,11 +46,10 @@ close-on-spec =
     (tie.spec
     (λ c κs. search needs)
     returns
-    (λ c κs. search needs)
+    (λ c κs. c .before .before .pre .newest .lawful)
     (λ c. search needs)
     (λ c κs. search needs)
     (λ c. search needs)
     take-out-requires
     returns-2
-    (λ c. search needs)
     returns-3)

@@ -2,32 +2,24 @@
 use mathlib.Core.Path.{subst}
 use native.Mathlib.Omega.{arith}
 use borrow.Author.Needs.{needs}
-use Rattle.answers.proofs.Replies.{reply-refused, reply-next}
 use Rattle.finding.specs.Spot.{SpotOf}
 use Rattle.finding.proofs.Ids.{vacant-unknown, taken-known}
+use Rattle.opening.proofs.Outcomes.{out-refused, out-next}
 use Rattle.opening.proofs.open_asked.Statement.{statement}
 use Rattle.opening.proofs.open_asked.Tie as tie
 
 find-requires : tie.Need-find-requires
-find-requires c κs = c .before .before .pre .image .newest .lawful
+find-requires c κs = c .before .pre .image .newest .lawful
 
 open-new-requires : tie.Need-open-new-requires
-open-new-requires c κs =
-    record {
-      asked = c .before .before .before .before .before .before .before .before .pre;
-      vacant = subst (SpotOf _ _) (c .before .before .before .at .given .1)
-          (c .before .before .before .before .before .find .ensures);
-    }
+open-new-requires c κs = record { asked = c .before .before .before .before .before .before .before .pre; vacant = subst (SpotOf _ _) (c .before .before .before .at .given .1) (c .before .before .before .before .before .find .ensures) }
 
 returns : tie.Need-returns
 returns c =
-    reply-refused (taken-known (subst (SpotOf _ _) (c .before .enum-told .given .1) (c .before .before .before .find .ensures))) (λ z. omega arith)
-    (c .refused .ensures .0) (c .refused .ensures .1)
+    out-refused (taken-known (subst (SpotOf _ _) (c .before .enum-told .given .1) (c .before .before .before .find .ensures))) (λ z. omega arith) (c .refused .ensures .0) (c .before .before .before .before .before .pre .image .index)
 
 returns-2 : tie.Need-returns-2
-returns-2 c =
-    reply-next (λ k. vacant-unknown (subst (SpotOf _ _) (c .before .before .before .before .before .before .at .given .1)
-    (c .before .before .before .before .before .before .before .before .find .ensures)) k) (c .before .before .open-new .ensures)
+returns-2 c = out-next (λ k. vacant-unknown (subst (SpotOf _ _) (c .before .before .before .before .at .given .1) (c .before .before .before .before .before .before .find .ensures)) k) (c .open-new .ensures)
 
 pub open-asked-spec : {M : Type 1} → statement M
 open-asked-spec =
@@ -39,5 +31,4 @@ open-asked-spec =
     (λ c. search needs)
     open-new-requires
     returns
-    (λ c. search needs)
     returns-2)

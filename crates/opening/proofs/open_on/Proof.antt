@@ -8,24 +8,16 @@ use Rattle.opening.proofs.open_on.Statement.{statement}
 use Rattle.opening.proofs.open_on.Tie as tie
 
 read-requires : tie.Need-read-requires
-read-requires c κs = stored-long (c .before .before .pre .newest .lawful)
+read-requires c κs = stored-long (c .before .pre .newest .lawful)
 
 open-asked-requires : tie.Need-open-asked-requires
-open-asked-requires c κs =
-    judged-beside (c .before .before .before .before .before .before .read .ensures)
-    (subst (JudgedBy _ _) (c .before .before .before .place .given .1) (c .before .before .before .before .before .judge .ensures))
-    (c .before .before .before .before .before .before .before .before .before .pre)
+open-asked-requires c κs = judged-beside (c .before .before .before .before .before .before .read .ensures) (subst (JudgedBy _ _) (c .before .before .before .place .given .1) (c .before .before .before .before .before .judge .ensures)) (c .before .before .before .before .before .before .before .before .pre)
 
 returns : tie.Need-returns
-returns c =
-    judged-refused (c .before .before .before .before .before .read .ensures)
-    (subst (JudgedBy _ _) (c .before .before .number .given .1) (c .before .before .before .before .judge .ensures)) (c .refused .ensures .0) (c .refused .ensures .1)
+returns c = judged-refused (c .before .before .before .before .before .read .ensures) (subst (JudgedBy _ _) (c .before .before .number .given .1) (c .before .before .before .before .judge .ensures)) (c .refused .ensures .0) (c .before .before .before .before .before .before .before .pre .index)
 
 returns-2 : tie.Need-returns-2
-returns-2 c =
-    judged-opens (c .before .before .before .before .before .before .before .before .before .read .ensures)
-    (subst (JudgedBy _ _) (c .before .before .before .before .before .before .place .given .1)
-    (c .before .before .before .before .before .before .before .before .judge .ensures)) (c .before .before .open-asked .ensures)
+returns-2 c = judged-opens (c .before .before .before .before .before .before .before .read .ensures) (subst (JudgedBy _ _) (c .before .before .before .before .place .given .1) (c .before .before .before .before .before .before .judge .ensures)) (c .open-asked .ensures)
 
 pub open-on-spec : {M : Type 1} → statement M
 open-on-spec =
@@ -38,5 +30,4 @@ open-on-spec =
     (λ c. search needs)
     open-asked-requires
     returns
-    (λ c. search needs)
     returns-2)

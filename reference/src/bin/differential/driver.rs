@@ -3,6 +3,7 @@
 
 use crate::dice::Dice;
 use crate::events::events;
+use crate::posting_events::posting_events;
 use crate::second_events::second_events;
 use crate::tally::Tally;
 use reference::calls::MAX_LISTED;
@@ -31,11 +32,11 @@ const LONGEST_LIST: u16 = 8 * MAX_LISTED as u16;
 pub enum Room {
     /// None at all.
     Nothing,
-    /// One byte short of the answer.
+    /// One byte short of what the call needs.
     OneShort,
-    /// The answer's length.
+    /// Just what the call needs.
     Exact,
-    /// The answer's length and this much more.
+    /// What the call needs and this much more.
     Spare(u16),
     /// As long as any answer of the call.
     Full,
@@ -55,17 +56,29 @@ impl Room {
         }
     }
 
-    /// The length in bytes, for a call whose answer has `length` bytes.
-    fn bytes(self, call: Call, length: u16) -> u16 {
+    /// The length in bytes, for a call that needs `needed` bytes.
+    fn bytes(self, call: Call, needed: u16) -> u16 {
         match self {
             Room::Nothing => 0,
-            Room::OneShort => length.saturating_sub(1),
-            Room::Exact => length,
-            Room::Spare(more) => length + more,
+            Room::OneShort => needed.saturating_sub(1),
+            Room::Exact => needed,
+            Room::Spare(more) => needed + more,
             Room::Full if call == Call::Expand => LONGEST_TABLE,
             Room::Full if call == Call::Routes => LONGEST_LIST,
             Room::Full => Version::NEWEST.longest_image() as u16,
             Room::Most => 16384,
+        }
+    }
+}
+
+/// The buffer that a call needs: a change has room for the longest book, any
+/// other call for its answer.
+fn needed(request: &Request) -> u16 {
+    match request.call {
+        Call::Open | Call::Close | Call::Post => Version::NEWEST.longest_image() as u16,
+        _ => {
+            let answer = Request { room: LONGEST_TABLE, ..request.clone() }.answer();
+            answer.counts[0] as u16
         }
     }
 }
@@ -97,14 +110,13 @@ impl Driver {
         assert!(request.bytes.len() <= most_bytes(request.call), "the frame is too long");
         request.fill = self.next_fill();
         if request.call.has_output() {
-            request.room = LONGEST_TABLE;
-            let length = request.answer().counts[0] as u16;
-            request.room = room.bytes(request.call, length);
+            request.room = room.bytes(request.call, needed(&request));
         }
         let expected = request.answer();
-        self.tally.add(self.family, request.call, expected.number);
+        self.tally.add(self.family, request.call, &expected);
         self.tally.add_events(events(&request, &expected));
         self.tally.add_events(second_events(&request, &expected));
+        self.tally.add_events(posting_events(&request, &expected));
         let exchange = Exchange { family: self.family, request, expected: expected.clone() };
         self.batch.push(exchange);
         if self.batch.len() == BATCH {

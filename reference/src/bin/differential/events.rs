@@ -1,9 +1,10 @@
 //! What must have happened in a run, beside every number of every call.
 
 use reference::book::Book;
-use reference::calls::MAX_LISTED;
+use reference::calls::{MAX_LISTED, MAX_RECORDS};
 use reference::frame::{Answer, Call, Request};
 use reference::image;
+use reference::record::{RECORD_BYTES, Record};
 use reference::refusal::DONE;
 use reference::version::Version;
 
@@ -16,8 +17,13 @@ const OLDER_KEPT: &str = "older versions kept by a rewrite";
 const OLDER_CHANGED: &str = "older versions written in the newest by a change";
 const SECOND_OPENED: &str = "second routes opened";
 const BOTH_CLOSED: &str = "streams closed with both their routes";
+const EMPTY_LIST: &str = "postings of an empty list";
+const NONE_DONE: &str = "postings of which no record was done";
+const ALL_DONE: &str = "postings of which every record was done";
+const SOME_DONE: &str = "postings of which some records were done";
+const LONGEST_LIST: &str = "postings of 64 records";
 
-pub const EVENTS: [&str; 9] = [
+pub const EVENTS: [&str; 14] = [
     NO_ROUTE,
     FEW_ROUTES,
     ALL_LISTED,
@@ -27,6 +33,11 @@ pub const EVENTS: [&str; 9] = [
     OLDER_CHANGED,
     SECOND_OPENED,
     BOTH_CLOSED,
+    EMPTY_LIST,
+    NONE_DONE,
+    ALL_DONE,
+    SOME_DONE,
+    LONGEST_LIST,
 ];
 
 /// The events of one call.
@@ -41,6 +52,7 @@ pub fn events(request: &Request, answer: &Answer) -> Vec<&'static str> {
         Call::Routes => vec![routes_event(answer)],
         Call::Rewrite if older => vec![OLDER_KEPT],
         Call::Open | Call::Close if older => vec![OLDER_CHANGED],
+        Call::Post => post_events(answer),
         _ => Vec::new(),
     };
     if older {
@@ -69,6 +81,22 @@ fn routes_event(answer: &Answer) -> &'static str {
         (MAX_LISTED, _) => ALL_LISTED,
         _ => FEW_ROUTES,
     }
+}
+
+fn post_events(answer: &Answer) -> Vec<&'static str> {
+    let records: Vec<Record> =
+        answer.records.chunks_exact(RECORD_BYTES).map(Record::read).collect();
+    let done = records.iter().filter(|record| record.answer == DONE).count();
+    let mut events = vec![match done {
+        _ if records.is_empty() => EMPTY_LIST,
+        0 => NONE_DONE,
+        _ if done == records.len() => ALL_DONE,
+        _ => SOME_DONE,
+    }];
+    if records.len() == MAX_RECORDS {
+        events.push(LONGEST_LIST);
+    }
+    events
 }
 
 /// The rows of a stream.

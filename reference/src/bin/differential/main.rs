@@ -2,19 +2,20 @@
 //!
 //! `differential [--seed S] [--cases N] [--patience SECONDS] -- program arguments…`
 //! puts calls to the program, framed as `reference::frame` says, and compares
-//! number, length or counts, and every byte of the output buffer.
+//! number, length or counts, every byte of the output buffer and of the records.
 //! `differential --self` puts them to the reference itself.
 //!
 //! It fails on the first differences, and where an answer number that the
-//! documents make possible for a call, or one of `events` and `second_events`,
-//! was never reached. `--cases` sets how many calls are thrown beside the fixed
-//! ones.
+//! documents make possible for a call or a record, or one of `events`,
+//! `second_events` and `posting_events`, was never reached. `--cases` sets how
+//! many calls are thrown beside the fixed ones.
 
 mod dice;
 mod driver;
 mod events;
 mod families;
 mod planner;
+mod posting_events;
 mod requests;
 mod second_events;
 mod site;

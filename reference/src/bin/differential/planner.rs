@@ -87,7 +87,7 @@ fn compare_answers(
     let mut differences = Vec::new();
     for exchange in batches.into_iter().flatten() {
         let call = answered.load(Ordering::Relaxed);
-        let answer = Answer::read(&mut output, exchange.request.room)
+        let answer = Answer::read(&mut output, &exchange.request)
             .map_err(|error| no_answer(call, &exchange, &error))?;
         if answer != exchange.expected {
             differences.push(difference(call, &exchange, &answer));
@@ -153,7 +153,15 @@ fn difference(call: u64, exchange: &Exchange, answer: &Answer) -> String {
         let (good, bad) = (expected.out[place], answer.out[place]);
         text += &format!("byte {place} of the buffer: expected {good:02X}, answer {bad:02X}\n");
     }
+    if expected.records != answer.records {
+        let (good, bad) = (hex(&expected.records), hex(&answer.records));
+        text += &format!("records: expected {good}\n         answer   {bad}\n");
+    }
     text
+}
+
+fn hex(bytes: &[u8]) -> String {
+    bytes.iter().map(|byte| format!("{byte:02X}")).collect()
 }
 
 /// The request in words, with its book.
@@ -167,11 +175,14 @@ fn show(exchange: &Exchange) -> String {
              second {second}"
         ),
     };
-    let Request { bytes, room, fill, .. } = &exchange.request;
-    let hex: String = bytes.iter().map(|byte| format!("{byte:02X}")).collect();
+    let Request { bytes, further, room, fill, .. } = &exchange.request;
     format!(
-        "family {}: {call:?} with {arguments}, buffer of {room} bytes {fill:02X}\n{} bytes {hex}\n",
+        "family {}: {call:?} with {arguments}, buffer of {room} bytes {fill:02X}\n\
+         {} bytes {}\nand {} bytes {}\n",
         exchange.family,
-        bytes.len()
+        bytes.len(),
+        hex(bytes),
+        further.len(),
+        hex(further)
     )
 }

@@ -3,6 +3,7 @@
 use crate::dice::Dice;
 use reference::frame::{Call, Request};
 use reference::plan::{PERIODS, Plan};
+use reference::record::Record;
 
 pub fn new(plan: &Plan, nodes: u8, topology: &[u8]) -> Request {
     Request {
@@ -54,8 +55,14 @@ pub fn routes(book: &[u8], source: u8, destination: u8) -> Request {
     Request { node: source, destination, ..on(Call::Routes, book) }
 }
 
+/// A posting of these records.
+pub fn post(book: &[u8], records: &[Record]) -> Request {
+    let further = records.iter().flat_map(Record::write).collect();
+    Request { further, ..on(Call::Post, book) }
+}
+
 /// The calls on a book.
-pub const BOOK_CALLS: [Call; 7] = [
+pub const BOOK_CALLS: [Call; 8] = [
     Call::Check,
     Call::Rewrite,
     Call::Open,
@@ -63,6 +70,7 @@ pub const BOOK_CALLS: [Call; 7] = [
     Call::Expand,
     Call::Balance,
     Call::Routes,
+    Call::Post,
 ];
 
 /// This call on a book that has, or claims, the N of its header; the other
@@ -81,6 +89,27 @@ pub fn any(dice: &mut Dice, call: Call, book: &[u8], ids: &[u16]) -> Request {
             let (source, destination) = any_ends(dice, nodes);
             routes(book, source, destination)
         }
+        Call::Post => {
+            let length = dice.below(6);
+            let records: Vec<Record> = (0..length).map(|_| any_record(dice, nodes, ids)).collect();
+            post(book, &records)
+        }
+    }
+}
+
+/// An open or a close; its other fields, and the answer before the call, are
+/// thrown.
+pub fn any_record(dice: &mut Dice, nodes: u8, ids: &[u16]) -> Record {
+    let opens = dice.chance(70);
+    let (source, destination) = any_ends(dice, nodes);
+    Record {
+        opens,
+        second: dice.chance(35),
+        source,
+        destination,
+        id: any_id(dice, ids, if opens { 6 } else { 80 }),
+        period: any_period(dice),
+        answer: dice.pick(&[0, 0, 1, 12, 26, 255]),
     }
 }
 

@@ -1,82 +1,71 @@
 -- The image with rows more is its front with other counts, the rows, and what stands behind them.
-use Prim.Native.Nat.{ℕ, _-_, _+_}
-use mathlib.Core.Path.{refl}
+use mathlib.Core.Path.{_≡_, refl}
 use mathlib.Core.List.{List}
+use Prim.Native.Nat.{ℕ, _-_, _+_, _*_, _≤_}
 use native.Mathlib.Omega.{arith}
 use lib.ListN.{length, drop, length-drop}
 use lib.Seq.{take-all}
-use Rattle.rules.specs.Image.{streamsOf, hopsOf}
+use Rattle.rules.specs.Image.{newest, rowLength, longestImage, streamsOf, hopsOf}
+use Rattle.rules.specs.Book.{mostStreams, mostHops}
+use Rattle.rules.proofs.Reading.{NewestImage}
 use Rattle.finding.proofs.Ids.{stored-long}
-use Rattle.opening.proofs.More.{place-low, in-refused, in-done}
+use Rattle.opening.proofs.More.{place-low, put-in, put-fits}
 use borrow.Author.Needs.{needs}
 use Rattle.opening.proofs.adding.put_in.Statement.{statement}
 use Rattle.opening.proofs.adding.put_in.Tie as tie
 
 read-requires : tie.Need-read-requires
-read-requires c κs = stored-long (c .before .before .before .pre .0 .0 .lawful)
-
-returns : tie.Need-returns
-returns c =
-    let start = c .before .before .before .before .before .before in
-    λ id new f n k. in-refused (start .pre .0 .0) f _ _ refl refl (start .args .out .now) (c .before .if1 .taken) (c .refused .ensures .0) (c .refused .ensures .1)
+read-requires c κs = stored-long (c .before .before .pre .0 .0 .lawful)
 
 put-head-requires : tie.Need-put-head-requires
 put-head-requires c κs =
-    let start = c .before .before .before .before .before .before .before .before in
+    let start = c .before .before .before .before .before .before in
     let v = start .pre .0 .1 .1 in
-    (place-low (start .pre .0 .0) v, v .inside, omega (arith, v .inside, c .before .before .before .if1 .left))
+    let room = put-fits _ _ _ (start .pre .0 .0) (start .pre .0 .2) (start .pre .1 .0) (start .pre .1 .1) in
+    (place-low (start .pre .0 .0) v, v .inside, omega (arith, v .inside, room))
 
 put-part-requires : tie.Need-put-part-requires
 put-part-requires c κs =
-    let start = c .before .before .before .before .before .before .before .before .before .before .before .before in
-    omega (arith, start .pre .0 .1 .1 .inside, c .before .before .before .before .before .before .before .if1 .left, c .before .before .before .put-head .kept)
+    let start = c .before .before .before .before .before .before .before .before in
+    let room = put-fits _ _ _ (start .pre .0 .0) (start .pre .0 .2) (start .pre .1 .0) (start .pre .1 .1) in
+    omega (arith, start .pre .0 .1 .1 .inside, room, c .before .put-head .kept)
 
 sub-put-part : tie.Need-sub-put-part
-sub-put-part c = c .before .before .before .before .before .before .before .before .before .before .before .before .before .before .before .pre .0 .1 .1 .inside
+sub-put-part c = c .before .before .before .before .before .before .before .before .before .pre .0 .1 .1 .inside
 
 part-put-part-start : tie.Need-part-put-part-start
-part-put-part-start c = c .before .before .before .before .before .before .before .before .before .before .before .before .before .before .before .pre .0 .1 .1 .inside
+part-put-part-start c = c .before .before .before .before .before .before .before .before .before .pre .0 .1 .1 .inside
 
 add-put-part : tie.Need-add-put-part
 add-put-part c =
-    let start = c .before .before .before .before .before .before .before .before .before .before .before .before .before .before .before .before .before in omega
-    (arith, start .pre .0 .1 .1 .inside, c .before .before .before .before .before .before .before .before .before .before .before .before .if1 .left)
+    let start = c .before .before .before .before .before .before .before .before .before .before .before in
+    let room = put-fits _ _ _ (start .pre .0 .0) (start .pre .0 .2) (start .pre .1 .0) (start .pre .1 .1) in
+    omega (arith, start .pre .0 .1 .1 .inside, room)
 
 put-part-requires-2 : tie.Need-put-part-requires-2
 put-part-requires-2 c κs =
-    let start = c .before .before .before .before .before .before .before .before .before .before .before .before .before .before .before .before .before in
-    omega (
-      arith,
-      start .pre .0 .1 .1 .inside,
-      c .before .before .before .before .before .before .before .before .before .before .before .before .if1 .left,
-      c .before .before .before .before .before .before .before .before .put-head .kept,
-      c .before .before .before .before .put-part .kept,
-      length-drop (start .args .at)
-          (start .args .image .now),
-    )
+    let start = c .before .before .before .before .before .before .before .before .before .before .before in
+    let room = put-fits _ _ _ (start .pre .0 .0) (start .pre .0 .2) (start .pre .1 .0) (start .pre .1 .1) in
+    omega
+    (arith, start .pre .0 .1 .1 .inside, room, c .before .before .before .before .put-head .kept, c .before .before .put-part .kept, length-drop (start .args .at) (start .args .image .now))
 
-returns-2 : tie.Need-returns-2
-returns-2 c =
-    let start = c .before .before .before .before .before .before .before .before .before .before .before .before .before .before .before .before .before .before .before .before .before in
+returns : tie.Need-returns
+returns c =
+    let start = c .before .before .before .before .before .before .before .before .before .before .before .before in
     let s : List ℕ = start .args .image .now in
-    let read = c .before .before .before .before .before .before .before .before .before .before .before .before .before .before .before .before .before .read in
+    let read = c .before .before .before .before .before .before .before .before .before .read in
+    let room = put-fits _ _ _ (start .pre .0 .0) (start .pre .0 .2) (start .pre .1 .0) (start .pre .1 .1) in
+    let long : length (start .args .out .now) ≡ longestImage newest = search needs in
     λ id new f n k.
-    in-done (start .pre .0 .0) f (read .result .streams + start .args .rows) (read .result .hops + start .args .hops) (omega (arith, read .ensures .streams, n))
-    (omega (arith, read .ensures .hops, k))
-    (start .args .out .now) _ _ _ _ _ (c .done .ensures .0) (c .done .ensures .1)
-    (c .before .before .before .before .before .before .before .before .before .before .before .before .before .before .before .before .if1 .left)
-    (c .before .before .before .before .before .before .before .before .before .before .before .before .put-head .ensures)
-    (c .before .before .before .before .before .before .before .before .put-part .ensures) refl
-    (take-all (length s - start .args .at) (drop (start .args .at) s) (omega (arith, length-drop (start .args .at) s))) (c .before .before .before .put-part2 .ensures)
+    put-in (start .pre .0 .0) f (read .result .streams + start .args .rows) (read .result .hops + start .args .hops) (omega (arith, read .ensures .streams, n)) (omega (arith, read .ensures .hops, k))
+    (start .args .out .now) _ _ _ _ _ _ long room refl (c .before .before .before .before .before .put-head .ensures) (c .before .before .before .put-part .ensures) refl
+    (take-all (length s - start .args .at) (drop (start .args .at) s) (omega (arith, length-drop (start .args .at) s))) (c .put-part2 .ensures)
 
 pub put-in-spec : {M : Type 1} → statement M
 put-in-spec =
     tie.close
     (tie.spec
     read-requires
-    (λ c. search needs)
-    (λ c κs. search needs)
-    returns
     (λ c. search needs)
     (λ c. search needs)
     (λ c. search needs)
@@ -88,6 +77,5 @@ put-in-spec =
     (λ c. search needs)
     add-put-part
     put-part-requires-2
-    (λ c κs. search needs)
     (λ c. search needs)
-    returns-2)
+    returns)

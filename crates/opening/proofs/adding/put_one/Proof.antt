@@ -9,11 +9,11 @@ use Rattle.opening.proofs.adding.put_one.Statement.{statement}
 use Rattle.opening.proofs.adding.put_one.Tie as tie
 
 row-size-requires : tie.Need-row-size-requires
-row-size-requires c κs = c .before .before .before .before .pre .1 .few
+row-size-requires c κs = c .before .before .before .pre .1 .few
 
 put-row-requires : tie.Need-put-row-requires
 put-row-requires c κs =
-    let p = c .before .before .before .before .before .before .pre in
+    let p = c .before .before .before .before .before .pre in
     ((p .1 .count, p .1 .few, p .0 .period), omega (arith, p .1 .few))
 
 array-share-prefix-new : tie.Need-array-share-prefix-new
@@ -24,18 +24,16 @@ slice-aggregate-put-in c = sym (length-take-le _ _ (omega (arith, c .before .bef
 
 put-in-requires : tie.Need-put-in-requires
 put-in-requires c κs =
-    let p = c .before .before .before .before .before .before .before .before .before .before .pre .0 in
-    let l = length-take-le (c .before .before .before .before .before .row-size .result) (c .before .before .before .put-row .last .0)
-    (omega (arith, c .before .before .before .before .before .row-size .ensures .1, c .before .before .before .put-row .kept)) in
-    ((p .image, (_, p .vacant), omega (arith, l, c .before .before .before .before .before .row-size .ensures .1)), (p .streams, p .hops-in-all))
+    let p = c .before .before .before .before .before .before .before .before .before .pre .0 in
+    let l = length-take-le (c .before .before .before .before .before .row-size .result) (c .before .before .before .put-row .last .0) (omega (arith, c .before .before .before .before .before .row-size .ensures .1, c .before .before .before .put-row .kept)) in
+    ((p .image, (_, p .vacant), omega (arith, l, c .before .before .before .before .before .row-size .ensures .0)), (p .streams, p .hops-in-all))
 
 returns : tie.Need-returns
 returns c =
-    let start = c .before .before .before .before .before .before .before .before .before .before .before .before .before in
-    let fresh = fresh-one (theAsked (start .args .q)) (start .args .route .now) (start .args .offsets .now) _ _
-    (c .before .before .before .before .before .before .before .before .row-size .result) (start .pre .0 .vacant) (start .pre .1)
-    (c .before .before .before .before .before .before .before .before .row-size .ensures .0) (c .before .before .before .before .before .before .put-row .ensures) in
-    c .before .before .put-in .ensures _ _ fresh refl (omega (arith, start .pre .1 .count))
+    let start = c .before .before .before .before .before .before .before .before .before .before in
+    let fresh = fresh-one (theAsked (start .args .q)) (start .args .route .now) (start .args .offsets .now) _ _ (c .before .before .before .before .before .before .row-size .result) (start .pre .0 .vacant) (start .pre .1)
+    (c .before .before .before .before .before .before .row-size .ensures .0) (c .before .before .before .before .put-row .ensures) in
+    c .put-in .ensures _ _ fresh refl (omega (arith, start .pre .1 .count))
 
 pub put-one-spec : {M : Type 1} → statement M
 put-one-spec =
@@ -47,5 +45,4 @@ put-one-spec =
     array-share-prefix-new
     slice-aggregate-put-in
     put-in-requires
-    (λ c. search needs)
     returns)

@@ -14,41 +14,37 @@ use Rattle.opening.proofs.ways.open_beside.Statement.{statement}
 use Rattle.opening.proofs.ways.open_beside.Tie as tie
 
 second-requires : tie.Need-second-requires
-second-requires c κs = second-asked (c .before .before .before .before .before .pre)
+second-requires c κs = second-asked (c .before .before .before .before .pre)
 
 add-end : tie.Need-add-end
-add-end c = omega (arith, second-few (c .before .before .before .before .before .before .before .pre) (c .before .second .ensures))
+add-end c = omega (arith, second-few (c .before .before .before .before .before .before .pre) (c .before .second .ensures))
 
 returns : tie.Need-returns
 returns c =
-    let a = c .before .before .before .before .before .before .before .before .before .before in
+    let a = c .before .before .before .before .before .before .before .before .before in
     let w = a .pre .planned in
     second-refused (a .args .image .now) (theAsked (a .args .q)) (a .args .first .now) (a .pre .asked-two) (any-route (w .new .asked .image .newest .lawful) _ (w .planned))
-    (second-missing (a .pre) (c .before .before .before .before .second .ensures) (not-true _ (c .before .if1 .taken))) (c .refused .ensures .0) (c .refused .ensures .1)
+    (second-missing (a .pre) (c .before .before .before .before .second .ensures) (not-true _ (c .before .if1 .taken))) (c .refused .ensures .0) (w .new .asked .image .index)
 
 array-share-prefix-nodes : tie.Need-array-share-prefix-nodes
 array-share-prefix-nodes c =
-    let few = second-few (c .before .before .before .before .before .before .before .before .before .before .pre) (c .before .before .before .before .second .ensures) in
+    let few = second-few (c .before .before .before .before .before .before .before .before .before .pre) (c .before .before .before .before .second .ensures) in
     let n : length (c .before .before .before .before .second .result .nodes) ≡ 16 = search needs in
     omega arith
 
 slice-aggregate-open-both : tie.Need-slice-aggregate-open-both
 slice-aggregate-open-both c =
-    let few = second-few (c .before .before .before .before .before .before .before .before .before .before .before .pre)
-    (c .before .before .before .before .before .second .ensures) in
+    let few = second-few (c .before .before .before .before .before .before .before .before .before .before .pre) (c .before .before .before .before .before .second .ensures) in
     let n : length (c .before .before .before .before .before .second .result .nodes) ≡ 16 = search needs in
     sym (length-take-le (c .before .before .before .before .before .second .result .hops + 1) (c .before .before .before .before .before .second .result .nodes) (omega arith))
 
 open-both-requires : tie.Need-open-both-requires
-open-both-requires c κs =
-    second-routes (c .before .before .before .before .before .before .before .before .before .before .before .before .pre)
-    (c .before .before .before .before .before .before .second .ensures) (not-false _ (c .before .before .before .if1 .left))
+open-both-requires c κs = second-routes (c .before .before .before .before .before .before .before .before .before .before .before .pre) (c .before .before .before .before .before .before .second .ensures) (not-false _ (c .before .before .before .if1 .left))
 
 returns-2 : tie.Need-returns-2
 returns-2 c =
-    let a = c .before .before .before .before .before .before .before .before .before .before .before .before .before .before .before in
-    routed-new (a .args .image .now) _ _ (second-planned (a .pre) (c .before .before .before .before .before .before .before .before .before .second .ensures)
-    (not-false _ (c .before .before .before .before .before .before .if1 .left))) (c .before .before .open-both .ensures)
+    let a = c .before .before .before .before .before .before .before .before .before .before .before .before in
+    routed-new (a .args .image .now) (theAsked (a .args .q)) _ (second-planned (a .pre) (c .before .before .before .before .before .before .before .second .ensures) (not-false _ (c .before .before .before .before .if1 .left))) (c .open-both .ensures)
 
 pub open-beside-spec : {M : Type 1} → statement M
 open-beside-spec =
@@ -61,5 +57,4 @@ open-beside-spec =
     array-share-prefix-nodes
     slice-aggregate-open-both
     open-both-requires
-    (λ c. search needs)
     returns-2)

@@ -1,4 +1,4 @@
--- Places the stream on two routes: refused by 8, 9 or 12, or the image with its rows.
+-- Places the stream on two routes: refused by 8 or 9, or the image with its rows and the index with them.
 use mathlib.Core.Path.{_≡_, refl, sym}
 use mathlib.Core.Logic.{inl}
 use mathlib.Core.List.{List, [], _∷_}
@@ -10,7 +10,7 @@ use Rattle.rules.specs.Words.{Tests}
 use Rattle.rules.specs.Placing.{Full}
 use Rattle.rules.proofs.Tests.{fails}
 use Rattle.rules.proofs.Reading.{rowsIn, bookIn}
-use Rattle.answers.proofs.Replies.{reply-refused, reply-next}
+use Rattle.opening.proofs.Outcomes.{out-refused, out-next}
 use Rattle.opening.proofs.Placed.{placing-asked, placed-first, placed-none}
 use Rattle.opening.proofs.Routed.{tests-full}
 use borrow.Author.Needs.{needs}
@@ -18,46 +18,45 @@ use Rattle.opening.proofs.ways.open_both.Statement.{statement}
 use Rattle.opening.proofs.ways.open_both.Tie as tie
 
 sub-hops : tie.Need-sub-hops
-sub-hops c = omega (arith, c .before .before .before .before .before .pre .first-route .path .some)
+sub-hops c = omega (arith, c .before .before .before .before .pre .first-route .path .some)
 
 sub-is-full : tie.Need-sub-is-full
-sub-is-full c = omega (arith, c .before .before .before .before .before .pre .second-route .path .some)
+sub-is-full c = omega (arith, c .before .before .before .before .pre .second-route .path .some)
 
 add-is-full : tie.Need-add-is-full
-add-is-full c = omega (arith, c .before .before .before .before .before .pre .first-route .few, c .before .before .before .before .before .pre .second-route .few)
+add-is-full c = omega (arith, c .before .before .before .before .pre .first-route .few, c .before .before .before .before .pre .second-route .few)
 
 is-full-requires : tie.Need-is-full-requires
 is-full-requires c κs =
-    let w = c .before .before .before .before .before .pre in
+    let w = c .before .before .before .before .pre in
     (w .first-route .new .asked .header .small-streams, w .first-route .new .asked .header .small-hops, omega arith, omega (arith, w .first-route .few, w .second-route .few))
 
 -- whether the book is full
-full : (c : tie.After-is-full) → let a = c .before .before .before .before .before .before .args in
+full : (c : tie.After-is-full) → let a = c .before .before .before .before .before .args in
     Tests (c .is-full .result) (Full (bookIn (a .image .now)) (a .first .now ∷ a .second .now ∷ []))
 full c =
-    let a = c .before .before .before .before .before .before in
+    let a = c .before .before .before .before .before in
     let asked = a .pre .first-route .new .asked in
-    tests-full (a .args .image .now) (a .args .book) (a .args .first .now ∷ a .args .second .now ∷ []) 2 _ (asked .image .newest .lawful) (asked .header) refl (omega arith)
-    (c .is-full .ensures)
+    tests-full (a .args .image .now) (a .args .book) (a .args .first .now ∷ a .args .second .now ∷ []) 2 _ (asked .image .newest .lawful) (asked .header) refl (omega arith) (c .is-full .ensures)
 
 -- it is not
-room : (c : tie.Else1) → let a = c .before .before .before .before .before .before .before .args in Full (bookIn (a .image .now)) (a .first .now ∷ a .second .now ∷ []) → ⊥
+room : (c : tie.Else1) → let a = c .before .before .before .before .before .before .args in Full (bookIn (a .image .now)) (a .first .now ∷ a .second .now ∷ []) → ⊥
 room c = fails (full (c .before)) (c .if1 .left)
 
 returns : tie.Need-returns
-returns c = reply-refused (full (c .before .before) .yes (c .before .if1 .taken)) (λ z. omega arith) (c .refused .ensures .0) (c .refused .ensures .1)
+returns c = out-refused (full (c .before .before) .yes (c .before .if1 .taken)) (λ z. omega arith) (c .refused .ensures .0) (c .before .before .before .before .before .before .before .pre .first-route .new .asked .image .index)
 
 first-placing-requires : tie.Need-first-placing-requires
-first-placing-requires c κs = placing-asked (c .before .before .before .before .before .before .before .before .before .pre .first-route)
+first-placing-requires c κs = placing-asked (c .before .before .before .before .before .before .before .before .pre .first-route)
 
 array-share-prefix-offsets : tie.Need-array-share-prefix-offsets
 array-share-prefix-offsets c =
     let n : length (c .before .before .before .before .first-placing .result .offsets) ≡ 15 = search needs in
-    omega (arith, c .before .before .before .before .before .before .before .before .before .before .before .before .before .before .pre .first-route .few)
+    omega (arith, c .before .before .before .before .before .before .before .before .before .before .before .before .before .pre .first-route .few)
 
 slice-aggregate-open-second : tie.Need-slice-aggregate-open-second
 slice-aggregate-open-second c =
-    let a = c .before .before .before .before .before .before .before .before .before .before .before .before .before .before .before in
+    let a = c .before .before .before .before .before .before .before .before .before .before .before .before .before .before in
     let offsets : List ℕ = c .before .before .before .before .before .first-placing .result .offsets in
     let ok = c .before .before .before .before .before .first-placing .ok in
     let n : length offsets ≡ 15 = search needs in
@@ -65,27 +64,25 @@ slice-aggregate-open-second c =
 
 open-second-requires : tie.Need-open-second-requires
 open-second-requires c κs =
-    let a = c .before .before .before .before .before .before .before .before .before .before .before .before .before .before .before .before in
+    let a = c .before .before .before .before .before .before .before .before .before .before .before .before .before .before .before in
     let found = c .before .before .before .before .before .before .first-placing in
     record {
       routes = a .pre;
-      placed = placed-first (a .pre .first-route) (rowsIn (a .args .image .now)) _ (a .pre .first-route .new .asked .image .index) (found .result .found)
-          (found .result .offsets) (found .ensures)
+      placed = placed-first (a .pre .first-route) (rowsIn (a .args .image .now)) _ (a .pre .first-route .new .asked .image .index) (found .result .found) (found .result .offsets) (found .ensures)
           (c .before .before .before .enum-told2 .given .1);
       room = room (c .before .before .before .before .before .before .before .before .before);
     }
 
 returns-2 : tie.Need-returns-2
 returns-2 c =
-    let a = c .before .before .before .before .before .before .before .before .before .before .before .before .before .before in
+    let a = c .before .before .before .before .before .before .before .before .before .before .before .before .before in
     let found = c .before .before .before .before .first-placing in
-    reply-next (room (c .before .before .before .before .before .before .before))
-    (reply-refused (inl (placed-none (a .pre .first-route) (rowsIn (a .args .image .now)) _ (a .pre .first-route .new .asked .image .index) (found .result .found)
-    (found .result .offsets) (found .ensures)
-    (c .before .enum-told .given .1))) (λ z. omega arith) (c .refused2 .ensures .0) (c .refused2 .ensures .1))
+    out-next (room (c .before .before .before .before .before .before .before))
+    (out-refused (inl (placed-none (a .pre .first-route) (rowsIn (a .args .image .now)) _ (a .pre .first-route .new .asked .image .index) (found .result .found) (found .result .offsets) (found .ensures)
+    (c .before .enum-told .given .1))) (λ z. omega arith) (c .refused2 .ensures .0) (a .pre .first-route .new .asked .image .index))
 
 returns-3 : tie.Need-returns-3
-returns-3 c = c .before .before .open-second .ensures
+returns-3 c = c .open-second .ensures
 
 pub open-both-spec : {M : Type 1} → statement M
 open-both-spec =
@@ -105,5 +102,4 @@ open-both-spec =
     slice-aggregate-open-second
     open-second-requires
     returns-2
-    (λ c. search needs)
     returns-3)

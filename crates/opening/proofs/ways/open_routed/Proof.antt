@@ -1,5 +1,5 @@
 -- A second route is asked for, or it is not.
-use borrow.Author.Needs.{needs}
+use Rattle.rules.specs.Periods.{theAsked}
 use Rattle.rules.specs.Placing.Planned.{one}
 use Rattle.opening.proofs.Routed.{routed-new}
 use Rattle.opening.proofs.Planned.{any-route}
@@ -7,30 +7,18 @@ use Rattle.opening.proofs.ways.open_routed.Statement.{statement}
 use Rattle.opening.proofs.ways.open_routed.Tie as tie
 
 open-beside-requires : tie.Need-open-beside-requires
-open-beside-requires c κs =
-    let w = c .before .before .before .before .before .before .before .pre in record { planned = w; heard = w .linked; asked-two = c .before .before .if1 .taken }
+open-beside-requires c κs = let w = c .before .before .before .before .before .before .pre in record { planned = w; heard = w .linked; asked-two = c .before .before .if1 .taken }
 
 open-one-requires : tie.Need-open-one-requires
-open-one-requires c κs =
-    let w = c .before .before .before .before .before .before .before .pre in record
-    { new = w .new; heard = w .linked; path = w .planned .is .between .path; few = w .planned .is .most }
+open-one-requires c κs = let w = c .before .before .before .before .before .before .pre in record { new = w .new; heard = w .linked; path = w .planned .is .between .path; few = w .planned .is .most }
 
 returns : tie.Need-returns
-returns c = c .before .before .open-beside .ensures
+returns c = c .open-beside .ensures
 
 returns-2 : tie.Need-returns-2
 returns-2 c =
-    let a = c .before .before .before .before .before .before .before .before .before .before in
-    routed-new (a .args .image .now) _ _ (one (c .before .before .before .before .before .if1 .left)
-    (any-route (a .pre .new .asked .image .newest .lawful) _ (a .pre .planned))) (c .before .before .open-one .ensures)
+    let a = c .before .before .before .before .before .before .before in
+    routed-new (a .args .image .now) (theAsked (a .args .q)) _ (one (c .before .before .before .if1 .left) (any-route (a .pre .new .asked .image .newest .lawful) _ (a .pre .planned))) (c .open-one .ensures)
 
 pub open-routed-spec : {M : Type 1} → statement M
-open-routed-spec =
-    tie.close
-    (tie.spec
-    open-beside-requires
-    open-one-requires
-    (λ c. search needs)
-    returns
-    (λ c. search needs)
-    returns-2)
+open-routed-spec = tie.close (tie.spec open-beside-requires open-one-requires returns returns-2)

@@ -7,7 +7,7 @@ use Rattle.routes.proofs.second.without_link.Tie as tie
 returns : tie.Need-returns
 returns c =
     let d = c .before .before in
-    link-cut (d .before .before .pre) (d .copy .ensures) (c .before .without .ensures) (c .without2 .ensures)
+    link-cut (d .before .before .pre) (d .copy .ensures) (c .before .remove .ensures) (c .remove2 .ensures)
 
 pub without-link-spec : {M : Type 1} → statement M
 without-link-spec =

@@ -16,11 +16,11 @@ abbrev μ-loop : tie.MeasureT-loop
 loop-holds : tie.Need-loop-holds Inv-loop μ-loop
 loop-holds c = removing-none _ _ (omega arith)
 
-without-requires : tie.Need-without-requires Inv-loop μ-loop
-without-requires c κs = let d = c .before .before in d .before .before .pre _ (at-in (d .before .before .args .route .now) (d .loop .i) (omega arith))
+remove-requires : tie.Need-remove-requires Inv-loop μ-loop
+remove-requires c κs = let d = c .before .before in d .before .before .pre _ (at-in (d .before .before .args .route .now) (d .loop .i) (omega arith))
 
 loop-again : tie.Need-loop-again Inv-loop μ-loop
-loop-again c = removing-more (omega arith) (c .before .before .before .loop .inv) (c .without .ensures)
+loop-again c = removing-more (omega arith) (c .before .before .before .loop .inv) (c .remove .ensures)
 
 returns : tie.Need-returns Inv-loop μ-loop
 returns c = removing-done (omega arith) (c .before .loop .inv)
@@ -35,7 +35,7 @@ without-middles-spec =
     (λ c. omega arith)
     (λ c. omega arith)
     (λ c. omega (arith, c .shared-slice-known2 .given (c .before .before .loop .i) .fits))
-    without-requires
+    remove-requires
     (λ c. omega arith)
     (λ c. omega arith)
     loop-again

@@ -8,6 +8,7 @@ mod limits;
 mod near_misses;
 mod noise;
 mod pairs;
+mod postings;
 mod route_lists;
 mod second_routes;
 mod sequences;
@@ -43,6 +44,8 @@ pub fn fixed(driver: &mut Driver, dice: &mut Dice) {
     second_routes::ask(driver, dice);
     driver.family("lists of routes");
     route_lists::ask(driver);
+    driver.family("postings around their limits");
+    postings::fixed(driver, dice);
 }
 
 /// Asks a few calls of a family.
@@ -50,9 +53,10 @@ type Family = fn(&mut Driver, &mut Dice);
 
 /// The thrown families, `calls` calls in all or a few more.
 pub fn thrown(driver: &mut Driver, dice: &mut Dice, calls: u64) {
-    let families: [(&str, Family, u64); 5] = [
-        ("sequences on quiet sites", sequences::quiet, 30),
-        ("sequences on crowded sites", sequences::crowded, 30),
+    let families: [(&str, Family, u64); 6] = [
+        ("sequences on quiet sites", sequences::quiet, 25),
+        ("sequences on crowded sites", sequences::crowded, 25),
+        ("postings", postings::thrown, 10),
         ("lawful rows no planner would choose", unusual::ask, 20),
         ("books one step from lawful", near_misses::ask, 15),
         ("noise", noise::ask, 5),

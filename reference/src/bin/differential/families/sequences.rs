@@ -66,7 +66,8 @@ fn walk(driver: &mut Driver, dice: &mut Dice, book: Vec<u8>, habit: Habit) {
             request.period = dice.pick(&[20, 50, 100]);
         }
         let answer = driver.ask(request, Room::any(dice));
-        if answer.number == 0 && matches!(call, Call::Open | Call::Close) {
+        let changes = matches!(call, Call::Open | Call::Close | Call::Post);
+        if changes && !answer.written().is_empty() {
             book = answer.written().to_vec();
         }
     }

@@ -1,0 +1,93 @@
+-- The hops of the row are taken out one by one.
+use mathlib.Core.Path.{sym, subst}
+use Prim.Native.Nat.{_+_, _-_, _≤_}
+use native.Mathlib.Omega.{arith}
+use borrow.Author.Needs.{needs}
+use Rattle.rules.specs.Tiles.{Period}
+use Rattle.rules.specs.Image.{planOf}
+use Rattle.rules.proofs.Periods.{found-at, found-nowhere}
+use Rattle.index.specs.Turns.{RepeatsOf}
+use Rattle.index.specs.Marks.{Removes, HopsTake}
+use Rattle.index.proofs.Removing.{unhops-none, unhops-done}
+use Rattle.image.specs.Places.{rowAt}
+use Rattle.closing.proofs.Hops.{node-small, row-repeats, hop-in-index, hop-out}
+use Rattle.closing.proofs.unmark_row.Statement.{statement}
+use Rattle.closing.proofs.unmark_row.Tie as tie
+
+abbrev Inv-loop : tie.InvT-loop
+Inv-loop image at index₀ period repeats h i₀ index i = (i ≤ h) × Removes (HopsTake (planOf image .slots) (rowAt image at) i) index₀ index
+
+abbrev μ-loop : tie.MeasureT-loop
+μ-loop image at index₀ period repeats h i₀ index i = h - i
+
+returns : tie.Need-returns Inv-loop μ-loop
+returns c =
+    absurd (found-nowhere (c .before .before .place-of .ensures) (c .enum-told .given .1)
+    (subst Period (sym (c .before .before .before .period-at .ensures .0)) (c .before .before .before .before .before .pre .1 .lawful .period)))
+
+repeats-of-requires : tie.Need-repeats-of-requires Inv-loop μ-loop
+repeats-of-requires c κs =
+    let p = c .before .before .before .before .before .before .pre in
+    (omega (arith, p .2, p .0 .lawful .site .plan .most), omega (arith, found-at (c .before .before .before .place-of .ensures) (c .before .period .given .1) .0))
+
+abbrev start : tie.After-hops-at Inv-loop μ-loop → tie.Start Inv-loop μ-loop
+start c = c .before .before .before .before .before .before .before .before
+
+-- how the row's period repeats
+repeating : (c : tie.After-hops-at Inv-loop μ-loop)
+    → RepeatsOf (planOf (start c .args .image .now) .slots) (rowAt (start c .args .image .now) (start c .args .at) .period) (c .before .repeats-of .result)
+repeating c =
+    let p = start c .pre in
+    row-repeats (p .0) (p .1) (p .2) (found-at (c .before .before .before .before .before .place-of .ensures) (c .before .before .before .period .given .1))
+    (c .before .before .before .before .before .before .period-at .ensures .0) (c .before .repeats-of .ensures)
+
+loop-holds : tie.Need-loop-holds Inv-loop μ-loop
+loop-holds c = (omega arith, unhops-none _ _ _)
+
+unmark-requires : tie.Need-unmark-requires Inv-loop μ-loop
+unmark-requires c κs =
+    let l = c .before .before .before .before .before in
+    let hops = l .before in
+    let p = start hops .pre in (
+      omega (arith, p .3, l .loop .inv .1 .size),
+      hop-in-index (p .0) (p .1) (repeating hops) (l .loop .i) (omega arith) (c .before .offset-at .ensures .0),
+      omega (arith, c .before .before .before .node-at .ensures .0, node-small (p .0) (p .1) (l .loop .i) (omega arith)),
+      omega (arith, c .before .before .node-at2 .ensures .0, node-small (p .0) (p .1) (l .loop .i + 1) (omega arith)),
+    )
+
+loop-again : tie.Need-loop-again Inv-loop μ-loop
+loop-again c =
+    let l = c .before .before .before .before .before .before in
+    let hops = l .before in
+    let p = start hops .pre in (
+      omega arith,
+      hop-out (p .0) (p .1) (repeating hops) (l .loop .i) (c .before .before .before .before .node-at .ensures .0) (c .before .before .before .node-at2 .ensures .0)
+          (c .before .before .offset-at .ensures .0) (l .loop .inv .1) (c .unmark .ensures),
+    )
+
+returns-2 : tie.Need-returns-2 Inv-loop μ-loop
+returns-2 c = let l = c .before .loop .inv in unhops-done _ _ (omega (arith, l .0)) (l .1)
+
+pub unmark-row-spec : {M : Type 1} → statement M
+unmark-row-spec =
+    tie.close
+    (tie.spec
+    Inv-loop
+    μ-loop
+    (λ c κs. c .before .pre .1 .whole)
+    (λ c κs. search needs)
+    (λ c. search needs)
+    (λ c. search needs)
+    returns
+    repeats-of-requires
+    (λ c κs. c .before .before .before .before .before .before .before .pre .1 .whole)
+    loop-holds
+    (λ c κs. (c .before .before .before .before .before .before .before .before .before .before .pre .1 .whole, omega arith))
+    (λ c. omega arith)
+    (λ c κs. (c .before .before .before .before .before .before .before .before .before .before .before .pre .1 .whole, omega arith))
+    (λ c κs. (c .before .before .before .before .before .before .before .before .before .before .before .before .pre .1 .whole, omega arith))
+    unmark-requires
+    (λ c. omega arith)
+    (λ c. omega arith)
+    loop-again
+    returns-2)

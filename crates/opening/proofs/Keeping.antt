@@ -1,0 +1,59 @@
+-- Rows that were put in and marked: the index is that of the book with them.
+use mathlib.Core.Path.{_≡_, sym, subst, subst₂}
+use mathlib.Core.Logic.{inl, inr}
+use mathlib.Core.List.{List, [], _∷_, _++_}
+use Prim.Native.Nat.{ℕ}
+use Rattle.rules.specs.Words.{_∈_, Reordered}
+use Rattle.rules.specs.Tiles.{periodAt}
+use Rattle.rules.specs.Topology.{hopCount}
+use Rattle.rules.specs.Book.{Row, Book, Plus}
+use Rattle.rules.specs.Placing.{Asked}
+use Rattle.rules.specs.Image.{planOf}
+use Rattle.rules.proofs.Lists.{reordered-in, reordered-back}
+use Rattle.rules.proofs.Reading.{rowsIn, bookIn}
+use Rattle.index.specs.Index.{IndexOf}
+use Rattle.index.specs.Marks.{Adds, HopsTake}
+use Rattle.index.proofs.Rows.{index-more, index-alike}
+use Rattle.placing.specs.Marking as marking
+use Rattle.placing.specs.Marking.{Marked}
+use Rattle.opening.specs.Open.{Kept}
+use Rattle.opening.specs.Puts.{PutIn, rowOn}
+use Rattle.opening.specs.Keeping.{Keeps, MarkedAs, OneKept, TwoKept}
+
+-- the marks of a route are those of its row
+pub marked-row : {s words marks : List ℕ} {q : Asked} {slots place : ℕ} {rows : List Row} {route offsets : List ℕ} (way : ℕ)
+    → MarkedAs s words q slots place rows route offsets → Marked slots place route offsets words marks → IndexOf (planOf s .slots) (rowOn q way route offsets ∷ rows) marks
+marked-row {words = words} {marks} {q} {route = route} {offsets} way w m =
+    index-more (w .index)
+    (subst₂ (λ (K S : ℕ). Adds (HopsTake S (marking.rowOn (q .id) way K route offsets) (hopCount route)) words marks) (w .period-is) (w .slots-are) (m (q .id) way))
+
+-- the rows put in, in whatever order they are marked
+pub kept : {s out words : List ℕ} {new rows : List Row} {len : ℕ} → PutIn s new len out → IndexOf (planOf s .slots) rows words
+    → ((x : Row) → x ∈ rows → x ∈ (new ++ rowsIn s)) → ((x : Row) → x ∈ (new ++ rowsIn s) → x ∈ rows) → Kept (Plus (bookIn s) new) s len out words
+kept p i f g = record {
+  after = p .after;
+  is = p .plus;
+  fits = p .fits;
+  bytes = p .bytes;
+  index = index-alike (λ x m. reordered-back x (p .plus .rows) (f x m)) (λ x m. g x (reordered-in x (p .plus .rows) m)) i;
+}
+
+module _ {s words marks out : List ℕ} {q : Asked} {slots place at number len size : ℕ} (e : number ≡ 0) (l : len ≡ size) where
+  pub keep-one : {route offsets : List ℕ} → OneKept s words q slots place at route offsets → PutIn s (rowOn q 1 route offsets ∷ []) size out → Marked slots place route offsets words marks
+      → Keeps s (rowOn q 1 route offsets ∷ []) number len out marks
+  keep-one {route} {offsets} w p m =
+      (e, subst (λ (n : ℕ). Kept (Plus (bookIn s) (rowOn q 1 route offsets ∷ [])) s n out marks) (sym l) (kept p (marked-row 1 (w .marked) m) (λ x k. k) (λ x k. k)))
+
+  pub keep-two : {first offsets second others : List ℕ} → TwoKept s words q slots place at first offsets second others
+      → PutIn s (rowOn q 1 first offsets ∷ rowOn q 2 second others ∷ []) size out → Marked slots place second others words marks
+      → Keeps s (rowOn q 1 first offsets ∷ rowOn q 2 second others ∷ []) number len out marks
+  keep-two {first} {offsets} {second} {others} w p m = (
+    e,
+    subst (λ (n : ℕ). Kept (Plus (bookIn s) (rowOn q 1 first offsets ∷ rowOn q 2 second others ∷ [])) s n out marks) (sym l)
+        (kept p (marked-row 2 (w .marked) m) (λ x k. swapped (rowsIn s) k) (λ x k. swapped (rowsIn s) k)),
+  )
+    where
+      swapped : {x y z : Row} (rows : List Row) → x ∈ y ∷ z ∷ rows → x ∈ z ∷ y ∷ rows
+      swapped rows (inl k) = inr (inl k)
+      swapped rows (inr (inl k)) = inl k
+      swapped rows (inr (inr k)) = inr (inr k)

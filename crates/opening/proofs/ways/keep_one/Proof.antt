@@ -1,0 +1,21 @@
+-- The row is put in, and marked.
+use borrow.Author.Needs.{needs}
+use Rattle.opening.proofs.Keeping.{keep-one}
+use Rattle.opening.proofs.ways.keep_one.Statement.{statement}
+use Rattle.opening.proofs.ways.keep_one.Tie as tie
+
+mark-requires : tie.Need-mark-requires
+mark-requires c κs = let p = c .before .before .before .before .before .before .pre .marked in (p .markable, p .index .size)
+
+returns : tie.Need-returns
+returns c =
+    keep-one (c .done .ensures .0) (c .done .ensures .1) (c .before .before .before .before .before .before .before .before .pre) (c .before .before .before .put-one .ensures) (c .before .mark .ensures)
+
+pub keep-one-spec : {M : Type 1} → statement M
+keep-one-spec =
+    tie.close
+    (tie.spec
+    (λ c κs. search needs)
+    mark-requires
+    (λ c κs. search needs)
+    returns)

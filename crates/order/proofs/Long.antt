@@ -1,0 +1,77 @@
+-- A book of 510 hops is lawful: each row is in slots of its own.
+use mathlib.Core.Path.{_≡_, refl, sym, ap, _∙_, subst}
+use mathlib.Core.Bool.{Bool, _&&_}
+use mathlib.Core.List.{List}
+use Prim.Native.Nat.{ℕ, _+_, _*_, _/_, _<_}
+use native.Mathlib.Omega.{arith}
+use lib.Dec.{eqb}
+use lib.ListN.{length}
+use Rattle.rules.specs.Words.{_∈_, Tests}
+use Rattle.rules.specs.Tiles.{Meet}
+use Rattle.rules.specs.Book.{Row, Book, hopsInAll, mostStreams, mostHops, rowOffset, LawfulRow, Paired, ClashingHopsMeet, LawfulBook}
+use Rattle.rules.specs.Image.{newest, encode, Stored}
+use Rattle.rules.proofs.Tests.{tests-and, tests-eq, tests-le, allOf, tests-every}
+use Rattle.rules.proofs.Lists.{at-in}
+use Rattle.rules.proofs.Reading.{row-newest}
+use Rattle.model.specs.Reading.{isLawful, isPaired}
+use Rattle.model.proofs.Reading.{tests-site, tests-lawful, tests-rising, tests-paired}
+use Rattle.order.specs.Examples.{longOnes}
+use Rattle.order.proofs.Premises.{so}
+
+-- hops that come once in a cycle meet in their offset
+meet-once : (S o p : ℕ) → Meet S 100 o 100 p → o ≡ p
+meet-once S o p m =
+    let z : m .left .turn ≡ 0 = omega (arith, m .left .within) in
+    let y : m .right .turn ≡ 0 = omega (arith, m .right .within) in
+    omega (arith, m .left .at, m .right .at, ap (λ (t : ℕ). t * (100 * S)) z, ap (λ (t : ℕ). t * (100 * S)) y)
+
+-- the row comes once in a cycle, and its offsets are 15 that its id tells
+abbrev OwnSlots : Row → Type 0
+OwnSlots r = (r .period ≡ 100) × ((r .way ≡ 1) × ((o : ℕ) → o ∈ r .offsets → o / 15 + 1 ≡ r .id))
+
+abbrev ownSlots : Row → Bool
+ownSlots r = eqb (r .period) 100 && (eqb (r .way) 1 && allOf (λ (o : ℕ). eqb (o / 15 + 1) (r .id)) (r .offsets))
+
+tests-own : (r : Row) → Tests (ownSlots r) (OwnSlots r)
+tests-own r =
+    tests-and (tests-eq (r .period) 100)
+    (tests-and (tests-eq (r .way) 1) (tests-every (λ o. eqb (o / 15 + 1) (r .id)) (λ o. tests-eq (o / 15 + 1) (r .id)) (r .offsets)))
+
+-- no two such rows meet
+own-apart : (b : Book) → ((r : Row) → r ∈ b .rows → LawfulRow (b .site) r) → ((r : Row) → r ∈ b .rows → OwnSlots r) → ClashingHopsMeet b → ⊥
+own-apart b lawful own m =
+    let f = own (m .one) (m .one-there) in
+    let g = own (m .other) (m .other-there) in
+    let i : m .meets .hop < length (m .one .offsets) = omega (arith, lawful (m .one) (m .one-there) .offsets .count, m .meets .there) in
+    let j : m .meets .meets .hop < length (m .other .offsets) = omega (arith, lawful (m .other) (m .other-there) .offsets .count, m .meets .meets .there) in
+    let S : ℕ = b .site .plan .slots in
+    let o : ℕ = rowOffset (m .one) (m .meets .hop) in
+    let p : ℕ = rowOffset (m .other) (m .meets .meets .hop) in
+    let e : o ≡ p = meet-once S o p
+    (subst (λ (K : ℕ). Meet S K o 100 p) (f .0) (subst (λ (L : ℕ). Meet S (m .one .period) o L p) (g .0) (m .meets .meets .meet))) in
+    let ids : m .one .id ≡ m .other .id = sym (f .1 .1 o (at-in (m .one .offsets) (m .meets .hop) i)) ∙ ap (λ (x : ℕ). x / 15 + 1) e
+    ∙ g .1 .1 p (at-in (m .other .offsets) (m .meets .meets .hop) j) in
+    m .different (omega (arith, ids, f .1 .0, g .1 .0))
+
+rows-lawful : (r : Row) → r ∈ longOnes .rows → LawfulRow (longOnes .site) r
+rows-lawful = tests-every (isLawful (longOnes .site)) (tests-lawful (longOnes .site)) (longOnes .rows) .yes (so tt)
+
+rows-own : (r : Row) → r ∈ longOnes .rows → OwnSlots r
+rows-own = tests-every ownSlots tests-own (longOnes .rows) .yes (so tt)
+
+rows-paired : (r : Row) → r ∈ longOnes .rows → Paired (longOnes .rows) r
+rows-paired = tests-every (isPaired (longOnes .rows)) (tests-paired (longOnes .rows)) (longOnes .rows) .yes (so tt)
+
+long-lawful : LawfulBook longOnes
+long-lawful = record {
+  site = tests-site (longOnes .site) .yes (so tt);
+  streams = tests-le (length (longOnes .rows)) mostStreams .yes (so tt);
+  hops = tests-le (hopsInAll (longOnes .rows)) mostHops .yes (so tt);
+  rows = rows-lawful;
+  rising = tests-rising (longOnes .rows) .yes (so tt);
+  paired = rows-paired;
+  never-meet = own-apart longOnes rows-lawful rows-own;
+}
+
+pub long-held : Stored (encode newest longOnes) newest longOnes
+long-held = record { version = (omega arith, omega arith); lawful = long-lawful; fits = record { rows = λ r m. row-newest r; hearing = refl }; bytes = refl }

@@ -1,0 +1,76 @@
+-- The hops are taken out one after the other.
+use Prim.Native.Nat.{ℕ, _-_, _≤_}
+use native.Mathlib.Omega.{arith}
+use lib.ListN.{length}
+use Rattle.rules.specs.Tiles.{periodAt}
+use Rattle.index.specs.Turns.{RepeatsOf}
+use Rattle.index.specs.Marks.{Removes, HopsTake}
+use Rattle.index.proofs.Removing.{unhops-none, unhops-done}
+use Rattle.placing.specs.Marking.{rowOn}
+use Rattle.placing.proofs.Hops.{hop-inside, node-small, unmarked-more}
+use Rattle.placing.proofs.marking.unmark.Statement.{statement}
+use Rattle.placing.proofs.marking.unmark.Tie as tie
+
+abbrev Inv-loop : tie.InvT-loop
+Inv-loop place route offsets index₀ repeats i₀ index i =
+    (i ≤ length offsets)
+    × ((S : ℕ) → RepeatsOf S (periodAt place) repeats → (id way : ℕ) → Removes (HopsTake S (rowOn id way (periodAt place) route offsets) i) index₀ index)
+
+abbrev μ-loop : tie.MeasureT-loop
+μ-loop place route offsets index₀ repeats i₀ index i = length offsets - i
+
+repeats-of-requires : tie.Need-repeats-of-requires Inv-loop μ-loop
+repeats-of-requires c κs = (c .before .before .pre .0 .few, c .before .before .pre .0 .period)
+
+loop-holds : tie.Need-loop-holds Inv-loop μ-loop
+loop-holds c = (omega arith, λ S w id way. unhops-none _ _ _)
+
+shared-slice-read-t16 : tie.Need-shared-slice-read-t16 Inv-loop μ-loop
+shared-slice-read-t16 c = omega (arith, c .before .before .before .before .before .before .before .before .pre .0 .count, c .before .before .before .loop-test .taken)
+
+shared-slice-read-t20 : tie.Need-shared-slice-read-t20 Inv-loop μ-loop
+shared-slice-read-t20 c =
+    omega (arith, c .before .before .before .before .before .before .before .before .before .pre .0 .count, c .before .before .before .before .loop-test .taken)
+
+unmark-requires : tie.Need-unmark-requires Inv-loop μ-loop
+unmark-requires c κs =
+    let loop = c .before .before .before .before .before in
+    let start = loop .before .before .before .before in
+    let i = loop .loop .i in
+    let l = c .before .before .before .before .loop-test .taken in
+    let v = loop .before .repeats-of .ensures in
+    let kept = loop .loop .inv .1 _ v 0 0 .size in
+    (omega (arith, kept, start .pre .1), hop-inside (start .pre .0) v i l, node-small (start .pre .0) v i (omega arith), node-small (start .pre .0) v _ (omega arith))
+
+loop-again : tie.Need-loop-again Inv-loop μ-loop
+loop-again c =
+    let loop = c .before .before .before .before .before .before in
+    let start = loop .before .before .before .before in (
+      omega (arith, c .before .before .before .before .before .loop-test .taken),
+      λ S w id way. unmarked-more w (loop .loop .i) id way (loop .loop .inv .1 S w id way) (c .unmark .ensures),
+    )
+
+returns : tie.Need-returns Inv-loop μ-loop
+returns c =
+    let loop = c .before in
+    let start = loop .before .before .before .before in
+    λ id way. unhops-done _ _ (omega (arith, loop .loop .inv .0, c .loop-test .left, start .pre .0 .count)) (loop .loop .inv .1 _ (loop .before .repeats-of .ensures) id way)
+
+pub unmark-spec : {M : Type 1} → statement M
+unmark-spec =
+    tie.close
+    (tie.spec
+    Inv-loop
+    μ-loop
+    repeats-of-requires
+    loop-holds
+    (λ c. omega arith)
+    (λ c. omega arith)
+    shared-slice-read-t16
+    (λ c. omega arith)
+    shared-slice-read-t20
+    unmark-requires
+    (λ c. omega arith)
+    (λ c. omega arith)
+    loop-again
+    returns)

@@ -1,0 +1,5 @@
+pub mod Steps
+pub mod Turns
+pub mod Calling
+pub mod Walks
+pub mod Unique

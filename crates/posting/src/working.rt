@@ -1,0 +1,57 @@
+// One request on the book that is worked on.
+ghost use Rattle.index.specs.Beside.{ImageBeside, Works};
+ghost use Rattle.posting.specs.Records.{theRequest};
+ghost use Rattle.posting.specs.Standing.{Standing};
+ghost use Rattle.posting.specs.Posting.{Worked};
+use crate::Outcome;
+use crate::Request;
+use answers::Answer;
+use image::Book;
+use rules::Asked;
+use rules::Node;
+use rules::Tile;
+
+// Opens or closes a stream on an image and its index, and writes the image after it.
+fn serve(
+    image: &[u8],
+    index: &mut [u64; index::WORDS],
+    q: Request,
+    out: &mut [u8; Book::LONGEST],
+) -> Answer
+    requires { ⌜ ImageBeside (now image) (now index) ⌝ }
+    ensures { λ r. ⌜ Works (now (image .entry)) (theRequest q) (r .number) (r .length) (now (out .exit)) (now (index .exit)) ⌝ }
+{
+    if q.opens {
+        let asked = Asked {
+            id: q.id,
+            source: Node(q.source),
+            destination: Node(q.destination),
+            period: Tile(q.period),
+            second: q.second,
+        };
+        opening::open_on(image, index, asked, out)
+    } else {
+        closing::close_on(image, index, q.id, out)
+    }
+}
+
+// Does what the request asks for, on the image of so many bytes and its index.
+pub fn work(book: &mut [u8], length: usize, index: &mut [u64; index::WORDS], q: Request) -> Outcome
+    requires { ⌜ Standing (now book) length (now index) ⌝ }
+    ensures { λ r. ⌜ Worked (now (book .entry)) length (theRequest q) r (now (book .exit)) (now (index .exit)) ⌝ }
+{
+    let mut next = [0u8; Book::LONGEST];
+    let answer = serve(&book[..length], index, q, &mut next);
+    if answer.number == 0 {
+        writer::put_part(&next[..answer.length], book, 0);
+        Outcome {
+            answer: 0,
+            length: answer.length,
+        }
+    } else {
+        Outcome {
+            answer: answer.number,
+            length,
+        }
+    }
+}
