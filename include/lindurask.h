@@ -56,8 +56,8 @@
  *
  * - A pointer is to as many bytes as the length beside it says, or to as many requests as the count,
  *   and not null, also where that is 0. The bools of a request are 0 or 1.
- * - The input, the requests, out, *length, *more and the counts of a balance lie apart: none of them
- *   overlaps another. To make the new image the current one, swap the two buffers.
+ * - The input, the requests, out, *length, *more, *links and the counts of a balance lie apart: none
+ *   of them overlaps another. To make the new image the current one, swap the two buffers.
  * - No image is longer than LINDURASK_LONGEST_IMAGE bytes; an output buffer of that size is never
  *   too short for a book, and a call that changes the book takes none that is shorter. A table
  *   takes 300 x S bytes, S the slots of a tile: at most LINDURASK_LONGEST_TABLE. A list of routes
@@ -163,6 +163,12 @@ uint8_t lindurask_expand(const uint8_t *book, size_t book_len, uint8_t node, uin
  * of an image, then 4.
  */
 uint8_t lindurask_balance(const uint8_t *book, size_t book_len, uint8_t node, uint32_t *data, uint32_t *used, uint32_t *free_slots);
+
+/*
+ * Gives a node's number of links: how many nodes are its neighbours, 0 to 63. A refusal sets *links to 0.
+ * Refusals: those of an image, then 4.
+ */
+uint8_t lindurask_links(const uint8_t *book, size_t book_len, uint8_t node, uint8_t *links);
 
 /*
  * Lists every route of at most 6 hops from the source to the destination, each once, in order of node

@@ -14,7 +14,10 @@
 #include "c_interface_wrong.h"
 #endif
 
-enum { HEAD = 44, REPLY = 13, MOST_BYTES = 4096, MOST_ROOM = 16384, MARGIN = 64, POST = 8, LAST_CALL = POST };
+enum { HEAD = 44, REPLY = 13, MOST_BYTES = 4096, MOST_ROOM = 16384, MARGIN = 64 };
+
+/* The calls that have a name here; those from 9 to 12 are none. */
+enum { BALANCE = 6, ROUTES = 7, POST = 8, LINKS = 13 };
 
 /* A record of a framed posting, the most of them, and how many requests stand on either side of a list. */
 enum { RECORD = 11, MOST_RECORDS = 100, BESIDE = 4 };
@@ -53,6 +56,8 @@ struct reply {
     uint8_t margin5;
     uint8_t more;
     uint8_t margin6;
+    uint8_t links;
+    uint8_t margin7;
 };
 
 static uint8_t input[MARGIN + MOST_BYTES + MARGIN], before[MOST_BYTES];
@@ -148,10 +153,12 @@ static uint8_t call(const uint8_t *head, const uint8_t *book, size_t len, size_t
         return lindurask_close(book, len, id, out, room, &r->length);
     case 5:
         return lindurask_expand(book, len, source, out, room, &r->length);
-    case 6:
+    case BALANCE:
         return lindurask_balance(book, len, source, &r->data, &r->used, &r->free_slots);
-    case 7:
+    case ROUTES:
         return lindurask_routes(book, len, source, destination, out, room, &r->length, &r->more);
+    case LINKS:
+        return lindurask_links(book, len, source, &r->links);
     default:
         return lindurask_post(book, len, list + BESIDE, count, out, room, &r->length);
     }
@@ -161,23 +168,25 @@ static uint8_t call(const uint8_t *head, const uint8_t *book, size_t len, size_t
 static void answer(const uint8_t *head, uint8_t number, const struct reply *r, uint8_t *reply) {
     memset(reply, 0, REPLY);
     reply[0] = number;
-    int balance = head[0] == 6, routes = head[0] == 7;
+    int balance = head[0] == BALANCE, routes = head[0] == ROUTES, links = head[0] == LINKS;
     if (balance) {
         put32(reply + 1, r->data);
         put32(reply + 5, r->used);
         put32(reply + 9, r->free_slots);
     } else {
-        put32(reply + 1, r->length);
+        put32(reply + 1, links ? r->links : r->length);
     }
     if (routes)
         put32(reply + 5, r->more);
-    if (balance && r->length != UNSET)
+    if ((balance || links) && r->length != UNSET)
         fail("sets a length where there is none");
     if (!balance && (r->data != UNSET || r->used != UNSET || r->free_slots != UNSET))
         fail("sets a count where there is none");
     if (!routes && r->more != (uint8_t)UNSET)
         fail("sets a mark where there is none");
-    if (r->margin0 | r->margin1 | r->margin2 | r->margin3 | r->margin4 | r->margin5 | r->margin6)
+    if (!links && r->links != (uint8_t)UNSET)
+        fail("sets a number of links where there is none");
+    if (r->margin0 | r->margin1 | r->margin2 | r->margin3 | r->margin4 | r->margin5 | r->margin6 | r->margin7)
         fail("writes beside what it gives back");
 }
 
@@ -196,8 +205,9 @@ static void give(const uint8_t *bytes, size_t size) {
 static void serve(const uint8_t *head) {
     size_t len = be16(head + 14), room = be16(head + 16), further = be16(head + 40), count = further / RECORD;
     uint8_t reply[REPLY], records[RECORD * MOST_RECORDS];
-    struct reply r = {.length = UNSET, .data = UNSET, .used = UNSET, .free_slots = UNSET, .more = (uint8_t)UNSET};
-    if (head[0] > LAST_CALL || len > MOST_BYTES || room > MOST_ROOM)
+    struct reply r = {.length = UNSET, .data = UNSET, .used = UNSET, .free_slots = UNSET};
+    r.more = r.links = (uint8_t)UNSET;
+    if ((head[0] > POST && head[0] != LINKS) || len > MOST_BYTES || room > MOST_ROOM)
         fail("is given a frame that is none");
     if (further % RECORD != 0 || count > MOST_RECORDS || (further != 0 && head[0] != POST))
         fail("is given records that are none");

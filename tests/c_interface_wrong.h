@@ -70,6 +70,17 @@
 #define AMISS(r) ((r)->opens = !(r)->opens)
 #elif WRONG == 33 /* a request: the bytes of its id in the other order */
 #define AMISS(r) ((r)->id = (uint16_t)((r)->id << 8 | (r)->id >> 8))
+#elif WRONG == 34 /* links: of another node */
+#define lindurask_links(book, len, node, links) lindurask_links(book, len, (node) ^ 1, links)
+#elif WRONG == 35 /* links: not set where the image is refused */
+#define lindurask_links(book, len, node, links) \
+    lindurask_links(book, len, node, lindurask_check(book, len, &(size_t){0}) ? &(uint8_t){0} : (links))
+#elif WRONG == 36 /* links: two bytes set */
+#define lindurask_links(book, len, node, links) ((links)[1] = 1, lindurask_links(book, len, node, links))
+#elif WRONG == 37 /* links: the book taken for a byte shorter */
+#define lindurask_links(book, len, node, links) lindurask_links(book, (len) - ((len) > 0), node, links)
+#elif WRONG == 38 /* links: its input changed */
+#define lindurask_links(book, len, ...) ((len) ? ((uint8_t *)(book))[(len) - 1]++ : 0, lindurask_links(book, len, __VA_ARGS__))
 #else
 #error "there is no such wrong interface"
 #endif

@@ -33,6 +33,7 @@ enum Call {
     Balance = 6,
     Routes = 7,
     Post = 8,
+    Links = 13,
     End = 255,
 }
 
@@ -78,7 +79,7 @@ pub struct Request {
 pub struct Answer {
     /// 0, or why it was refused.
     pub number: u8,
-    /// The length and two zeros, a list's length, 1 where more exist and a zero, or data, used and free.
+    /// A length and two zeros, a list's length, 1 where more exist and a zero, data, used and free, or links and two zeros.
     pub counts: [u32; 3],
     /// What was written.
     pub bytes: Vec<u8>,
@@ -157,6 +158,12 @@ pub fn balance(book: &[u8], node: u8) -> Request {
     request
 }
 
+pub fn links(book: &[u8], node: u8) -> Request {
+    let mut request = blank(Call::Links, book, 0);
+    request.bytes[3] = node;
+    request
+}
+
 pub fn routes(book: &[u8], source: u8, destination: u8) -> Request {
     let mut request = blank(Call::Routes, book, LIST_ROOM);
     request.bytes[3..5].copy_from_slice(&[source, destination]);
@@ -196,7 +203,8 @@ impl Request {
         let counts = [count(1), count(5), count(9)];
         let answers = self.read_records(head[0], records)?;
         let answer = Answer { number: head[0], counts, bytes: vec![], answers };
-        let length = if self.is(Call::Balance) { 0 } else { answer.counts[0] as usize };
+        let counted = self.is(Call::Balance) || self.is(Call::Links);
+        let length = if counted { 0 } else { answer.counts[0] as usize };
         let told = answer.number == 0 || answer.counts == [0; 3];
         let marked = self.is(Call::Routes) && answer.counts[1..] == [1, 0];
         let others = self.is(Call::Balance) || marked || answer.counts[1..] == [0; 2];

@@ -82,6 +82,16 @@ impl Loaded {
         Ok(self.ask_of(nodes, frame::balance)?.into_iter().map(balance).collect())
     }
 
+    /// How many links each of the nodes has: fewer than the site has nodes.
+    pub fn links(&mut self, nodes: &[u8]) -> Result<Vec<u8>, Trouble> {
+        let most = u32::from(self.book.nodes());
+        let links = |answer: Answer| match answer.counts[0] {
+            links if links < most => Ok(links as u8),
+            _ => Err(unreadable()),
+        };
+        self.ask_of(nodes, frame::links)?.into_iter().map(links).collect()
+    }
+
     pub fn tables(&mut self, nodes: &[u8]) -> Result<Vec<Vec<Entry>>, Trouble> {
         let entries = usize::from(CYCLE) * usize::from(self.book.slots);
         let table = |answer: Answer| table::decode(&answer.bytes, entries).ok_or_else(unreadable);

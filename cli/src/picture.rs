@@ -6,16 +6,23 @@ use crate::table::{Entry, Work};
 use crate::text::{count, WIDTH};
 
 /// Columns before the first tile of a row.
-const MARGIN: usize = 11;
+const MARGIN: usize = 14;
 /// Letters of the alphabet: with more routes a route has two letters.
 const LETTERS: usize = 26;
 /// A tile narrower than this has its number only where that ends in 0 or 5.
 const NARROW: usize = 3;
 
-/// What a picture shows: a table for each node in it, and the tiles.
+/// A node of a picture, how many links it has, and its table.
+pub struct Row<'a> {
+    pub node: u8,
+    pub links: u8,
+    pub table: &'a [Entry],
+}
+
+/// What a picture shows: a row for each node in it, and the tiles.
 pub struct Picture<'a> {
     pub book: &'a Book,
-    pub rows: Vec<(u8, &'a [Entry])>,
+    pub rows: Vec<Row<'a>>,
     pub from: u16,
     pub colour: Colour,
 }
@@ -46,7 +53,7 @@ impl Picture<'_> {
 
     /// The first tile that is not shown: as many as fit are, up to where the picture repeats.
     fn end(&self) -> u16 {
-        let most = (WIDTH - MARGIN - 1) / (self.width() + 1);
+        let most = (WIDTH - MARGIN) / (self.width() + 1);
         let whole = self.book.repeats_after();
         let stop = if whole <= self.from { CYCLE } else { whole };
         stop.min(self.from + most as u16)
@@ -62,7 +69,7 @@ impl Picture<'_> {
             format!("{text:<width$}{border}")
         };
         let cells: String = (self.from..self.end()).map(cell).collect();
-        format!("  {title:<8}|{cells}\n")
+        format!("  {title:<11}|{cells}\n")
     }
 
     fn tile_number(&self, tile: u16) -> String {
@@ -87,12 +94,12 @@ impl Picture<'_> {
         }
     }
 
-    fn row(&self, node: u8, table: &[Entry]) -> String {
+    fn row(&self, &Row { node, links, table }: &Row) -> String {
         let slots = usize::from(self.book.slots);
         let tiles = table.chunks(slots).take(self.end().into()).skip(self.from.into());
         let marks = |tile: &[Entry]| tile.iter().map(|&entry| self.mark(entry)).collect::<String>();
         let tiles: String = tiles.map(|tile| marks(tile) + "|").collect();
-        format!("  node {node:>2} |{tiles}\n")
+        format!("  node {node:>2} {links:>2} |{tiles}\n")
     }
 
     /// What the marks mean.
@@ -107,9 +114,9 @@ impl Picture<'_> {
     pub fn draw(&self) -> String {
         let kind = |tile| if self.book.is_down(tile) { "d" } else { "u" }.to_string();
         let mut said = format!("\n{}\n", self.colour.title(self.legend()));
-        said += &self.heading("tile", |tile| self.tile_number(tile));
+        said += &self.heading("tile  links", |tile| self.tile_number(tile));
         said += &self.heading("kind", kind);
-        said.extend(self.rows.iter().map(|(node, table)| self.row(*node, table)));
+        said.extend(self.rows.iter().map(|row| self.row(row)));
         said
     }
 

@@ -96,6 +96,14 @@ pub fn balance(book: &[u8], node: u8) -> (u8, u32, u32, u32) {
     }
 }
 
+/// Gives one node's links: number, and how many they are.
+pub fn links(book: &[u8], node: u8) -> (u8, u8) {
+    match read_with_node(book, node).map(|book| book.topology.links(node)) {
+        Ok(links) => (DONE, links),
+        Err(refusal) => (refusal as u8, 0),
+    }
+}
+
 /// Lists the routes of at most 6 hops: number, length, and whether more exist
 /// than are listed.
 pub fn routes(book: &[u8], source: u8, destination: u8, out: &mut [u8]) -> (u8, usize, bool) {

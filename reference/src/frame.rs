@@ -10,9 +10,9 @@
 //! | Bytes | Field                                                          |
 //! |-------|----------------------------------------------------------------|
 //! | 0     | call: 0 new, 1 check, 2 rewrite, 3 open, 4 close, 5 expand,    |
-//! |       | 6 balance, 7 routes, 8 post, 255 end                           |
+//! |       | 6 balance, 7 routes, 8 post, 13 links, 255 end                 |
 //! | 1–2   | id (open, close)                                               |
-//! | 3     | source (open, routes) or node (expand, balance)                |
+//! | 3     | source (open, routes) or node (expand, balance, links)         |
 //! | 4     | destination (open, routes)                                     |
 //! | 5–6   | period (open)                                                  |
 //! | 7, 8  | S, C (new)                                                     |
@@ -20,8 +20,8 @@
 //! | 11–13 | D, U, N (new)                                                  |
 //! | 14–15 | length of the links (new), at most 1,024, or of the book (all  |
 //! |       | others), at most 4,096                                         |
-//! | 16–17 | length of the output buffer, at most 16,384; 0 for check and   |
-//! |       | balance, which have none                                       |
+//! | 16–17 | length of the output buffer, at most 16,384; 0 for check,      |
+//! |       | balance and links, which have none                             |
 //! | 18    | fill byte of the output buffer                                 |
 //! | 19    | 1 to ask for a second route, otherwise 0 (open)                |
 //! | 20–39 | 0                                                              |
@@ -48,7 +48,7 @@
 //! | Bytes | Field                                                          |
 //! |-------|----------------------------------------------------------------|
 //! | 0     | number                                                         |
-//! | 1–4   | length, or data (balance)                                      |
+//! | 1–4   | length, or data (balance), or the number of links (links)      |
 //! | 5–8   | used (balance); 1 if more routes exist than are listed         |
 //! |       | (routes); otherwise 0                                          |
 //! | 9–12  | free (balance), otherwise 0                                    |
@@ -95,10 +95,11 @@ pub enum Call {
     Balance = 6,
     Routes = 7,
     Post = 8,
+    Links = 13,
 }
 
 impl Call {
-    pub const ALL: [Call; 9] = [
+    pub const ALL: [Call; 10] = [
         Call::New,
         Call::Check,
         Call::Rewrite,
@@ -108,11 +109,12 @@ impl Call {
         Call::Balance,
         Call::Routes,
         Call::Post,
+        Call::Links,
     ];
 
     /// The call has an output buffer.
     pub fn has_output(self) -> bool {
-        !matches!(self, Call::Check | Call::Balance)
+        !matches!(self, Call::Check | Call::Balance | Call::Links)
     }
 
     pub fn of_number(number: u8) -> io::Result<Call> {
@@ -132,7 +134,8 @@ pub fn write_end(output: &mut impl Write) -> io::Result<()> {
 #[derive(Clone, Debug, PartialEq, Eq)]
 pub struct Answer {
     pub number: u8,
-    /// The length, the mark that more exist and a zero, or data, used and free.
+    /// The length, the mark that more exist and a zero, or data, used and free,
+    /// or the number of links and two zeros.
     pub counts: [u32; 3],
     pub out: Vec<u8>,
     /// The records of a posting.

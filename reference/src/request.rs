@@ -11,8 +11,8 @@ use std::io::{self, Read, Write};
 pub struct Request {
     pub call: Call,
     pub id: u16,
-    /// The source of an open or a route list, the node of an expand or a
-    /// balance.
+    /// The source of an open or a route list, the node of an expand, a balance
+    /// or a count of links.
     pub node: u8,
     pub destination: u8,
     pub period: u16,
@@ -145,6 +145,10 @@ impl Request {
                 return (number, [length as u32, u32::from(more), 0]);
             }
             Call::Post => calls::post(book, records, out),
+            Call::Links => {
+                let (number, links) = calls::links(book, self.node);
+                return (number, [u32::from(links), 0, 0]);
+            }
         };
         (number, [length as u32, 0, 0])
     }

@@ -40,6 +40,11 @@ impl Topology {
         (0..self.nodes()).filter(move |&other| self.linked(node, other))
     }
 
+    /// A node's number of links.
+    pub fn links(&self, node: u8) -> u8 {
+        self.neighbours(node).count() as u8
+    }
+
     /// The set of these nodes and all their neighbours.
     pub fn with_neighbours(&self, nodes: NodeSet) -> NodeSet {
         let members = (0..self.nodes()).filter(|&node| nodes.contains(node));

@@ -240,6 +240,29 @@ fn used_and_free_make_up_data() {
 }
 
 #[test]
+fn a_nodes_links_are_the_ones_of_its_row() {
+    let mut dice = Dice(11);
+    for _ in 0..50 {
+        let book = small_book(&mut dice);
+        let bytes = image::write(Version::NEWEST, &book);
+        for node in 0..6 {
+            let row = &bytes[16 + 8 * node..][..8];
+            let ones: u32 = row.iter().map(|byte| byte.count_ones()).sum();
+            assert_eq!(calls::links(&bytes, node as u8), (0, ones as u8));
+        }
+    }
+}
+
+#[test]
+fn no_node_has_over_63_links() {
+    let all: Vec<_> = (0..64).flat_map(|a| (0..a).map(move |b| (a, b))).collect();
+    for (links, expected) in [(&all[..], [63, 63, 63]), (&[], [0, 0, 0]), (&[(0, 63)], [1, 0, 1])] {
+        let book = new_book(PLAN_A, &topology(64, links));
+        assert_eq!([0, 31, 63].map(|node| calls::links(&book, node)), expected.map(|n| (0, n)));
+    }
+}
+
+#[test]
 fn two_hops_meet_exactly_if_offsets_agree_modulo_the_common_divisor() {
     // The rule stands in document 01 as a theorem; here it is only tried out.
     let plan = Plan { s: 1, c: 1, kinds: 0, d: 0, u: 0 };

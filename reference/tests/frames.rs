@@ -68,13 +68,26 @@ fn a_new_book_is_answered_with_its_whole_buffer() {
 }
 
 #[test]
-fn check_and_balance_are_answered_without_a_buffer() {
+fn check_balance_and_links_are_answered_without_a_buffer() {
     let check = Request { bytes: vec![0; 15], ..Request::blank(Call::Check) };
     let balance = Request { node: 1, bytes: p2(), ..Request::blank(Call::Balance) };
-    let output = served(&[check, balance]);
-    let expected =
-        [[14, 0, 0, 0, 0, 0, 0, 0, 0, 0, 0, 0, 0], [0, 0, 0, 0, 250, 0, 0, 0, 100, 0, 0, 0, 150]];
+    let links = Request { node: 1, bytes: p2(), ..Request::blank(Call::Links) };
+    assert_eq!(bytes_of(&links)[..4], [13, 0, 0, 1]);
+    let output = served(&[check, balance, links]);
+    let expected = [
+        [14, 0, 0, 0, 0, 0, 0, 0, 0, 0, 0, 0, 0],
+        [0, 0, 0, 0, 250, 0, 0, 0, 100, 0, 0, 0, 150],
+        [0, 0, 0, 0, 2, 0, 0, 0, 0, 0, 0, 0, 0],
+    ];
     assert_eq!(output, expected.concat());
+}
+
+#[test]
+fn calls_9_to_12_are_reserved() {
+    for number in [9, 10, 11, 12, 14, 254] {
+        assert!(Call::of_number(number).is_err());
+    }
+    assert_eq!(Call::of_number(13).unwrap(), Call::Links);
 }
 
 #[test]

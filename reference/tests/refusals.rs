@@ -102,6 +102,7 @@ fn every_call_gives_the_image_numbers_first() {
         assert_eq!(refused(0, |out| calls::close(&book, 0, out)), number);
         assert_eq!(refused(0, |out| calls::expand(&book, 255, out)), number);
         assert_eq!(calls::balance(&book, 255), (number, 0, 0, 0));
+        assert_eq!(calls::links(&book, 255), (number, 0));
         let list = |out: &mut [u8]| {
             let (number, length, more) = calls::routes(&book, 255, 255, out);
             assert!(!more);
@@ -270,6 +271,14 @@ fn expand_gives_0_4_12() {
 fn balance_gives_0_and_4() {
     assert_eq!(calls::balance(&p2(), 3), (0, 250, 50, 200));
     assert_eq!(calls::balance(&p2(), 4), (4, 0, 0, 0));
+}
+
+#[test]
+fn links_gives_0_and_4() {
+    assert_eq!(calls::links(&p2(), 3), (0, 1));
+    for node in [4, 63, 64, 255] {
+        assert_eq!(calls::links(&p2(), node), (4, 0));
+    }
 }
 
 #[test]

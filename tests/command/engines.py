@@ -39,7 +39,7 @@ while True:
     if mode == "fickle" and head[0] == 8:
         if len(records) == 11: records = marked(9)
         else: counts[0], out = len(data), data + out[len(data):]
-    if mode == "sleepy" and head[0] == 5: counts[0], out = 300 * data[5], bytes(300 * data[5]) + out[300 * data[5]:]
+    if (mode == "sleepy" or mode.startswith("links")) and head[0] == 5: counts[0], out = 300 * data[5], bytes(300 * data[5]) + out[300 * data[5]:]
     if mode == "unlike" and head[0] == 5:
         length = 300 * data[5]
         table = open(os.path.join(os.path.dirname(sys.argv[0]), "tables"), "rb").read()[length * head[3]:][:length]
@@ -48,13 +48,16 @@ while True:
     if mode.startswith("list") and head[0] == 7:
         said = {"listnode": b"\2\3\x0c\0", "listhops": b"\7\3\2\1\4\5\6\7\0", "listnone": b"\0\3", "listcut": b"\3\3\2\1", "listends": b"\3\3\2\1\4"}.get(mode, b"")
         counts, out = [len(said), 2 if mode == "listmark" else 0, 0], said + out[len(said):]
+    if mode.startswith("links") and head[0] == 13:
+        number, counts = {"linksnodes": (0, [data[11], 0, 0]), "linksmost": (0, [64, 0, 0]), "linkshuge": (0, [256, 0, 0]), "linksmore": (0, [1, 1, 0]),
+                          "linksbeside": (4, [1, 0, 0]), "linksrefused": (4, [0, 0, 0])}.get(mode, (0, [data[11] - 1, 0, 0]))
     if mode == "same" and room: counts[0], out = len(data), data + out[len(data):]
     answer = bytes([number]) + b"".join(n.to_bytes(4, "big") for n in counts) + out + records
-    if mode == "half":
+    if mode == "half" or mode == "linkshalf" and head[0] == 13:
         answer = answer[:7]
     write.write(answer)
     write.flush()
-    if mode in ("half", "missing"):
+    if mode in ("half", "missing") or mode == "linkshalf" and head[0] == 13:
         sys.exit(0)
 if mode == "more":
     write.write(b"more")
@@ -113,6 +116,7 @@ def nonsense(room, engines):
     # Lists of routes with a node beyond the site, of 7 hops, of none, cut short, with another end, and with a mark of 2.
     for mode in ["listnode", "listhops", "listnone", "listcut", "listends", "listmark"]:
         hold(room, program(engines, "engine-" + mode, FAKE.encode()), COMMANDS[10], "says what is no answer")
+    links(room, engines)
     # Tables that are not those of the streams in the book make no page, and are not compared.
     for words in [COMMANDS[9], COMMANDS[11]]:
         hold(room, fake["sleepy"], words, "says what is no answer")
@@ -123,6 +127,19 @@ def nonsense(room, engines):
     got = room.run("diff", "kiln.book", "kiln.book", env={"LINDURASK_ENGINE": os.fsdecode(engines.at("engine-unlike"))})
     check(got.status == 0 and got.all == "the books are the same\n", "diff with the tables of the book: %s" % got.all)
     os.remove(room.at("old.book"))
+
+
+def links(room, engines):
+    """As many links as the site has nodes, over 63, over a byte, with a second count, beside a refusal; half an answer; and a refusal."""
+    for mode in ["linksnodes", "linksmost", "linkshuge", "linksmore", "linksbeside"]:
+        hold(room, program(engines, "engine-" + mode, FAKE.encode()), COMMANDS[1], "says what is no answer")
+    hold(room, program(engines, "engine-linkshalf", FAKE.encode()), COMMANDS[1], "ended before it answered")
+    refuses = program(engines, "engine-linksrefused", FAKE.encode())
+    got = room.run(*COMMANDS[1], env={"LINDURASK_ENGINE": os.fsdecode(refuses)})
+    check((got.status, got.all) == (1, "refused 4: %s\n" % tool.work_out.WORDS[4]), "show with an engine that refuses links: %d %s" % (got.status, got.all))
+    # One link less than the site has nodes is the most that is taken.
+    got = room.run(*COMMANDS[1], env={"LINDURASK_ENGINE": os.fsdecode(program(engines, "engine-links", FAKE.encode()))})
+    check(got.status == 0 and "\n    0:7 1:7 2:7 3:7 4:7 5:7 6:7 7:7\n" in got.out, "show with the most links: %d %s" % (got.status, got.all))
 
 
 def postings(room, engines):

@@ -7,7 +7,8 @@ use crate::describe::{self, INDENT};
 use crate::frame;
 use crate::json;
 use crate::loaded::{accepted, Loaded};
-use crate::picture::{label, Picture};
+use crate::picture::{label, Picture, Row};
+use crate::table::Entry;
 use crate::text::{count, row};
 use crate::trouble::Trouble;
 use crate::words::{Words, JSON, NODE, NO_LISTS, STREAM};
@@ -20,12 +21,13 @@ pub const SHOW: Command = Command {
     summary: "draw a book: plan, links, streams, slots",
     explains: "\
 Draws the book: its plan, its links, its streams with period, routes, offsets
-and latency, and for each node that carries a stream a row of slots. Of each
-stream it says whether it survives the loss of any one relay, a node in the
-middle of a route. The picture starts at tile 0, or at TILE, and stops where it
-repeats or is full; each route has a letter of its own. With --stream only that
-stream and the nodes of its routes are shown, with --node only that node and the
-streams through it, with --no-lists only the picture.",
+and latency, and for each node that carries a stream a row of slots. Beside each
+node stands its number of links. Of each stream it says whether it survives the
+loss of any one relay, a node in the middle of a route. The picture starts at
+tile 0, or at TILE, and stops where it repeats or is full; each route has a
+letter of its own. With --stream only that stream and the nodes of its routes
+are shown, with --node only that node and the streams through it, with
+--no-lists only the picture.",
     example: "lindurask show kiln.book --stream 7",
     run,
 };
@@ -116,36 +118,66 @@ fn streams(book: &Book, part: &Part, colour: Colour) -> String {
     format!("\n{}\n{}", colour.title("Streams"), or_none(part.streams(book).map(stream).collect()))
 }
 
+/// What the engine says of each node, from node 0 on.
+struct Nodes {
+    balances: Vec<Balance>,
+    /// How many links it has.
+    links: Vec<u8>,
+    tables: Vec<Vec<Entry>>,
+}
+
+impl Nodes {
+    fn ask(loaded: &mut Loaded) -> Result<Nodes, Trouble> {
+        let nodes = loaded.nodes(None)?;
+        let (balances, links) = (loaded.balances(&nodes)?, loaded.links(&nodes)?);
+        Ok(Nodes { balances, links, tables: loaded.tables(&nodes)? })
+    }
+
+    /// The rows of the picture.
+    fn rows(&self, book: &Book, part: &Part) -> Vec<Row<'_>> {
+        let shown = |node: &u8| part.has_row(book, *node, &self.balances[usize::from(*node)]);
+        let row = |node: u8| {
+            let at = usize::from(node);
+            Row { node, links: self.links[at], table: &self.tables[at] }
+        };
+        (0..book.nodes()).filter(shown).map(row).collect()
+    }
+}
+
 /// A node's links and balance.
-fn node(book: &Book, node: u8, balance: Balance, colour: Colour) -> String {
-    let Balance { data, used, free } = balance;
-    let title = colour.title(&format!("Node {node}"));
+fn node(book: &Book, node: u8, nodes: &Nodes, colour: Colour) -> String {
+    let at = usize::from(node);
+    let Balance { data, used, free } = nodes.balances[at];
+    let title = colour.title(&format!("Node {node}: {}", count(nodes.links[at], "link")));
     let links = or_none(row("  linked to", book.neighbours(node)));
     format!("\n{title}\n{links}  data {data}, used {used}, free {free}\n")
 }
 
 /// The lists above the picture.
-fn lists(book: &Book, part: &Part, balances: &[Balance], colour: Colour) -> String {
+fn lists(book: &Book, part: &Part, nodes: &Nodes, colour: Colour) -> String {
     let head = match part {
         Part::All => plan(book, colour) + &links(book, colour),
         Part::Stream(_) => String::new(),
-        Part::Node(own) => node(book, *own, balances[usize::from(*own)], colour),
+        Part::Node(own) => node(book, *own, nodes, colour),
     };
     head + &streams(book, part, colour)
 }
 
-/// The nodes that have no row because they carry no stream.
-fn idle(part: &Part, balances: &[Balance]) -> String {
-    let idle = balances.iter().filter(|balance| balance.used == 0).count();
+/// The nodes that have no row because they carry no stream, each with its number of links.
+fn idle(part: &Part, nodes: &Nodes) -> String {
+    let all = nodes.balances.iter().zip(&nodes.links).enumerate();
+    let idle = all.filter(|(_, (balance, _))| balance.used == 0);
+    let idle: Vec<String> = idle.map(|(node, (_, links))| format!("{node}:{links}")).collect();
     match part {
-        Part::All if idle != 0 => {
-            format!("  Left out: {} without a stream.\n", count(idle, "node"))
+        Part::All if !idle.is_empty() => {
+            let left_out = count(idle.len(), "node");
+            format!("  Left out: {left_out} without a stream; node:links\n{}", row("   ", idle))
         }
         _ => String::new(),
     }
 }
 
-fn in_json(book: &Book, part: &Part) -> String {
+fn in_json(book: &Book, part: &Part, nodes: &Nodes) -> String {
     let pairs = book.pairs().into_iter().map(|(a, b)| json::array([a, b]));
     let streams = part.streams(book).map(|(_, stream)| json::stream(stream));
     json::answer([
@@ -153,6 +185,7 @@ fn in_json(book: &Book, part: &Part) -> String {
         ("plan", json::plan(book)),
         ("nodes", book.nodes().to_string()),
         ("links", json::array(pairs)),
+        ("linked", json::array(&nodes.links)),
         ("streams", json::array(streams)),
     ])
 }
@@ -164,25 +197,20 @@ fn run(words: &Words) -> Result<Report, Trouble> {
     }
     let mut loaded = Loaded::read(words.path(0))?;
     let part = part(words, &mut loaded)?;
-    let nodes = loaded.nodes(None)?;
-    let balances = loaded.balances(&nodes)?;
-    let tables = loaded.tables(&nodes)?;
+    let nodes = Nodes::ask(&mut loaded)?;
     loaded.engine.finish()?;
     let book = &loaded.book;
     if words.has(&JSON) {
-        return Ok(in_json(book, &part).into());
+        return Ok(in_json(book, &part, &nodes).into());
     }
     let colour = Colour::for_output();
-    let rows = nodes.iter().zip(&tables).zip(&balances);
-    let rows = rows.filter(|((&node, _), balance)| part.has_row(book, node, balance));
-    let rows = rows.map(|((&node, table), _)| (node, table.as_slice())).collect();
-    let picture = Picture { book, rows, from, colour };
+    let picture = Picture { book, rows: nodes.rows(book, &part), from, colour };
     let mut text = describe::counts(book);
     if !words.has(&NO_LISTS) {
-        text += &lists(book, &part, &balances, colour);
+        text += &lists(book, &part, &nodes, colour);
     }
     text += &picture.draw();
-    text += &idle(&part, &balances);
+    text += &idle(&part, &nodes);
     text += &picture.rest();
     Ok(text.into())
 }

@@ -2,8 +2,7 @@
 ghost use mathlib.Core.Path.{_≡_};
 ghost use Prim.Native.Nat.{_+_, _≤_};
 ghost use lib.ListN.{length};
-ghost use Rattle.records.specs.Lengths.{mostRecords};
-ghost use Rattle.frames.specs.Lengths.{headLength, replyLength, mostRoom};
+ghost use Rattle.frames.specs.Lengths.{headLength, replyLength, mostRoom, mostRecords};
 ghost use Rattle.streams.specs.Streams.{Within};
 use libc::STDOUT_FILENO;
 use streams::Streams;
@@ -21,7 +20,7 @@ fn answer_call(frame: &[u8], answers: &mut [u8], held: usize) -> usize
     let at = start + frames::REPLY;
     let end = at + room;
     frames::fill(frame, &mut answers[at..end]);
-    let reply = frames::call(frame, frames::book(frame), &mut answers[at..end]);
+    let reply = calls::call(frame, frames::book(frame), &mut answers[at..end]);
     frames::put_reply(&mut answers[start..at], reply);
     end
 }

@@ -12,3 +12,10 @@ replyLength = 13
 -- the longest output buffer
 abbrev pub mostRoom : ℕ
 mostRoom = 16384
+
+-- bytes of a record of a list, and of the longest list
+abbrev pub recordLength : ℕ
+recordLength = 11
+
+abbrev pub mostRecords : ℕ
+mostRecords = 1100

@@ -1,14 +1,8 @@
-// A framed call: what its header says, the call itself, and the head of its answer.
+// A framed call and its answer: where their parts stand.
 ghost use Prim.Native.Nat.{_+_, _≤_};
 ghost use lib.ListN.{length};
-ghost use Rattle.records.specs.Lengths.{mostRecords};
-ghost use Rattle.frames.specs.Lengths.{headLength, replyLength, mostRoom};
+ghost use Rattle.frames.specs.Lengths.{headLength, replyLength, mostRoom, mostRecords};
 use answers::Answer;
-use rules::Asked;
-use rules::Node;
-use rules::Plan;
-use rules::Slot;
-use rules::Tile;
 
 // Bytes of a call before its book or topology.
 pub const HEAD: usize = 44;
@@ -16,8 +10,11 @@ pub const HEAD: usize = 44;
 // Bytes of an answer before its output buffer.
 pub const REPLY: usize = 13;
 
-// The call that posts a list of requests, which is the highest number of a call; any higher ends the stream.
+// The call that posts a list of requests,
 pub const POST: u8 = 8;
+
+// and the one that gives a node's links; the numbers between are for later calls.
+pub const LINKS: u8 = 13;
 
 // The longest book.
 const MOST_BYTES: usize = 4096;
@@ -25,16 +22,18 @@ const MOST_BYTES: usize = 4096;
 // The longest output buffer.
 const MOST_ROOM: usize = 16384;
 
-// What a call says back: its number, and a length and two zeros, a list's length and its mark, or data, used and free slots.
+// Bytes of a record of a list,
+pub const RECORD: usize = 11;
+
+// and of the longest list, a hundred records.
+const MOST_RECORDS: usize = 1100;
+
+// What a call says back: its number, and a length and two zeros, a list's length and its mark, data, used and free slots, or links and two zeros.
 pub struct Reply {
     pub number: u8,
     pub first: usize,
     pub second: usize,
     pub third: usize,
-}
-
-fn wide(x: u8) -> u16 {
-    x as u16
 }
 
 fn long(x: u16) -> usize
@@ -55,11 +54,16 @@ pub fn room(frame: &[u8]) -> usize
     room
 }
 
+// Whether a number is that of a call; any other ends the stream.
+fn is_call(number: u8) -> bool {
+    number <= POST || number == LINKS
+}
+
 // The length of the frame, 0 if it ends the stream.
 pub fn size(frame: &[u8]) -> usize
     requires { ⌜ headLength ≤ length (now frame) ⌝ }
 {
-    if POST < frame[0] {
+    if !is_call(frame[0]) {
         return 0;
     }
     let bytes = long(image::word_at(frame, 14));
@@ -67,10 +71,10 @@ pub fn size(frame: &[u8]) -> usize
         return 0;
     }
     let list = long(image::word_at(frame, 40));
-    if records::MOST < list {
+    if MOST_RECORDS < list {
         return 0;
     }
-    if list % records::RECORD != 0 {
+    if list % RECORD != 0 {
         return 0;
     }
     HEAD + bytes + list
@@ -99,7 +103,7 @@ pub fn list(frame: &[u8]) -> &[u8]
     ensures { λ r. ⌜ length (now r) ≤ mostRecords ⌝ }
 {
     let start = book_end(frame);
-    let end = start + records::MOST;
+    let end = start + MOST_RECORDS;
     if frame.len() < end {
         return &frame[start..];
     }
@@ -125,77 +129,6 @@ pub fn answered(answer: Answer) -> Reply {
         first: answer.length,
         second: 0,
         third: 0,
-    }
-}
-
-// Makes a new book.
-fn new_book(frame: &[u8], topology: &[u8], out: &mut [u8]) -> Reply
-    requires { ⌜ headLength ≤ length (now frame) ⌝ }
-{
-    let plan = Plan {
-        slots: Slot(wide(frame[7])),
-        tiles: Tile(wide(frame[8])),
-        kinds: image::word_at(frame, 9),
-        down: Slot(wide(frame[11])),
-        up: Slot(wide(frame[12])),
-    };
-    answered(planner::new_book(plan, frame[13], topology, out))
-}
-
-// Opens a stream.
-fn open_stream(frame: &[u8], book: &[u8], out: &mut [u8]) -> Reply
-    requires { ⌜ headLength ≤ length (now frame) ⌝ }
-{
-    let asked = Asked {
-        id: image::word_at(frame, 1),
-        source: Node(frame[3]),
-        destination: Node(frame[4]),
-        period: Tile(image::word_at(frame, 5)),
-        second: frame[19] != 0,
-    };
-    answered(planner::open_stream(book, asked, out))
-}
-
-// Gives a node's balance.
-fn balance(frame: &[u8], book: &[u8]) -> Reply
-    requires { ⌜ headLength ≤ length (now frame) ⌝ }
-{
-    let balance = planner::balance_of(book, Node(frame[3]));
-    Reply {
-        number: balance.number,
-        first: balance.data as usize,
-        second: balance.used as usize,
-        third: balance.free as usize,
-    }
-}
-
-// Lists the routes between two nodes.
-fn routes_between(frame: &[u8], book: &[u8], out: &mut [u8]) -> Reply
-    requires { ⌜ headLength ≤ length (now frame) ⌝ }
-{
-    let list = planner::routes_between(book, Node(frame[3]), Node(frame[4]), out);
-    Reply {
-        number: list.number,
-        first: list.length,
-        second: list.more as usize,
-        third: 0,
-    }
-}
-
-// Makes a call that is no posting, with its book or its topology.
-pub fn call(frame: &[u8], book: &[u8], out: &mut [u8]) -> Reply
-    requires { ⌜ headLength ≤ length (now frame) ⌝ }
-{
-    let call = frame[0];
-    match call {
-        0 => new_book(frame, book, out),
-        1 => answered(planner::check(book)),
-        2 => answered(planner::rewrite(book, out)),
-        3 => open_stream(frame, book, out),
-        4 => answered(planner::close_stream(book, image::word_at(frame, 1), out)),
-        5 => answered(planner::expand(book, Node(frame[3]), out)),
-        7 => routes_between(frame, book, out),
-        _ => balance(frame, book),
     }
 }
 

@@ -91,14 +91,6 @@ pub length-rows-from : (s : List ℕ) (n at : ℕ) → length (rowsFrom s n at) 
 length-rows-from s zero at = refl
 length-rows-from s (suc n) at = ap suc (length-rows-from s n (nextAt s at))
 
--- eight bytes are two numbers of four
-pub halves : (s : List ℕ) (at : ℕ)
-    → (wordAt s at * 65536 + wordAt s (at + 2)) * 4294967296 + (wordAt s (at + 4) * 65536 + wordAt s (at + 4 + 2)) ≡ word64At s at
-halves s at =
-    let e : at + 4 + 2 ≡ at + 6 = omega arith in
-    let f : wordAt s (at + 4 + 2) ≡ wordAt s (at + 6) = ap (wordAt s) e in
-    omega arith
-
 -- a place where a whole row is
 module _ (s : List ℕ) (at : ℕ) (inside : at ≤ length s) where
   pub no-front : length s - at < rowLength (versionOf s) → Tests false (Whole s at)

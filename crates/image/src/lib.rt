@@ -48,14 +48,8 @@ fn wide16(x: u8) -> u16
     x as u16
 }
 
-fn wide32(x: u16) -> u32
+fn wide64(x: u16) -> u64
     ensures { λ r. ⌜ (r ≡ x) × (r < 65536) ⌝ }
-{
-    x as u32
-}
-
-fn wide64(x: u32) -> u64
-    ensures { λ r. ⌜ (r ≡ x) × (r < 4294967296) ⌝ }
 {
     x as u64
 }
@@ -80,20 +74,21 @@ pub fn word_at(image: &[u8], at: usize) -> u16
     wide16(image[at]) * 256 + wide16(image[at + 1])
 }
 
-// The number in 4 bytes from a place on.
-fn word32_at(image: &[u8], at: usize) -> u32
-    requires { ⌜ at + 4 ≤ length (now image) ⌝ }
-    ensures { λ r. ⌜ r ≡ wordAt (now (image .entry)) at * 65536 + wordAt (now (image .entry)) (at + 2) ⌝ }
+// The same as a longer number.
+fn long_word_at(image: &[u8], at: usize) -> u64
+    requires { ⌜ at + 2 ≤ length (now image) ⌝ }
+    ensures { λ r. ⌜ (r ≡ wordAt (now (image .entry)) at) × (r < 65536) ⌝ }
 {
-    wide32(word_at(image, at)) * 65536 + wide32(word_at(image, at + 2))
+    wide64(word_at(image, at))
 }
 
-// The number in 8 bytes from a place on.
+// The number in 8 bytes from a place on, in a form that compilers make one load of.
 pub fn word64_at(image: &[u8], at: usize) -> u64
     requires { ⌜ at + 8 ≤ length (now image) ⌝ }
     ensures { λ r. ⌜ r ≡ word64At (now (image .entry)) at ⌝ }
 {
-    wide64(word32_at(image, at)) * 4294967296 + wide64(word32_at(image, at + 4))
+    let half = long_word_at(image, at) * 65536 + long_word_at(image, at + 2);
+    (half * 65536 + long_word_at(image, at + 4)) * 65536 + long_word_at(image, at + 6)
 }
 
 // In a row of a version, the bytes before the hop count.

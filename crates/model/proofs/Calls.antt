@@ -12,24 +12,26 @@ use Rattle.rules.specs.Says.{Refusal, Says}
 use Rattle.rules.specs.Tiles.{Plan, PlanInRange}
 use Rattle.rules.specs.Topology.{nodes, NodesInRange}
 use Rattle.rules.specs.Book.{Book}
-use Rattle.rules.specs.Image.{newest, longestImage, encode, topologyAt, versionOf, imageRefusals, Stored}
+use Rattle.rules.specs.Image.{newest, longestImage, encode, topologyAt, versionOf, linksOf, imageRefusals, Stored}
 use Rattle.rules.specs.Table.{tableLength, used, BalanceOf}
 use Rattle.rules.specs.Calls.{Wrote, Unchanged, Reply, SaysOf, CallOf, ReplyOf, TopologiesGiven, newBook, newRefusals, checkRefusals, rewriteRefusals}
 use Rattle.rules.specs.Calls.{Request, anyMiddle, Work, InOrder, mostRequests, postRefusals, Posted, expandRefusals, balanceRefusals}
-use Rattle.rules.specs.Calls.{New, Check, Rewrite, Post, Serve, Expand, Balance}
+use Rattle.rules.specs.Calls.{New, Check, Rewrite, Post, Serve, Expand, Balance, LinksOf, Links}
 use Rattle.rules.proofs.Tests.{never, alike, tests-and, tests-not, tests-eq, tests-le, tests-lt}
+use Rattle.rules.proofs.Counts.{counted}
 use Rattle.rules.proofs.Says.{None, says-none, says-unique}
 use Rattle.rules.proofs.Encoding.{stored-says}
 use Rattle.rules.proofs.Written.{Bytes, length-sets-at}
 use Rattle.rules.proofs.Reading.{bookIn, LawfulImage}
+use Rattle.model.specs.Test.{joined}
 use Rattle.model.specs.Answer.{Tested, firstNumber, whenDone, lastBook}
 use Rattle.model.specs.Table.{tableOf, dataCount, freeCount}
 use Rattle.model.specs.Reading.{areSound, imageNumber}
 use Rattle.model.specs.Calls.{Output, put, kept, writes, numberOf, replies, newTests, new, rewriteTests, rewrite, expandTests, expand}
 use Rattle.model.specs.Calls.{postTests, postNumber, answersOn, imageAfter, someDone, postOutput, post, postOne, serve}
-use Rattle.model.specs.Calls.{balanceTests, balanceNumber, balance}
+use Rattle.model.specs.Calls.{balanceTests, balanceNumber, balance, linkCount, links}
 use Rattle.model.proofs.Firsts.{Agree, first-says}
-use Rattle.model.proofs.Tests.{tests-in}
+use Rattle.model.proofs.Tests.{tests-in, tests-joined}
 use Rattle.model.proofs.Answers.{workable, in-order-computed}
 use Rattle.model.proofs.Tables.{table-computed, balance-computed}
 use Rattle.model.proofs.Reading.{stable, tests-plan, tests-nodes, tests-topologies, image-says, stored-in}
@@ -207,18 +209,28 @@ module _ (image : List ℕ) (bytes : Bytes image) where
         (λ v b w. (refl, tests-le (nodes (b .site .links)) node, λ n4. (refl, tests-lt (length out) (tableLength (b .site .plan)), λ n12. tt)))
         (λ v b. tableOf b node) (λ v b w e. table-computed b node) out
 
+    zeros : (n : ℕ) → (n ≡ 0 → ⊥) → (x : ℕ) → whenDone n x 0 ≡ 0
+    zeros zero f x = absurd (f refl)
+    zeros (suc n) f x = refl
+
     pub balance-computed-on : Balance image node (balance image node .number) (balance image node .dataSlots) (balance image node .usedSlots) (balance image node .freeSlots)
     balance-computed-on =
         call-of image bytes (balanceRefusals node) (balanceTests node) (λ v b w. (refl, tests-le (nodes (b .site .links)) node, λ n4. tt))
         (λ f. let z = zeros (balanceNumber image node) f in (z (dataCount (bookIn image)), z (used (bookIn image) node), z (freeCount (bookIn image) node)))
         (λ e w. given (balanceNumber image node) e (balance-computed (bookIn image) (w .lawful) node))
       where
-        zeros : (n : ℕ) → (n ≡ 0 → ⊥) → (x : ℕ) → whenDone n x 0 ≡ 0
-        zeros zero f x = absurd (f refl)
-        zeros (suc n) f x = refl
-
         given : (n : ℕ) → n ≡ 0 → BalanceOf (bookIn image) node (dataCount (bookIn image)) (used (bookIn image) node) (freeCount (bookIn image) node)
             → BalanceOf (bookIn image) node (whenDone n (dataCount (bookIn image)) 0) (whenDone n (used (bookIn image) node) 0) (whenDone n (freeCount (bookIn image) node) 0)
+        given zero e w = w
+        given (suc n) e w = absurd (omega arith)
+
+    pub links-computed : Links image node (links image node .number) (links image node .links)
+    links-computed =
+        call-of image bytes (balanceRefusals node) (balanceTests node) (λ v b w. (refl, tests-le (nodes (b .site .links)) node, λ n4. tt))
+        (λ f. zeros (balanceNumber image node) f (linkCount (bookIn image) node))
+        (λ e w. given (balanceNumber image node) e (counted (joined (linksOf image) node) (tests-joined (linksOf image) node) (nodes (linksOf image))))
+      where
+        given : (n : ℕ) → n ≡ 0 → LinksOf (bookIn image) node (linkCount (bookIn image) node) → LinksOf (bookIn image) node (whenDone n (linkCount (bookIn image) node) 0)
         given zero e w = w
         given (suc n) e w = absurd (omega arith)
 

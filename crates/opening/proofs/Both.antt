@@ -18,7 +18,7 @@ use Rattle.index.specs.Marks.{Removes, HopsTake}
 use Rattle.index.proofs.Apart.{index-without}
 use Rattle.placing.specs.Marking as marking
 use Rattle.placing.specs.Marking.{Markable, Marked, Unmarked}
-use Rattle.opening.specs.Puts.{rowOn, Parts, Puttable}
+use Rattle.adding.specs.Puts.{rowOn, Parts, Puttable}
 use Rattle.opening.specs.Keeping.{OneKept, TwoKept}
 use Rattle.opening.specs.Beside.{NewBeside, RouteBeside, PlacedBeside, MarkedBeside}
 use Rattle.opening.proofs.Routed.{room-left}

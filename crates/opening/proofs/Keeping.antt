@@ -17,7 +17,7 @@ use Rattle.index.proofs.Rows.{index-more, index-alike}
 use Rattle.placing.specs.Marking as marking
 use Rattle.placing.specs.Marking.{Marked}
 use Rattle.opening.specs.Open.{Kept}
-use Rattle.opening.specs.Puts.{PutIn, rowOn}
+use Rattle.adding.specs.Puts.{PutIn, rowOn}
 use Rattle.opening.specs.Keeping.{Keeps, MarkedAs, OneKept, TwoKept}
 
 -- the marks of a route are those of its row

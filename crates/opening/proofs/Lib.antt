@@ -1,8 +1,6 @@
 pub mod Outcomes
 pub mod Judging
 pub mod Routed
-pub mod More
-pub mod Fresh
 pub mod Planned
 pub mod Placed
 pub mod Both

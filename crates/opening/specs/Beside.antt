@@ -13,7 +13,7 @@ use Rattle.image.specs.Header.{HeaderOf}
 use Rattle.image.specs.declared.Book.{Book}
 use Rattle.index.specs.Index.{IndexOf}
 use Rattle.index.specs.Beside.{ImageBeside}
-use Rattle.opening.specs.Puts.{rowOn}
+use Rattle.adding.specs.Puts.{rowOn}
 use Rattle.finding.specs.Spot.{Vacant}
 
 -- with what the header says; the request is in order, its period at the place

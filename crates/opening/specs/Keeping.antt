@@ -10,7 +10,7 @@ use Rattle.rules.proofs.Reading.{rowsIn, bookIn}
 use Rattle.index.specs.Index.{IndexOf}
 use Rattle.placing.specs.Marking.{Markable}
 use Rattle.opening.specs.Open.{Kept}
-use Rattle.opening.specs.Puts.{rowOn, OnePut, TwoPut}
+use Rattle.adding.specs.Puts.{rowOn, OnePut, TwoPut}
 
 -- done: the image has the rows, and the words are the index with them
 abbrev pub Keeps : List ℕ → List Row → ℕ → ℕ → List ℕ → List ℕ → Type 0

@@ -1,4 +1,3 @@
 pub mod Open
 pub mod Beside
-pub mod Puts
 pub mod Keeping

@@ -12,7 +12,6 @@ use routes::Reach;
 use rules::Asked;
 use rules::Place;
 
-mod adding;
 mod ways;
 
 // What is wrong with a request by itself; or nothing is, and its period is at the place.

@@ -1,3 +1,5 @@
 pub mod Lifts
 pub mod Making
 pub mod Listing
+pub mod Links
+pub mod Marked

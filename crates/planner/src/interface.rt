@@ -1,6 +1,6 @@
-// The C interface: the nine calls over bare numbers.
+// The C interface: the ten calls over bare numbers.
 ghost use mathlib.Core.Path.{_≡_};
-ghost use Rattle.rules.specs.Calls.{New, Check, Rewrite, Serve, Expand, Balance};
+ghost use Rattle.rules.specs.Calls.{New, Check, Rewrite, Serve, Expand, Balance, Links};
 ghost use Rattle.rules.specs.Calls.Request.{Open, Close};
 ghost use Rattle.posting.specs.Posting.{Posts};
 ghost use Rattle.planner.specs.Marks.{RoutesMarked};
@@ -134,6 +134,16 @@ pub extern "C" fn lindurask_balance(
     *held = answer.data;
     *used = answer.used;
     *free = answer.free;
+    answer.number
+}
+
+// Gives the number of a node's links.
+#[no_mangle]
+pub extern "C" fn lindurask_links(book: &[u8], node: u8, links: &mut u8) -> u8
+    ensures { λ r. ⌜ Links (now (book .entry)) node r (now (links .exit)) ⌝ }
+{
+    let answer = crate::links_of(book, Node(node));
+    *links = answer.links;
     answer.number
 }
 

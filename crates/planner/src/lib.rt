@@ -1,8 +1,11 @@
 // The public calls: each takes a book as its stored image, and says back a number.
 ghost use mathlib.Core.Path.{_≡_};
+ghost use Prim.Native.Nat.{_<_};
 ghost use Rattle.rules.specs.Periods.{thePlan, theAsked};
-ghost use Rattle.rules.specs.Calls.{New, Check, Rewrite, Serve, Expand, Routes};
+ghost use Rattle.rules.specs.Calls.{New, Check, Rewrite, Serve, Expand, LinksOf, Links, Routes};
 ghost use Rattle.rules.specs.Calls.Request.{Open, Close};
+ghost use Rattle.rules.specs.Image.{nodesOf};
+ghost use Rattle.rules.proofs.Reading.{bookIn, LawfulImage};
 ghost use Rattle.posting.specs.Posting.{Posts};
 ghost use Rattle.planner.specs.Balances.{BalanceSays};
 use answers::Answer;
@@ -21,6 +24,12 @@ pub struct Balance {
     pub data: u32,
     pub used: u32,
     pub free: u32,
+}
+
+// A node's links: a number, and how many they are.
+pub struct Linked {
+    pub number: u8,
+    pub links: u8,
 }
 
 // Makes a book without streams; the topology is given as it stands in an image.
@@ -164,6 +173,37 @@ pub fn balance_of(image: &[u8], node: Node) -> Balance
         data: counts.data,
         used: counts.used,
         free: counts.free,
+    }
+}
+
+// How many links a node of the book has.
+fn count_links(image: &[u8], node: usize) -> u8
+    requires { ⌜ LawfulImage (now image) × (node < nodesOf (now image)) ⌝ }
+    ensures { λ r. ⌜ LinksOf (bookIn (now (image .entry))) node r ⌝ }
+{
+    let row = image::word64_at(image, image::HEADER + image::SET * node);
+    bitset::count(row) as u8
+}
+
+// Gives the number of a node's links.
+pub fn links_of(image: &[u8], node: Node) -> Linked
+    ensures { λ r. ⌜ Links (now (image .entry)) (node .0) (r .number) (r .links) ⌝ }
+{
+    let mut index = [0u64; index::WORDS];
+    let number = lawful::verdict(image, &mut index);
+    if number != 0 {
+        return Linked { number, links: 0 };
+    }
+    let at = node.0 as usize;
+    if Book::read(image).nodes <= at {
+        return Linked {
+            number: 4,
+            links: 0,
+        };
+    }
+    Linked {
+        number: 0,
+        links: count_links(image, at),
     }
 }
 

@@ -173,6 +173,7 @@ module _ (rs : List Request) (count : ℕ) (all : length rs ≡ listed) (l : cou
 
     pub posts-first : {image out out′ : List ℕ} {r : Answer} → Posts image (take count rs) out r zs out′ → PostsFirst image rs count out r (zs ++ drop count rs) out′
     posts-first {image} {out} {out′} {r} p = record {
-      posts = subst (λ (ts : List Request). Posts image (take count rs) out r ts out′) (sym (subst (λ (k : ℕ). take k (zs ++ drop count rs) ≡ zs) (same ∙ taken) (take-append-seam zs (drop count rs)))) p;
+      posts = subst (λ (ts : List Request). Posts image (take count rs) out r ts out′)
+          (sym (subst (λ (k : ℕ). take k (zs ++ drop count rs) ≡ zs) (same ∙ taken) (take-append-seam zs (drop count rs)))) p;
       rest = subst (λ (k : ℕ). drop k (zs ++ drop count rs) ≡ drop count rs) (same ∙ taken) (drop-append-seam zs (drop count rs));
     }

@@ -42,7 +42,8 @@ stored-image {c} h = record {
   version = version-back newest c;
 }
 
-module _ {buffer : List ℕ} {len : ℕ} {words : List ℕ} (w : Standing buffer len words) {q : calls.Request} {number size : ℕ} {out marks : List ℕ} (h : Works (take len buffer) q number size out marks) where
+module _ {buffer : List ℕ} {len : ℕ} {words : List ℕ} (w : Standing buffer len words) {q : calls.Request} {number size : ℕ} {out marks : List ℕ}
+    (h : Works (take len buffer) q number size out marks) where
   -- refused: the book stands as it was
   pub work-refused : (number ≡ 0 → ⊥) → Worked buffer len q (record { answer = number; length = len }) buffer marks
   work-refused f = record {
@@ -100,8 +101,10 @@ pub asks-open : (r : Request) → r .opens ≡ true → {s out words : List ℕ}
     → Works s (Open (record { id = r .id; source = r .source; destination = r .destination; period = r .period; second = r .second })) number len out words
     → Works s (theRequest r) number len out words
 asks-open r e {s} {out} {words} {number} {len} w =
-    subst (λ (t : Bool). Works s (cond t (Open (record { id = r .id; source = r .source; destination = r .destination; period = r .period; second = r .second })) (Close (r .id))) number len out words) (sym e) w
+    subst (λ (t : Bool). Works s (cond t (Open (record { id = r .id; source = r .source; destination = r .destination; period = r .period; second = r .second }))
+    (Close (r .id))) number len out words) (sym e) w
 
 pub asks-close : (r : Request) → r .opens ≡ false → {s out words : List ℕ} {number len : ℕ} → Works s (Close (r .id)) number len out words → Works s (theRequest r) number len out words
 asks-close r e {s} {out} {words} {number} {len} w =
-    subst (λ (t : Bool). Works s (cond t (Open (record { id = r .id; source = r .source; destination = r .destination; period = r .period; second = r .second })) (Close (r .id))) number len out words) (sym e) w
+    subst (λ (t : Bool). Works s (cond t (Open (record { id = r .id; source = r .source; destination = r .destination; period = r .period; second = r .second }))
+    (Close (r .id))) number len out words) (sym e) w

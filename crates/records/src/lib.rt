@@ -2,15 +2,12 @@
 ghost use Prim.Native.Nat.{_+_, _*_, _≤_};
 ghost use lib.ListN.{length};
 ghost use Rattle.posting.specs.Posting.{listed};
-ghost use Rattle.records.specs.Lengths.{recordLength};
+ghost use Rattle.frames.specs.Lengths.{recordLength};
 use answers::Answer;
 use posting::Request;
 
-// Bytes of a record,
-pub const RECORD: usize = 11;
-
-// and of the longest list of them.
-pub const MOST: usize = posting::LISTED * RECORD;
+// Bytes of a record.
+const RECORD: usize = frames::RECORD;
 
 // How many records the bytes are.
 fn count(bytes: &[u8]) -> usize

@@ -1,8 +1,9 @@
 -- The laws of counts: the numbers that pass a test, and a count parted in two.
-use mathlib.Core.Path.{_≡_, refl, ap, subst}
+use mathlib.Core.Path.{_≡_, refl, sym, ap, subst}
 use mathlib.Core.Bool.{Bool, true, false, cond}
 use Prim.Native.Nat.{ℕ, zero, suc, _+_, _≤_}
 use native.Mathlib.Omega.{arith}
+use native.Mathlib.Decide.{ℕ-discrete}
 use Rattle.rules.specs.Words.{Count, Tests}
 use Rattle.rules.specs.Words.Count.{none, one, skip}
 use Rattle.rules.specs.Table.{sumBelow}
@@ -32,6 +33,20 @@ pub count-most : {P : ℕ → Type 0} {n k : ℕ} → Count P n k → k ≤ n
 count-most none = omega arith
 count-most (one c p) = let h = count-most c in omega arith
 count-most (skip c p) = let h = count-most c in omega arith
+
+-- where none holds from a number on, those below it are all
+pub count-below : {P : ℕ → Type 0} {w m k : ℕ} → ((i : ℕ) → w ≤ i → P i → ⊥) → w ≤ m → Count P m k → Count P w k
+count-below {P} {w} f l none = subst (λ (i : ℕ). Count P i 0) (omega arith) none
+count-below {P} {w} f l (one {n} {k} c p) = go (ℕ-discrete w (suc n))
+  where
+    go : Dec (w ≡ suc n) → Count P w (suc k)
+    go (yes e) = subst (λ (i : ℕ). Count P i (suc k)) (sym e) (one c p)
+    go (no g) = absurd (f n (omega (arith, g)) p)
+count-below {P} {w} f l (skip {n} {k} c p) = go (ℕ-discrete w (suc n)) (λ h. count-below f h c)
+  where
+    go : Dec (w ≡ suc n) → (w ≤ n → Count P w k) → Count P w k
+    go (yes e) more = subst (λ (i : ℕ). Count P i k) (sym e) (skip c p)
+    go (no g) more = more (omega (arith, g))
 
 -- what is 1 where P holds, and 0 elsewhere, sums to the count
 pub count-sum : {P : ℕ → Type 0} {n k : ℕ} (f : ℕ → ℕ) → ((i : ℕ) → P i → f i ≡ 1) → ((i : ℕ) → (P i → ⊥) → f i ≡ 0) → Count P n k → k ≡ sumBelow n f

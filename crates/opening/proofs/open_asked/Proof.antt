@@ -12,14 +12,20 @@ find-requires : tie.Need-find-requires
 find-requires c κs = c .before .pre .image .newest .lawful
 
 open-new-requires : tie.Need-open-new-requires
-open-new-requires c κs = record { asked = c .before .before .before .before .before .before .before .pre; vacant = subst (SpotOf _ _) (c .before .before .before .at .given .1) (c .before .before .before .before .before .find .ensures) }
+open-new-requires c κs = record {
+  asked = c .before .before .before .before .before .before .before .pre;
+  vacant = subst (SpotOf _ _) (c .before .before .before .at .given .1)
+      (c .before .before .before .before .before .find .ensures);
+}
 
 returns : tie.Need-returns
 returns c =
-    out-refused (taken-known (subst (SpotOf _ _) (c .before .enum-told .given .1) (c .before .before .before .find .ensures))) (λ z. omega arith) (c .refused .ensures .0) (c .before .before .before .before .before .pre .image .index)
+    out-refused (taken-known (subst (SpotOf _ _) (c .before .enum-told .given .1) (c .before .before .before .find .ensures))) (λ z. omega arith) (c .refused .ensures .0)
+    (c .before .before .before .before .before .pre .image .index)
 
 returns-2 : tie.Need-returns-2
-returns-2 c = out-next (λ k. vacant-unknown (subst (SpotOf _ _) (c .before .before .before .before .at .given .1) (c .before .before .before .before .before .before .find .ensures)) k) (c .open-new .ensures)
+returns-2 c = out-next (λ k. vacant-unknown (subst (SpotOf _ _) (c .before .before .before .before .at .given .1) (c .before .before .before .before .before .before .find .ensures)) k)
+    (c .open-new .ensures)
 
 pub open-asked-spec : {M : Type 1} → statement M
 open-asked-spec =

@@ -73,19 +73,23 @@ open-routed-requires c κs =
     record {
       new = a .pre;
       linked = same-links (a .pre .asked) (c .before .before .before .before .before .before .before .before .before .before .sets .ensures);
-      planned = planned-route (a .pre .asked) (c .before .before .before .before .before .before .before .before .before .before .sets .ensures) (c .before .before .before .before .before .before .before .before .plan .result) (c .before .before .before .before .before .before .before .before .plan .ensures) (c .before .before .before .before .enum-told3 .given .1);
+      planned = planned-route (a .pre .asked) (c .before .before .before .before .before .before .before .before .before .before .sets .ensures)
+          (c .before .before .before .before .before .before .before .before .plan .result) (c .before .before .before .before .before .before .before .before .plan .ensures)
+          (c .before .before .before .before .enum-told3 .given .1);
     }
 
 returns : tie.Need-returns
 returns c =
     let a = c .before .before .before .before .before .before .before .before .before in
-    out-refused (planned-none (a .pre .asked) (c .before .before .before .before .before .before .before .sets .ensures) (c .before .before .before .before .before .plan .result) (c .before .before .before .before .before .plan .ensures) (c .before .enum-told .given .1)) (λ z. omega arith)
+    out-refused (planned-none (a .pre .asked) (c .before .before .before .before .before .before .before .sets .ensures) (c .before .before .before .before .before .plan .result)
+    (c .before .before .before .before .before .plan .ensures) (c .before .enum-told .given .1)) (λ z. omega arith)
     (c .refused .ensures .0) (a .pre .asked .image .index)
 
 returns-2 : tie.Need-returns-2
 returns-2 c =
     let a = c .before .before .before .before .before .before .before .before .before in
-    let far = planned-far (a .pre .asked) (c .before .before .before .before .before .before .before .sets .ensures) (c .before .before .before .before .before .plan .result) (c .before .before .before .before .before .plan .ensures) (c .before .enum-told2 .given .1) in
+    let far = planned-far (a .pre .asked) (c .before .before .before .before .before .before .before .sets .ensures) (c .before .before .before .before .before .plan .result)
+    (c .before .before .before .before .before .plan .ensures) (c .before .enum-told2 .given .1) in
     out-next (far-some far) (out-refused far (λ z. omega arith) (c .refused2 .ensures .0) (a .pre .asked .image .index))
 
 returns-3 : tie.Need-returns-3

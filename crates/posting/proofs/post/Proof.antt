@@ -400,7 +400,8 @@ module _ {M : Type 1} (𝓤 : URA M) (H : Heap 𝓤) (A : Atoms 𝓤) (W : Given
         use1 W (‵ (froom bytes l₄ 0)) (lies-out 𝓤 H A W u8 (longestImage newest) s l₄) $ move ! (6 ∷ []) $
         use1 W (‵ (froom words l₅ 0)) (lies-out 𝓤 H A W u64 indexLength w l₅) $
         forget ! 8 refl $ forget ! 9 refl $ forget ! 10 refl $ forget ! 11 refl $
-        keep ! (3 ∷ 2 ∷ 4 ∷ 5 ∷ 6 ∷ 18 ∷ 40 ∷ 7 ∷ 27 ∷ 8 ∷ 28 ∷ 9 ∷ 29 ∷ 10 ∷ 30 ∷ 1 ∷ 31 ∷ 0 ∷ 32 ∷ 11 ∷ 33 ∷ 12 ∷ 34 ∷ 13 ∷ 35 ∷ 14 ∷ 36 ∷ 15 ∷ 37 ∷ 16 ∷ 38 ∷ 17 ∷ 39 ∷ 19 ∷ 41 ∷ 20 ∷ 42 ∷ 21 ∷ 43 ∷ 22 ∷ 44 ∷ 23 ∷ 45 ∷ 24 ∷ 46 ∷ 25 ∷ 47 ∷ 26 ∷ 48 ∷ []) $
+        keep ! (3 ∷ 2 ∷ 4 ∷ 5 ∷ 6 ∷ 18 ∷ 40 ∷ 7 ∷ 27 ∷ 8 ∷ 28 ∷ 9 ∷ 29 ∷ 10 ∷ 30 ∷ 1 ∷ 31 ∷ 0 ∷ 32 ∷ 11 ∷ 33 ∷ 12 ∷ 34 ∷ 13 ∷ 35 ∷ 14 ∷ 36 ∷ 15 ∷ 37 ∷ 16 ∷ 38 ∷ 17 ∷ 39 ∷ 19 ∷ 41 ∷ 20 ∷ 42 ∷ 21
+        ∷ 43 ∷ 22 ∷ 44 ∷ 23 ∷ 45 ∷ 24 ∷ 46 ∷ 25 ∷ 47 ∷ 26 ∷ 48 ∷ []) $
         leaves ys out₀ y (posts-refused ys out₀ y e f′) refl refl is
 
     -- the book is written where a record was done
@@ -411,7 +412,8 @@ module _ {M : Type 1} (𝓤 : URA M) (H : Heap 𝓤) (A : Atoms 𝓤) (W : Given
         assigns ! (agg ! (and-then ! (load ! (from ! (stop !)) (look ! 23 refl)) (and-then ! (big-lit ! (record { fits = lit< tt })) (no-more !)))) (from ! (stop !))
         (init ! 24 refl (tt, (tt, (record { fits = lit< tt }, tt)))) $
         assigns ! (addr ! (from ! (fld ! refl (hop ! (look-in ! 10 (sub ! 0 refl (whole !))) (stop !))))) (from ! (stop !)) (init ! 25 refl (tt, tt)) $
-        assigns ! (agg ! (and-then ! (load ! (from ! (stop !)) (look ! 25 refl)) (and-then ! (load ! (from ! (fld ! refl (stop !))) (look-in ! 10 (sub ! 1 refl (whole !)))) (no-more !)))) (from ! (stop !))
+        assigns ! (agg ! (and-then ! (load ! (from ! (stop !)) (look ! 25 refl)) (and-then ! (load ! (from ! (fld ! refl (stop !))) (look-in ! 10 (sub ! 1 refl (whole !)))) (no-more !))))
+        (from ! (stop !))
         (init ! 26 refl (tt, (tt, (record { fits = room₂ .0 }, tt)))) $
         -- the book is lent as a slice for a lifetime θ
         rewrite ! 24 (λ (k : ℕ). ‵ (fat fullShare part l₁₉ 0 (sliceVal (l₄, 0) k))) (sym (p .standing .room)) refl $ move ! (5 ∷ []) $
@@ -439,14 +441,16 @@ module _ {M : Type 1} (𝓤 : URA M) (H : Heap 𝓤) (A : Atoms 𝓤) (W : Given
         use1 W (‵ (froom bytes l₄ 0)) (lies-out 𝓤 H A W u8 (longestImage newest) s l₄) $ move ! (6 ∷ []) $
         use1 W (‵ (froom words l₅ 0)) (lies-out 𝓤 H A W u64 indexLength w l₅) $
         forget ! 8 refl $ forget ! 9 refl $ forget ! 10 refl $ forget ! 12 refl $ forget ! 23 refl $ forget ! 24 refl $ forget ! 25 refl $ forget ! 26 refl $
-        keep ! (6 ∷ 3 ∷ 4 ∷ 5 ∷ 2 ∷ 18 ∷ 40 ∷ 7 ∷ 27 ∷ 8 ∷ 28 ∷ 9 ∷ 29 ∷ 10 ∷ 30 ∷ 1 ∷ 31 ∷ 0 ∷ 32 ∷ 11 ∷ 33 ∷ 12 ∷ 34 ∷ 13 ∷ 35 ∷ 14 ∷ 36 ∷ 15 ∷ 37 ∷ 16 ∷ 38 ∷ 17 ∷ 39 ∷ 19 ∷ 41 ∷ 20 ∷ 42 ∷ 21 ∷ 43 ∷ 22 ∷ 44 ∷ 23 ∷ 45 ∷ 24 ∷ 46 ∷ 25 ∷ 47 ∷ 26 ∷ 48 ∷ []) $
+        keep ! (6 ∷ 3 ∷ 4 ∷ 5 ∷ 2 ∷ 18 ∷ 40 ∷ 7 ∷ 27 ∷ 8 ∷ 28 ∷ 9 ∷ 29 ∷ 10 ∷ 30 ∷ 1 ∷ 31 ∷ 0 ∷ 32 ∷ 11 ∷ 33 ∷ 12 ∷ 34 ∷ 13 ∷ 35 ∷ 14 ∷ 36 ∷ 15 ∷ 37 ∷ 16 ∷ 38 ∷ 17 ∷ 39 ∷ 19 ∷ 41 ∷ 20 ∷ 42 ∷ 21
+        ∷ 43 ∷ 22 ∷ 44 ∷ 23 ∷ 45 ∷ 24 ∷ 46 ∷ 25 ∷ 47 ∷ 26 ∷ 48 ∷ []) $
         leaves zs (os .1 .1 .0) r (posts-done ys out₀ y e z t r p f′) ln ln₂ (is-answer r ir)))))))))
 
     -- the list is worked through
     works : (y : Answer) (s w : List ℕ) → Begun (img .now) n n₂ y s w → y .number ≡ 0 → Is An.the-row y (An′.lowered y ∷ []) → Sq W (Begun-at y s w) (runs C Λ En (then-arm parts.s-9) Q)
     works y s w e z is =
         assigns ! (addr ! (from ! (fld ! refl (hop ! (look-in ! 9 (sub ! 0 refl (whole !))) (stop !))))) (from ! (stop !)) (init ! 19 refl (tt, tt)) $
-        assigns ! (agg ! (and-then ! (load ! (from ! (stop !)) (look ! 19 refl)) (and-then ! (load ! (from ! (fld ! refl (stop !))) (look-in ! 9 (sub ! 1 refl (whole !)))) (no-more !)))) (from ! (stop !))
+        assigns ! (agg ! (and-then ! (load ! (from ! (stop !)) (look ! 19 refl)) (and-then ! (load ! (from ! (fld ! refl (stop !))) (look-in ! 9 (sub ! 1 refl (whole !)))) (no-more !))))
+        (from ! (stop !))
         (init ! 20 refl (tt, (tt, (record { fits = room .0 }, tt)))) $
         assigns ! (addr ! (from ! (stop !))) (from ! (stop !)) (init ! 21 refl (tt, tt)) $
         assigns ! (addr ! (from ! (stop !))) (from ! (stop !)) (init ! 22 refl (tt, tt)) $
@@ -460,10 +464,14 @@ module _ {M : Type 1} (𝓤 : URA M) (H : Heap 𝓤) (A : Atoms 𝓤) (W : Given
         join ! $ move ! (6 ∷ 0 ∷ []) $ join ! $ move ! (3 ∷ 1 ∷ []) $ fjoin ! $ move ! (1 ∷ 6 ∷ 0 ∷ []) $
         use3 W (raw (All 𝓤 H A mem₀ run .pre (asks-all l₄ l₅ μ μ′ ε ε′ s w (y .length)))) (goes-all l₄ l₅ μ μ′ ε ε′ s w (y .length) (e .stands z .3 .0) (y-fits y is)) $
         calls-at ! (fmOf 𝓤 H (W .laws) 𝓣) (All 𝓤 H A mem₀ run) alls (asks-all l₄ l₅ μ μ′ ε ε′ s w (y .length))
-        (and-then ! (load ! (from ! (stop !)) (look ! 19 refl)) (and-then ! (load ! (from ! (stop !)) (look ! 20 refl)) (and-then ! (load ! (from ! (stop !)) (look ! 21 refl)) (and-then ! (load ! (from ! (fld ! refl (stop !))) (look-in ! 10 (sub ! 1 refl (whole !)))) (no-more !))))) (λ wa.
-        use1 W (later (some (λ (t : State). ((‵ (flft κ₁ q₁) ⊛ ‵ (flft (μ ∷ []) fullShare) ⊛ ‵ (flft (μ′ ∷ []) fullShare) ⊛ ‵ ftrue) ⊛ ‵ (S.the-row .own t (wa ∷ []))) ⊛ raw (Alls μ μ′ ε ε′ l₄ l₅ s w (y .length) t))))
+        (and-then ! (load ! (from ! (stop !)) (look ! 19 refl))
+        (and-then ! (load ! (from ! (stop !)) (look ! 20 refl))
+        (and-then ! (load ! (from ! (stop !)) (look ! 21 refl)) (and-then ! (load ! (from ! (fld ! refl (stop !))) (look-in ! 10 (sub ! 1 refl (whole !)))) (no-more !))))) (λ wa.
+        use1 W (later (some (λ (t : State). ((‵ (flft κ₁ q₁) ⊛ ‵ (flft (μ ∷ []) fullShare) ⊛ ‵ (flft (μ′ ∷ []) fullShare) ⊛ ‵ ftrue) ⊛ ‵ (S.the-row .own t (wa ∷ []))) ⊛ raw
+        (Alls μ μ′ ε ε′ l₄ l₅ s w (y .length) t))))
         (id⊢ 𝓤 _) $ await ! tt $ pick ! (λ t. split ! $ move ! (1 ∷ []) $
-        use1 W (some (λ (xs : List Request × (List ℕ × (List ℕ × (Unit {0} × Unit {0})))). ‵ (lasts all.ended (κ₁, (μ ∷ [], (μ′ ∷ [], tt))) (all-args l₄ l₅ ε ε′ s w (y .length)) xs) ⊛ raw (fact 𝓤 (PostedAll ys s (y .length) t (xs .0) (xs .1 .0) (xs .1 .1 .0)))))
+        use1 W (some (λ (xs : List Request × (List ℕ × (List ℕ × (Unit {0} × Unit {0})))). ‵ (lasts all.ended (κ₁, (μ ∷ [], (μ′ ∷ [], tt))) (all-args l₄ l₅ ε ε′ s w (y .length)) xs) ⊛ raw
+        (fact 𝓤 (PostedAll ys s (y .length) t (xs .0) (xs .1 .0) (xs .1 .1 .0)))))
         (id⊢ 𝓤 _) $ pick ! (λ xs. split ! $ move ! (1 ∷ []) $ heard ! (PostedAll ys s (y .length) t (xs .0) (xs .1 .0) (xs .1 .1 .0)) (λ p. fsplit ! $ fsplit ! $
         move ! (1 ∷ []) $ feqL ! (λ ln. move ! (1 ∷ []) $ fsplit ! $ move ! (1 ∷ []) $ fsplit ! $ move ! (1 ∷ []) $ drop ! $ move ! (3 ∷ []) $ split ! $
         move ! (1 ∷ []) $ peeks ! S.the-row (Is S.the-row) (shows 𝓤 H A S.the-row) t (wa ∷ []) (λ it.
@@ -474,7 +482,8 @@ module _ {M : Type 1} (𝓤 : URA M) (H : Heap 𝓤) (A : Atoms 𝓤) (W : Given
         move ! (0 ∷ 5 ∷ 3 ∷ []) $
         use3 W (later (‵ (mem X .lies (xs .1 .1 .0) l₅ 0))) (ref-back 𝓤 H A W X (μ′ ∷ []) ε′ (xs .1 .1 .0) l₅ 0) $ await ! tt $
         forget ! 11 refl $ forget ! 19 refl $ forget ! 20 refl $ forget ! 21 refl $ forget ! 22 refl $
-        keep ! (4 ∷ 2 ∷ 5 ∷ 3 ∷ 6 ∷ 1 ∷ 0 ∷ 7 ∷ 8 ∷ 9 ∷ 10 ∷ 11 ∷ 12 ∷ 13 ∷ 14 ∷ 15 ∷ 16 ∷ 17 ∷ 18 ∷ 19 ∷ 20 ∷ 21 ∷ 22 ∷ 23 ∷ 24 ∷ 25 ∷ 26 ∷ 27 ∷ 28 ∷ 29 ∷ 30 ∷ 31 ∷ 32 ∷ 33 ∷ 34 ∷ 35 ∷ 36 ∷ 37 ∷ 38 ∷ 39 ∷ 40 ∷ 41 ∷ 42 ∷ 43 ∷ 44 ∷ 45 ∷ 46 ∷ 47 ∷ 48 ∷ []) $
+        keep ! (4 ∷ 2 ∷ 5 ∷ 3 ∷ 6 ∷ 1 ∷ 0 ∷ 7 ∷ 8 ∷ 9 ∷ 10 ∷ 11 ∷ 12 ∷ 13 ∷ 14 ∷ 15 ∷ 16 ∷ 17 ∷ 18 ∷ 19 ∷ 20 ∷ 21 ∷ 22 ∷ 23 ∷ 24 ∷ 25 ∷ 26 ∷ 27 ∷ 28 ∷ 29 ∷ 30 ∷ 31 ∷ 32 ∷ 33 ∷ 34 ∷ 35 ∷ 36 ∷ 37
+        ∷ 38 ∷ 39 ∷ 40 ∷ 41 ∷ 42 ∷ 43 ∷ 44 ∷ 45 ∷ 46 ∷ 47 ∷ 48 ∷ []) $
         ending y s w e z t (xs .0) (xs .1 .0) (xs .1 .1 .0) p ln (is-state t it)))))))))))
 
     -- what is had once the parameters are passed
@@ -523,10 +532,15 @@ module _ {M : Type 1} (𝓤 : URA M) (H : Heap 𝓤) (A : Atoms 𝓤) (W : Given
         move ! (5 ∷ 0 ∷ []) $ join ! $ move ! (7 ∷ 0 ∷ []) $ join ! $ move ! (3 ∷ 1 ∷ []) $ fjoin ! $ move ! (1 ∷ 8 ∷ 0 ∷ []) $
         use3 W (raw (Begin 𝓤 H A mem₀ run .pre (asks-begin l₄ l₅ ν ν′ δ δ′))) (goes-begin l₄ l₅ ν ν′ δ δ′) $
         calls-at ! (fmOf 𝓤 H (W .laws) 𝓣) (Begin 𝓤 H A mem₀ run) begins (asks-begin l₄ l₅ ν ν′ δ δ′)
-        (and-then ! (load ! (from ! (stop !)) (look ! 45 refl)) (and-then ! (load ! (from ! (stop !)) (look ! 33 refl)) (and-then ! (load ! (from ! (stop !)) (look ! 31 refl)) (and-then ! (load ! (from ! (stop !)) (look ! 29 refl)) (and-then ! (load ! (from ! (stop !)) (look ! 27 refl)) (no-more !)))))) (λ wb.
-        use1 W (later (some (λ (y : Answer). ((‵ (flft κ q) ⊛ ‵ (flft (ν ∷ []) fullShare) ⊛ ‵ (flft (ν′ ∷ []) fullShare) ⊛ ‵ ftrue) ⊛ ‵ (An.the-row .own y (wb ∷ []))) ⊛ raw (Begins ν ν′ δ δ′ l₄ l₅ y))))
+        (and-then ! (load ! (from ! (stop !)) (look ! 45 refl))
+        (and-then ! (load ! (from ! (stop !)) (look ! 33 refl))
+        (and-then ! (load ! (from ! (stop !)) (look ! 31 refl)) (and-then ! (load ! (from ! (stop !)) (look ! 29 refl)) (and-then ! (load ! (from ! (stop !)) (look ! 27 refl)) (no-more !))))))
+        (λ wb.
+        use1 W (later (some (λ (y : Answer). ((‵ (flft κ q) ⊛ ‵ (flft (ν ∷ []) fullShare) ⊛ ‵ (flft (ν′ ∷ []) fullShare) ⊛ ‵ ftrue) ⊛ ‵ (An.the-row .own y (wb ∷ []))) ⊛ raw
+        (Begins ν ν′ δ δ′ l₄ l₅ y))))
         (id⊢ 𝓤 _) $ await ! tt $ pick ! (λ y. split ! $ move ! (1 ∷ []) $
-        use1 W (some (λ (zs : Unit {0} × (Unit {0} × (Unit {0} × (List ℕ × (List ℕ × Unit {0}))))). ‵ (lasts begin.ended (κ, (ν ∷ [], (ν′ ∷ [], tt))) (begin-args l₄ l₅ δ δ′) zs) ⊛ raw (fact 𝓤 (Begun (img .now) n n₂ y (zs .1 .1 .1 .0) (zs .1 .1 .1 .1 .0)))))
+        use1 W (some (λ (zs : Unit {0} × (Unit {0} × (Unit {0} × (List ℕ × (List ℕ × Unit {0}))))). ‵ (lasts begin.ended (κ, (ν ∷ [], (ν′ ∷ [], tt))) (begin-args l₄ l₅ δ δ′) zs) ⊛ raw
+        (fact 𝓤 (Begun (img .now) n n₂ y (zs .1 .1 .1 .0) (zs .1 .1 .1 .1 .0)))))
         (id⊢ 𝓤 _) $ pick ! (λ zs. split ! $ move ! (1 ∷ []) $ heard ! (Begun (img .now) n n₂ y (zs .1 .1 .1 .0) (zs .1 .1 .1 .1 .0)) (λ e. fsplit ! $ drop ! $
         fsplit ! $ drop ! $ fsplit ! $ drop ! $ fsplit ! $ move ! (1 ∷ []) $ fsplit ! $ move ! (1 ∷ []) $ drop ! $ move ! (2 ∷ []) $ split ! $ move ! (1 ∷ []) $
         peeks ! An.the-row (Is An.the-row) (shows 𝓤 H A An.the-row) y (wb ∷ []) (λ is.
@@ -540,11 +554,13 @@ module _ {M : Type 1} (𝓤 : URA M) (H : Heap 𝓤) (A : Atoms 𝓤) (W : Given
         first ! $ branches ! (load ! (from ! (stop !)) (look ! 25 refl))
         (λ yes.
         forget ! 33 refl $ forget ! 31 refl $ forget ! 29 refl $ forget ! 27 refl $ forget ! 25 refl $
-        keep ! (2 ∷ 4 ∷ 3 ∷ 6 ∷ 5 ∷ 1 ∷ 0 ∷ 47 ∷ 45 ∷ 43 ∷ 41 ∷ 37 ∷ 35 ∷ 33 ∷ 31 ∷ 29 ∷ 27 ∷ 25 ∷ 23 ∷ 21 ∷ 19 ∷ 17 ∷ 15 ∷ 13 ∷ 11 ∷ 9 ∷ 7 ∷ 48 ∷ 46 ∷ 44 ∷ 42 ∷ 40 ∷ 39 ∷ 38 ∷ 36 ∷ 34 ∷ 32 ∷ 30 ∷ 28 ∷ 26 ∷ 24 ∷ 22 ∷ 20 ∷ 18 ∷ 16 ∷ 14 ∷ 12 ∷ 10 ∷ 8 ∷ []) $
+        keep ! (2 ∷ 4 ∷ 3 ∷ 6 ∷ 5 ∷ 1 ∷ 0 ∷ 47 ∷ 45 ∷ 43 ∷ 41 ∷ 37 ∷ 35 ∷ 33 ∷ 31 ∷ 29 ∷ 27 ∷ 25 ∷ 23 ∷ 21 ∷ 19 ∷ 17 ∷ 15 ∷ 13 ∷ 11 ∷ 9 ∷ 7 ∷ 48 ∷ 46 ∷ 44 ∷ 42 ∷ 40 ∷ 39 ∷ 38 ∷ 36 ∷ 34 ∷ 32 ∷ 30
+        ∷ 28 ∷ 26 ∷ 24 ∷ 22 ∷ 20 ∷ 18 ∷ 16 ∷ 14 ∷ 12 ∷ 10 ∷ 8 ∷ []) $
         works y (zs .1 .1 .1 .0) (zs .1 .1 .1 .1 .0) e (eqb→eq (y .number) 0 yes) (is-answer y is))
         (λ no.
         forget ! 33 refl $ forget ! 31 refl $ forget ! 29 refl $ forget ! 27 refl $ forget ! 25 refl $
-        keep ! (2 ∷ 4 ∷ 3 ∷ 6 ∷ 5 ∷ 1 ∷ 0 ∷ 47 ∷ 45 ∷ 43 ∷ 41 ∷ 37 ∷ 35 ∷ 33 ∷ 31 ∷ 29 ∷ 27 ∷ 25 ∷ 23 ∷ 21 ∷ 19 ∷ 17 ∷ 15 ∷ 13 ∷ 11 ∷ 9 ∷ 7 ∷ 48 ∷ 46 ∷ 44 ∷ 42 ∷ 40 ∷ 39 ∷ 38 ∷ 36 ∷ 34 ∷ 32 ∷ 30 ∷ 28 ∷ 26 ∷ 24 ∷ 22 ∷ 20 ∷ 18 ∷ 16 ∷ 14 ∷ 12 ∷ 10 ∷ 8 ∷ []) $
+        keep ! (2 ∷ 4 ∷ 3 ∷ 6 ∷ 5 ∷ 1 ∷ 0 ∷ 47 ∷ 45 ∷ 43 ∷ 41 ∷ 37 ∷ 35 ∷ 33 ∷ 31 ∷ 29 ∷ 27 ∷ 25 ∷ 23 ∷ 21 ∷ 19 ∷ 17 ∷ 15 ∷ 13 ∷ 11 ∷ 9 ∷ 7 ∷ 48 ∷ 46 ∷ 44 ∷ 42 ∷ 40 ∷ 39 ∷ 38 ∷ 36 ∷ 34 ∷ 32 ∷ 30
+        ∷ 28 ∷ 26 ∷ 24 ∷ 22 ∷ 20 ∷ 18 ∷ 16 ∷ 14 ∷ 12 ∷ 10 ∷ 8 ∷ []) $
         refuses y (zs .1 .1 .1 .0) (zs .1 .1 .1 .1 .0) e (λ z. T-not (eqb (y .number) 0) no (subst (λ (k : ℕ). Holds (eqb k 0)) (sym z) (eqb-refl 0))) (is-answer y is)))))))))))))
 
   -- the locals are made, and the parameters passed

@@ -1,4 +1,4 @@
--- `posting::post_array` meets its contract: a walk of its MIR, by hand. The array is copied, and the row of its first records is lent as a slice to `post` for a lifetime that the walk makes and ends.
+-- A walk of `post_array` by hand. The array is copied, and the row of its first records is lent as a slice to `post` for a lifetime that the walk makes and ends.
 -- The row is whole again with the others, and the array is given back by value. The image and the output are passed on as they came in.
 use mathlib.Core.Path.{_≡_, refl, sym, ap, _∙_, subst}
 use Prim.Native.Nat.{ℕ, _<_, _≤_, _^_}
@@ -268,7 +268,8 @@ module _ {M : Type 1} (𝓤 : URA M) (H : Heap 𝓤) (A : Atoms 𝓤) (W : Given
         assigns ! (agg ! (and-then ! (load ! (from ! (stop !)) (look ! 13 refl)) (and-then ! (load ! (from ! (stop !)) (look ! 21 refl)) (no-more !)))) (from ! (stop !))
         (init ! 11 refl (tt, (tt, (record { fits = count-fits }, tt)))) $
         assigns ! (addr ! (from ! (fld ! refl (hop ! (look-in ! 19 (sub ! 0 refl (whole !))) (stop !))))) (from ! (stop !)) (init ! 9 refl (tt, tt)) $
-        assigns ! (agg ! (and-then ! (load ! (from ! (stop !)) (look ! 9 refl)) (and-then ! (load ! (from ! (fld ! refl (stop !))) (look-in ! 19 (sub ! 1 refl (whole !)))) (no-more !)))) (from ! (stop !))
+        assigns ! (agg ! (and-then ! (load ! (from ! (stop !)) (look ! 9 refl)) (and-then ! (load ! (from ! (fld ! refl (stop !))) (look-in ! 19 (sub ! 1 refl (whole !)))) (no-more !))))
+        (from ! (stop !))
         (init ! 7 refl (tt, (tt, (record { fits = room .0 }, tt)))) $
         -- the row of the first records is lent as a slice for a lifetime ν
         rewrite ! 11 (λ (k : ℕ). ‵ (fat fullShare again l₈ 0 (sliceVal (l₅, 0) k))) (sym long) refl $
@@ -287,7 +288,8 @@ module _ {M : Type 1} (𝓤 : URA M) (H : Heap 𝓤) (A : Atoms 𝓤) (W : Given
         (and-then ! (load ! (from ! (stop !)) (look ! 22 refl)) (and-then ! (load ! (from ! (stop !)) (look ! 9 refl)) (and-then ! (load ! (from ! (stop !)) (look ! 5 refl)) (no-more !)))) (λ w.
         use1 W (later (some (λ (y : Answer). ((‵ (flft κ q) ⊛ ‵ (flft (ν ∷ []) fullShare) ⊛ ‵ (flft κ₁ q₁) ⊛ ‵ ftrue) ⊛ ‵ (An.the-row .own y (w ∷ []))) ⊛ raw (Ensured ν δ l₅ y))))
         (id⊢ 𝓤 _) $ await ! tt $ pick ! (λ y. split ! $ move ! (1 ∷ []) $
-        use1 W (some (λ (zs : Unit {0} × (List Request × (List ℕ × Unit {0}))). ‵ (lasts post.ended (κ, (ν ∷ [], (κ₁, tt))) (post-args l₅ δ) zs) ⊛ raw (fact 𝓤 (Posts (img .now) xs out₀ y (zs .1 .0) (zs .1 .1 .0)))))
+        use1 W (some (λ (zs : Unit {0} × (List Request × (List ℕ × Unit {0}))). ‵ (lasts post.ended (κ, (ν ∷ [], (κ₁, tt))) (post-args l₅ δ) zs) ⊛ raw
+        (fact 𝓤 (Posts (img .now) xs out₀ y (zs .1 .0) (zs .1 .1 .0)))))
         (id⊢ 𝓤 _) $ pick ! (λ zs. split ! $ move ! (1 ∷ []) $ heard ! (Posts (img .now) xs out₀ y (zs .1 .0) (zs .1 .1 .0)) (λ e. fsplit ! $ drop ! $ fsplit ! $
         fsplit ! $ move ! (1 ∷ []) $ feqL ! (λ ln. move ! (1 ∷ []) $ fsplit ! $ move ! (1 ∷ []) $ drop ! $ fsplit ! $ move ! (1 ∷ []) $ feqL ! (λ ln₂.
         move ! (2 ∷ []) $ split ! $ move ! (1 ∷ []) $ peeks ! An.the-row (Is An.the-row) (shows 𝓤 H A An.the-row) y (w ∷ []) (λ is.

@@ -1,5 +1,5 @@
--- `posting::post_one` meets its contract: a walk of its MIR, by hand. The record is laid in an array of the function's own, which is lent as a slice to `post` for a lifetime that the walk makes and ends, and is then read.
--- The image and the output are passed on as they came in.
+-- A walk of `post_one` by hand. The record is laid in an array of the function's own, which is lent as a slice to `post` for a lifetime that the walk makes and ends.
+-- Then the record is read. The image and the output are passed on as they came in.
 use mathlib.Core.Path.{_≡_, refl, sym, ap, subst}
 use Prim.Native.Nat.{ℕ, _<_, _^_}
 use native.Mathlib.Omega.{arith}
@@ -170,7 +170,8 @@ module _ {M : Type 1} (𝓤 : URA M) (H : Heap 𝓤) (A : Atoms 𝓤) (W : Given
       → ent 𝓤 (⋆ 𝓤 H A (Left ws)) (Post (An′.lowered r))
   exits ws r e l is =
       qed W (Left ws) ∵
-      suffices ! _ (ends-at 𝓤 H A f.ended stayed (f.clauses 𝓤 H A mem₀ run) W (((κ, (κ₁, tt)), (q, (q₁, tt)), tt, x, vals), tt) (An′.lowered r) r (tt, (tt, (ws, tt))) (tt, (tt, (l, tt)))) $ says ! e $
+      suffices ! _ (ends-at 𝓤 H A f.ended stayed (f.clauses 𝓤 H A mem₀ run) W (((κ, (κ₁, tt)), (q, (q₁, tt)), tt, x, vals), tt) (An′.lowered r) r (tt, (tt, (ws, tt))) (tt, (tt, (l, tt)))) $
+      says ! e $
       nothing ! $ move ! (3 ∷ 0 ∷ []) $ join ! $ move ! (2 ∷ 0 ∷ []) $ join ! $ frame ! $
       nothing ! $ move ! (1 ∷ 0 ∷ []) $ fjoin ! $ nothing ! $ fjoin ! $ nothing ! $ fjoin ! $
       owned ! An.the-row (Is An.the-row) ((LL.makes An.the-type An′.the-plain) 𝓤 H A) r _ is $ move ! (1 ∷ 0 ∷ []) $ done !
@@ -251,7 +252,8 @@ module _ {M : Type 1} (𝓤 : URA M) (H : Heap 𝓤) (A : Atoms 𝓤) (W : Given
         assigns ! (agg ! (and-then ! (load ! (from ! (stop !)) (look ! 16 refl)) (and-then ! (lit ! tt) (no-more !)))) (from ! (stop !))
         (init ! 14 refl (tt, (tt, (record { fits = lit< tt }, tt)))) $
         assigns ! (addr ! (from ! (fld ! refl (hop ! (look-in ! 22 (sub ! 0 refl (whole !))) (stop !))))) (from ! (stop !)) (init ! 12 refl (tt, tt)) $
-        assigns ! (agg ! (and-then ! (load ! (from ! (stop !)) (look ! 12 refl)) (and-then ! (load ! (from ! (fld ! refl (stop !))) (look-in ! 22 (sub ! 1 refl (whole !)))) (no-more !)))) (from ! (stop !))
+        assigns ! (agg ! (and-then ! (load ! (from ! (stop !)) (look ! 12 refl)) (and-then ! (load ! (from ! (fld ! refl (stop !))) (look-in ! 22 (sub ! 1 refl (whole !)))) (no-more !))))
+        (from ! (stop !))
         (init ! 10 refl (tt, (tt, (record { fits = room .0 }, tt)))) $
         owned ! (Array R 1) (Is (Array R 1)) (array-makes 𝓤 H A W R ((LL.makes T.the-type T′.the-plain) 𝓤 H A) 1) xs _ is-array $ move ! (21 ∷ 0 ∷ []) $
         use2 W (‵ (mem (Array R 1) .lies xs l₄ 0)) (lies-in 𝓤 H A W R 1 xs (arrayVal (T′.lowered r₀ ∷ [])) l₄) $
@@ -266,7 +268,8 @@ module _ {M : Type 1} (𝓤 : URA M) (H : Heap 𝓤) (A : Atoms 𝓤) (W : Given
         (and-then ! (load ! (from ! (stop !)) (look ! 23 refl)) (and-then ! (load ! (from ! (stop !)) (look ! 12 refl)) (and-then ! (load ! (from ! (stop !)) (look ! 8 refl)) (no-more !)))) (λ w.
         use1 W (later (some (λ (y : Answer). ((‵ (flft κ q) ⊛ ‵ (flft (ν ∷ []) fullShare) ⊛ ‵ (flft κ₁ q₁) ⊛ ‵ ftrue) ⊛ ‵ (An.the-row .own y (w ∷ []))) ⊛ raw (Ensured ν δ l₄ y))))
         (id⊢ 𝓤 _) $ await ! tt $ pick ! (λ y. split ! $ move ! (1 ∷ []) $
-        use1 W (some (λ (zs : Unit {0} × (List Request × (List ℕ × Unit {0}))). ‵ (lasts post.ended (κ, (ν ∷ [], (κ₁, tt))) (post-args l₄ δ) zs) ⊛ raw (fact 𝓤 (Posts (img .now) xs out₀ y (zs .1 .0) (zs .1 .1 .0)))))
+        use1 W (some (λ (zs : Unit {0} × (List Request × (List ℕ × Unit {0}))). ‵ (lasts post.ended (κ, (ν ∷ [], (κ₁, tt))) (post-args l₄ δ) zs) ⊛ raw
+        (fact 𝓤 (Posts (img .now) xs out₀ y (zs .1 .0) (zs .1 .1 .0)))))
         (id⊢ 𝓤 _) $ pick ! (λ zs. split ! $ move ! (1 ∷ []) $ heard ! (Posts (img .now) xs out₀ y (zs .1 .0) (zs .1 .1 .0)) (λ e. fsplit ! $ drop ! $ fsplit ! $
         fsplit ! $ move ! (1 ∷ []) $ feqL ! (λ ln. move ! (1 ∷ []) $ fsplit ! $ move ! (1 ∷ []) $ drop ! $ fsplit ! $ move ! (1 ∷ []) $ feqL ! (λ ln₂.
         move ! (2 ∷ []) $ split ! $ move ! (1 ∷ []) $ peeks ! An.the-row (Is An.the-row) (shows 𝓤 H A An.the-row) y (w ∷ []) (λ is.

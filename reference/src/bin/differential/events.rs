@@ -22,8 +22,10 @@ const NONE_DONE: &str = "postings of which no record was done";
 const ALL_DONE: &str = "postings of which every record was done";
 const SOME_DONE: &str = "postings of which some records were done";
 const LONGEST_LIST: &str = "postings of 64 records";
+const NO_LINKS: &str = "nodes without a link";
+const MOST_LINKS: &str = "nodes with 63 links";
 
-pub const EVENTS: [&str; 14] = [
+pub const EVENTS: [&str; 16] = [
     NO_ROUTE,
     FEW_ROUTES,
     ALL_LISTED,
@@ -38,6 +40,8 @@ pub const EVENTS: [&str; 14] = [
     ALL_DONE,
     SOME_DONE,
     LONGEST_LIST,
+    NO_LINKS,
+    MOST_LINKS,
 ];
 
 /// The events of one call.
@@ -53,6 +57,7 @@ pub fn events(request: &Request, answer: &Answer) -> Vec<&'static str> {
         Call::Rewrite if older => vec![OLDER_KEPT],
         Call::Open | Call::Close if older => vec![OLDER_CHANGED],
         Call::Post => post_events(answer),
+        Call::Links => links_event(answer),
         _ => Vec::new(),
     };
     if older {
@@ -97,6 +102,14 @@ fn post_events(answer: &Answer) -> Vec<&'static str> {
         events.push(LONGEST_LIST);
     }
     events
+}
+
+fn links_event(answer: &Answer) -> Vec<&'static str> {
+    match answer.counts[0] {
+        0 => vec![NO_LINKS],
+        63 => vec![MOST_LINKS],
+        _ => Vec::new(),
+    }
 }
 
 /// The rows of a stream.

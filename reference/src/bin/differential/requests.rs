@@ -51,6 +51,10 @@ pub fn balance(book: &[u8], node: u8) -> Request {
     Request { node, ..on(Call::Balance, book) }
 }
 
+pub fn links(book: &[u8], node: u8) -> Request {
+    Request { node, ..on(Call::Links, book) }
+}
+
 pub fn routes(book: &[u8], source: u8, destination: u8) -> Request {
     Request { node: source, destination, ..on(Call::Routes, book) }
 }
@@ -62,7 +66,7 @@ pub fn post(book: &[u8], records: &[Record]) -> Request {
 }
 
 /// The calls on a book.
-pub const BOOK_CALLS: [Call; 8] = [
+pub const BOOK_CALLS: [Call; 9] = [
     Call::Check,
     Call::Rewrite,
     Call::Open,
@@ -71,6 +75,7 @@ pub const BOOK_CALLS: [Call; 8] = [
     Call::Balance,
     Call::Routes,
     Call::Post,
+    Call::Links,
 ];
 
 /// This call on a book that has, or claims, the N of its header; the other
@@ -85,6 +90,7 @@ pub fn any(dice: &mut Dice, call: Call, book: &[u8], ids: &[u16]) -> Request {
         Call::Close => close(book, any_id(dice, ids, 80)),
         Call::Expand => expand(book, any_node(dice, nodes)),
         Call::Balance => balance(book, any_node(dice, nodes)),
+        Call::Links => links(book, any_node(dice, nodes)),
         Call::Routes => {
             let (source, destination) = any_ends(dice, nodes);
             routes(book, source, destination)

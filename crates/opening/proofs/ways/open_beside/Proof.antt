@@ -39,12 +39,14 @@ slice-aggregate-open-both c =
     sym (length-take-le (c .before .before .before .before .before .second .result .hops + 1) (c .before .before .before .before .before .second .result .nodes) (omega arith))
 
 open-both-requires : tie.Need-open-both-requires
-open-both-requires c κs = second-routes (c .before .before .before .before .before .before .before .before .before .before .before .pre) (c .before .before .before .before .before .before .second .ensures) (not-false _ (c .before .before .before .if1 .left))
+open-both-requires c κs = second-routes (c .before .before .before .before .before .before .before .before .before .before .before .pre)
+    (c .before .before .before .before .before .before .second .ensures) (not-false _ (c .before .before .before .if1 .left))
 
 returns-2 : tie.Need-returns-2
 returns-2 c =
     let a = c .before .before .before .before .before .before .before .before .before .before .before .before in
-    routed-new (a .args .image .now) (theAsked (a .args .q)) _ (second-planned (a .pre) (c .before .before .before .before .before .before .before .second .ensures) (not-false _ (c .before .before .before .before .if1 .left))) (c .open-both .ensures)
+    routed-new (a .args .image .now) (theAsked (a .args .q)) _
+    (second-planned (a .pre) (c .before .before .before .before .before .before .before .second .ensures) (not-false _ (c .before .before .before .before .if1 .left))) (c .open-both .ensures)
 
 pub open-beside-spec : {M : Type 1} → statement M
 open-beside-spec =

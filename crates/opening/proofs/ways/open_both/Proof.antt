@@ -44,7 +44,8 @@ room : (c : tie.Else1) → let a = c .before .before .before .before .before .be
 room c = fails (full (c .before)) (c .if1 .left)
 
 returns : tie.Need-returns
-returns c = out-refused (full (c .before .before) .yes (c .before .if1 .taken)) (λ z. omega arith) (c .refused .ensures .0) (c .before .before .before .before .before .before .before .pre .first-route .new .asked .image .index)
+returns c = out-refused (full (c .before .before) .yes (c .before .if1 .taken)) (λ z. omega arith) (c .refused .ensures .0)
+    (c .before .before .before .before .before .before .before .pre .first-route .new .asked .image .index)
 
 first-placing-requires : tie.Need-first-placing-requires
 first-placing-requires c κs = placing-asked (c .before .before .before .before .before .before .before .before .pre .first-route)
@@ -78,7 +79,8 @@ returns-2 c =
     let a = c .before .before .before .before .before .before .before .before .before .before .before .before .before in
     let found = c .before .before .before .before .first-placing in
     out-next (room (c .before .before .before .before .before .before .before))
-    (out-refused (inl (placed-none (a .pre .first-route) (rowsIn (a .args .image .now)) _ (a .pre .first-route .new .asked .image .index) (found .result .found) (found .result .offsets) (found .ensures)
+    (out-refused (inl (placed-none (a .pre .first-route) (rowsIn (a .args .image .now)) _ (a .pre .first-route .new .asked .image .index) (found .result .found) (found .result .offsets)
+    (found .ensures)
     (c .before .enum-told .given .1))) (λ z. omega arith) (c .refused2 .ensures .0) (a .pre .first-route .new .asked .image .index))
 
 returns-3 : tie.Need-returns-3

@@ -35,7 +35,8 @@ room : (c : tie.Else1) → let a = c .before .before .before .before .before .ar
 room c = fails (full (c .before)) (c .if1 .left)
 
 returns : tie.Need-returns
-returns c = out-refused (full (c .before .before) .yes (c .before .if1 .taken)) (λ z. omega arith) (c .refused .ensures .0) (c .before .before .before .before .before .before .pre .new .asked .image .index)
+returns c = out-refused (full (c .before .before) .yes (c .before .if1 .taken)) (λ z. omega arith) (c .refused .ensures .0)
+    (c .before .before .before .before .before .before .pre .new .asked .image .index)
 
 first-placing-requires : tie.Need-first-placing-requires
 first-placing-requires c κs = placing-asked (c .before .before .before .before .before .before .before .pre)
@@ -57,7 +58,8 @@ keep-one-requires : tie.Need-keep-one-requires
 keep-one-requires c κs =
     let a = c .before .before .before .before .before .before .before .before .before .before .before .before .before .before in
     let found = c .before .before .before .before .before .before .first-placing in
-    let first = placed-first (a .pre) (rowsIn (a .args .image .now)) _ (a .pre .new .asked .image .index) (found .result .found) (found .result .offsets) (found .ensures) (c .before .before .before .enum-told2 .given .1) in
+    let first = placed-first (a .pre) (rowsIn (a .args .image .now)) _ (a .pre .new .asked .image .index) (found .result .found) (found .result .offsets) (found .ensures)
+    (c .before .before .before .enum-told2 .given .1) in
     one-kept (a .pre) first (room (c .before .before .before .before .before .before .before .before .before))
 
 returns-2 : tie.Need-returns-2
@@ -72,8 +74,10 @@ returns-3 : tie.Need-returns-3
 returns-3 c =
     let a = c .before .before .before .before .before .before .before .before .before .before .before .before .before .before .before in
     let found = c .before .before .before .before .before .before .before .first-placing in
-    let first = placed-first (a .pre) (rowsIn (a .args .image .now)) _ (a .pre .new .asked .image .index) (found .result .found) (found .result .offsets) (found .ensures) (c .before .before .before .before .enum-told2 .given .1) in
-    routed-in (a .args .image .now) (theAsked (a .args .q)) _ _ (new-row (theAsked (a .args .q)) 1 _ _ first, tt) (room (c .before .before .before .before .before .before .before .before .before .before)) (c .keep-one .ensures)
+    let first = placed-first (a .pre) (rowsIn (a .args .image .now)) _ (a .pre .new .asked .image .index) (found .result .found) (found .result .offsets) (found .ensures)
+    (c .before .before .before .before .enum-told2 .given .1) in
+    routed-in (a .args .image .now) (theAsked (a .args .q)) _ _ (new-row (theAsked (a .args .q)) 1 _ _ first, tt)
+    (room (c .before .before .before .before .before .before .before .before .before .before)) (c .keep-one .ensures)
 
 pub open-one-spec : {M : Type 1} → statement M
 open-one-spec =

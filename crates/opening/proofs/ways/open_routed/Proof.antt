@@ -18,7 +18,8 @@ returns c = c .open-beside .ensures
 returns-2 : tie.Need-returns-2
 returns-2 c =
     let a = c .before .before .before .before .before .before .before in
-    routed-new (a .args .image .now) (theAsked (a .args .q)) _ (one (c .before .before .before .if1 .left) (any-route (a .pre .new .asked .image .newest .lawful) _ (a .pre .planned))) (c .open-one .ensures)
+    routed-new (a .args .image .now) (theAsked (a .args .q)) _ (one (c .before .before .before .if1 .left) (any-route (a .pre .new .asked .image .newest .lawful) _ (a .pre .planned)))
+    (c .open-one .ensures)
 
 pub open-routed-spec : {M : Type 1} → statement M
 open-routed-spec = tie.close (tie.spec open-beside-requires open-one-requires returns returns-2)

@@ -8,7 +8,7 @@ use lib.ListN.{length, take}
 use lib.Seq.{length-take-le}
 use Rattle.rules.specs.Periods.{theAsked}
 use Rattle.rules.proofs.Reading.{rowsIn}
-use Rattle.opening.specs.Puts.{rowOn}
+use Rattle.adding.specs.Puts.{rowOn}
 use Rattle.opening.proofs.Outcomes.{out-refused, out-next}
 use Rattle.opening.proofs.Placed.{placing-asked, placed-first, placed-none}
 use Rattle.opening.proofs.Routed.{routed-in, new-row}
@@ -66,7 +66,8 @@ returns-2 c =
     let q = theAsked (a .args .q) in
     let found = c .before .before .before .before .before .before .before .first-placing in
     let first = rowOn q 1 (a .args .first .now) (a .args .offsets .now) in
-    let second = placed-first (a .pre .placed .routes .second-route) (first ∷ rowsIn (a .args .image .now)) _ (a .pre .index) (found .result .found) (found .result .offsets) (found .ensures) (c .before .before .before .before .enum-told2 .given .1) in
+    let second = placed-first (a .pre .placed .routes .second-route) (first ∷ rowsIn (a .args .image .now)) _ (a .pre .index) (found .result .found) (found .result .offsets) (found .ensures)
+    (c .before .before .before .before .enum-told2 .given .1) in
     routed-in (a .args .image .now) q _ _ (new-row q 1 _ _ (a .pre .placed .placed), (new-row q 2 _ _ second, tt)) (a .pre .placed .room) (c .keep-two .ensures)
 
 pub place-second-spec : {M : Type 1} → statement M

@@ -39,7 +39,9 @@ put-part-requires c κs =
 returns : tie.Need-returns
 returns c =
     let small : TwoBytes (c .before .before .before .before .before .before .before .before .before .before .before .before .args .q .id) = search needs in
-    work-done (c .before .before .before .before .before .before .before .before .before .before .before .before .pre) (c .before .before .before .before .before .before .before .serve .ensures) (small-id (c .before .before .before .before .before .before .before .before .before .before .before .before .args .q) small) (c .before .before .before .before .before .if1 .taken) (c .before .before .put-part .ensures) (c .before .before .put-part .kept .1 .0)
+    work-done (c .before .before .before .before .before .before .before .before .before .before .before .before .pre) (c .before .before .before .before .before .before .before .serve .ensures)
+    (small-id (c .before .before .before .before .before .before .before .before .before .before .before .before .args .q) small) (c .before .before .before .before .before .if1 .taken)
+    (c .before .before .put-part .ensures) (c .before .before .put-part .kept .1 .0)
 
 returns-2 : tie.Need-returns-2
 returns-2 c = work-refused (c .before .before .before .before .before .before .before .pre) (c .before .before .serve .ensures) (c .if1 .left)

@@ -2,7 +2,9 @@
 
 use super::new_image;
 use crate::driver::{Driver, Room};
-use crate::requests::{balance, check, close, expand, open, open_with_second, rewrite, routes};
+use crate::requests::{
+    balance, check, close, expand, links, open, open_with_second, rewrite, routes,
+};
 use crate::site::{empty_book, images, line, of_links, open_plan, plan_a};
 use reference::plan::Plan;
 
@@ -35,6 +37,7 @@ fn on_line_a(driver: &mut Driver, empty: Vec<u8>) {
         for node in 0..5 {
             driver.ask(expand(book, node), Room::Full);
             driver.ask(balance(book, node), Room::Nothing);
+            driver.ask(links(book, node), Room::Nothing);
         }
     }
 }

@@ -1,7 +1,9 @@
 //! Several faults at once, so that the order of the numbers decides.
 
 use crate::driver::{Driver, Room};
-use crate::requests::{balance, check, close, expand, open, open_with_second, rewrite, routes};
+use crate::requests::{
+    balance, check, close, expand, links, open, open_with_second, rewrite, routes,
+};
 use crate::site::{add_stream, empty_book, line, of_links, open_plan, plan_a, versions};
 use reference::book::{Book, MAX_ROWS};
 use reference::image;
@@ -89,6 +91,7 @@ fn ask_all(driver: &mut Driver, image: &[u8], room: Room) {
         driver.ask(close(image, id), room);
         driver.ask(expand(image, source), room);
         driver.ask(balance(image, source), room);
+        driver.ask(links(image, source), room);
     }
     driver.ask(close(image, 1), room);
 }
@@ -147,6 +150,7 @@ fn requests_with_faults(driver: &mut Driver, image: &[u8]) {
             driver.ask(expand(image, node), room);
         }
         driver.ask(balance(image, node), Room::Nothing);
+        driver.ask(links(image, node), Room::Nothing);
     }
 }
 

@@ -4,7 +4,7 @@
 use crate::dice::Dice;
 use crate::driver::{Driver, Room};
 use crate::requests::{
-    self, BOOK_CALLS, balance, check, close, expand, open, open_with_second, rewrite, routes,
+    self, BOOK_CALLS, balance, check, close, expand, links, open, open_with_second, rewrite, routes,
 };
 use crate::site::{
     add_stream, any_image, complete, empty_book, grid, ids, images, line, load, of_links,
@@ -73,6 +73,7 @@ fn around(driver: &mut Driver, dice: &mut Dice, book: &Book, image: Vec<u8>) {
     for node in [0, 1, nodes / 2, nodes - 1, nodes] {
         driver.ask(expand(&image, node), Room::Exact);
         driver.ask(balance(&image, node), Room::Nothing);
+        driver.ask(links(&image, node), Room::Nothing);
     }
     for call in BOOK_CALLS {
         driver.ask(requests::any(dice, call, &image, &ids(book)), Room::any(dice));

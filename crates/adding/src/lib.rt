@@ -8,7 +8,7 @@ ghost use Rattle.rules.specs.Periods.{theAsked};
 ghost use Rattle.rules.specs.Book.{mostStreams, mostHops};
 ghost use Rattle.rules.specs.Image.{newest, rowLength, streamsOf, hopsOf};
 ghost use Rattle.rules.proofs.Reading.{NewestImage};
-ghost use Rattle.opening.specs.Puts.{SomeVacant, PutIn, PutsRows, rowOn, OnePut, TwoPut};
+ghost use Rattle.adding.specs.Puts.{SomeVacant, PutIn, PutsRows, rowOn, OnePut, TwoPut};
 use image::Book;
 use rules::Asked;
 

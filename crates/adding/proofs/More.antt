@@ -19,7 +19,7 @@ use Rattle.writer.proofs.Laws.{then, over-front, length-headed}
 use Rattle.writer.proofs.Books.{length-body, rows-more}
 use Rattle.finding.specs.Spot.{Vacant}
 use Rattle.finding.proofs.Ids.{with-middle}
-use Rattle.opening.specs.Puts.{Fresh, PutIn}
+use Rattle.adding.specs.Puts.{Fresh, PutIn}
 
 -- rows put into the middle are the rows with them in front, in another order
 reordered-middle : (new xs ys : List Row) → Reordered (new ++ (xs ++ ys)) (xs ++ (new ++ ys))

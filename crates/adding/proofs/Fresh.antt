@@ -14,7 +14,7 @@ use Rattle.rules.proofs.Encoding.{Sized, length-row}
 use Rattle.finding.specs.Spot.{Vacant}
 use Rattle.writer.specs.Over.{over}
 use Rattle.writer.proofs.Laws.{then, over-front}
-use Rattle.opening.specs.Puts.{Fresh, rowOn, Parts}
+use Rattle.adding.specs.Puts.{Fresh, rowOn, Parts}
 
 -- what was written at the front of a buffer is its front
 front-written : (d e : List ℕ) (n : ℕ) → n ≡ length e → take n (over d 0 e) ≡ e

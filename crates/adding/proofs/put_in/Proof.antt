@@ -9,10 +9,10 @@ use Rattle.rules.specs.Image.{newest, rowLength, longestImage, streamsOf, hopsO
 use Rattle.rules.specs.Book.{mostStreams, mostHops}
 use Rattle.rules.proofs.Reading.{NewestImage}
 use Rattle.finding.proofs.Ids.{stored-long}
-use Rattle.opening.proofs.More.{place-low, put-in, put-fits}
+use Rattle.adding.proofs.More.{place-low, put-in, put-fits}
 use borrow.Author.Needs.{needs}
-use Rattle.opening.proofs.adding.put_in.Statement.{statement}
-use Rattle.opening.proofs.adding.put_in.Tie as tie
+use Rattle.adding.proofs.put_in.Statement.{statement}
+use Rattle.adding.proofs.put_in.Tie as tie
 
 read-requires : tie.Need-read-requires
 read-requires c κs = stored-long (c .before .before .pre .0 .0 .lawful)

@@ -3,10 +3,10 @@ use mathlib.Core.Path.{refl, sym}
 use native.Mathlib.Omega.{arith}
 use lib.Seq.{length-take-le}
 use Rattle.rules.specs.Periods.{theAsked}
-use Rattle.opening.proofs.Fresh.{fresh-one}
+use Rattle.adding.proofs.Fresh.{fresh-one}
 use borrow.Author.Needs.{needs}
-use Rattle.opening.proofs.adding.put_one.Statement.{statement}
-use Rattle.opening.proofs.adding.put_one.Tie as tie
+use Rattle.adding.proofs.put_one.Statement.{statement}
+use Rattle.adding.proofs.put_one.Tie as tie
 
 row-size-requires : tie.Need-row-size-requires
 row-size-requires c κs = c .before .before .before .pre .1 .few
@@ -25,13 +25,15 @@ slice-aggregate-put-in c = sym (length-take-le _ _ (omega (arith, c .before .bef
 put-in-requires : tie.Need-put-in-requires
 put-in-requires c κs =
     let p = c .before .before .before .before .before .before .before .before .before .pre .0 in
-    let l = length-take-le (c .before .before .before .before .before .row-size .result) (c .before .before .before .put-row .last .0) (omega (arith, c .before .before .before .before .before .row-size .ensures .1, c .before .before .before .put-row .kept)) in
+    let l = length-take-le (c .before .before .before .before .before .row-size .result) (c .before .before .before .put-row .last .0)
+    (omega (arith, c .before .before .before .before .before .row-size .ensures .1, c .before .before .before .put-row .kept)) in
     ((p .image, (_, p .vacant), omega (arith, l, c .before .before .before .before .before .row-size .ensures .0)), (p .streams, p .hops-in-all))
 
 returns : tie.Need-returns
 returns c =
     let start = c .before .before .before .before .before .before .before .before .before .before in
-    let fresh = fresh-one (theAsked (start .args .q)) (start .args .route .now) (start .args .offsets .now) _ _ (c .before .before .before .before .before .before .row-size .result) (start .pre .0 .vacant) (start .pre .1)
+    let fresh = fresh-one (theAsked (start .args .q)) (start .args .route .now) (start .args .offsets .now) _ _ (c .before .before .before .before .before .before .row-size .result)
+    (start .pre .0 .vacant) (start .pre .1)
     (c .before .before .before .before .before .before .row-size .ensures .0) (c .before .before .before .before .put-row .ensures) in
     c .put-in .ensures _ _ fresh refl (omega (arith, start .pre .1 .count))
 

@@ -1,0 +1,102 @@
+// Makes the call of a frame, unless it is a posting.
+ghost use Prim.Native.Nat.{_≤_};
+ghost use lib.ListN.{length};
+ghost use Rattle.frames.specs.Lengths.{headLength};
+use frames::Reply;
+use rules::Asked;
+use rules::Node;
+use rules::Plan;
+use rules::Slot;
+use rules::Tile;
+
+// The call that gives a node's links.
+const LINKS: u8 = frames::LINKS;
+
+fn wide(x: u8) -> u16 {
+    x as u16
+}
+
+// Makes a new book.
+fn new_book(frame: &[u8], topology: &[u8], out: &mut [u8]) -> Reply
+    requires { ⌜ headLength ≤ length (now frame) ⌝ }
+{
+    let plan = Plan {
+        slots: Slot(wide(frame[7])),
+        tiles: Tile(wide(frame[8])),
+        kinds: image::word_at(frame, 9),
+        down: Slot(wide(frame[11])),
+        up: Slot(wide(frame[12])),
+    };
+    frames::answered(planner::new_book(plan, frame[13], topology, out))
+}
+
+// Opens a stream.
+fn open_stream(frame: &[u8], book: &[u8], out: &mut [u8]) -> Reply
+    requires { ⌜ headLength ≤ length (now frame) ⌝ }
+{
+    let asked = Asked {
+        id: image::word_at(frame, 1),
+        source: Node(frame[3]),
+        destination: Node(frame[4]),
+        period: Tile(image::word_at(frame, 5)),
+        second: frame[19] != 0,
+    };
+    frames::answered(planner::open_stream(book, asked, out))
+}
+
+// Gives a node's balance.
+fn balance(frame: &[u8], book: &[u8]) -> Reply
+    requires { ⌜ headLength ≤ length (now frame) ⌝ }
+{
+    let balance = planner::balance_of(book, Node(frame[3]));
+    Reply {
+        number: balance.number,
+        first: balance.data as usize,
+        second: balance.used as usize,
+        third: balance.free as usize,
+    }
+}
+
+// Gives the number of a node's links.
+fn links(frame: &[u8], book: &[u8]) -> Reply
+    requires { ⌜ headLength ≤ length (now frame) ⌝ }
+{
+    let links = planner::links_of(book, Node(frame[3]));
+    Reply {
+        number: links.number,
+        first: links.links as usize,
+        second: 0,
+        third: 0,
+    }
+}
+
+// Lists the routes between two nodes.
+fn routes_between(frame: &[u8], book: &[u8], out: &mut [u8]) -> Reply
+    requires { ⌜ headLength ≤ length (now frame) ⌝ }
+{
+    let list = planner::routes_between(book, Node(frame[3]), Node(frame[4]), out);
+    Reply {
+        number: list.number,
+        first: list.length,
+        second: list.more as usize,
+        third: 0,
+    }
+}
+
+// Makes a call that is no posting, with its book or its topology.
+pub fn call(frame: &[u8], book: &[u8], out: &mut [u8]) -> Reply
+    requires { ⌜ headLength ≤ length (now frame) ⌝ }
+{
+    let call = frame[0];
+    match call {
+        0 => new_book(frame, book, out),
+        1 => frames::answered(planner::check(book)),
+        2 => frames::answered(planner::rewrite(book, out)),
+        3 => open_stream(frame, book, out),
+        4 => frames::answered(planner::close_stream(book, image::word_at(frame, 1), out)),
+        5 => frames::answered(planner::expand(book, Node(frame[3]), out)),
+        7 => routes_between(frame, book, out),
+        LINKS => links(frame, book),
+        _ => balance(frame, book),
+    }
+}
