@@ -25,7 +25,7 @@ int main(void) {
      * The site has nodes 0, 1 and 2, all linked to each other. A node's row is 8 bytes, the highest first:
      * bits 1 and 2 in the row of node 0, bits 0 and 2 in that of node 1, bits 0 and 1 in that of node 2.
      */
-    const uint8_t topology[24] = {
+    const uint8_t links[24] = {
         0, 0, 0, 0, 0, 0, 0, 6,
         0, 0, 0, 0, 0, 0, 0, 5,
         0, 0, 0, 0, 0, 0, 0, 3,
@@ -33,9 +33,11 @@ int main(void) {
 
     /*
      * A tile has 4 slots. The plan repeats after 2 tiles: tile 0 is downlink (bit 0 of the kinds), and
-     * its first 2 slots are control; tile 1 is uplink, and its first slot is control.
+     * its first 2 slots are control; tile 1 is uplink, and its first slot is control. Each node hears
+     * exactly its neighbours.
      */
-    uint8_t number = lindurask_new(4, 2, 1, 2, 1, 3, topology, sizeof topology, first, sizeof first, &first_length);
+    uint8_t number = lindurask_new(4, 2, 1, 2, 1, 3, links, sizeof links, links, sizeof links, first, sizeof first,
+                                   &first_length);
     if (number != 0) {
         printf("no book was made: refused %u\n", number);
         return 1;

@@ -26,13 +26,14 @@ int main(void) {
     size_t book_length, next_length;
 
     /* Nodes 0, 1, 2 and 3 in a line: 0 is linked to 1, 1 to 2 and 2 to 3. A tile has 4 slots, of which 2 or 1 are control. */
-    const uint8_t topology[32] = {
+    const uint8_t links[32] = {
         0, 0, 0, 0, 0, 0, 0, 2,
         0, 0, 0, 0, 0, 0, 0, 5,
         0, 0, 0, 0, 0, 0, 0, 10,
         0, 0, 0, 0, 0, 0, 0, 4,
     };
-    uint8_t number = lindurask_new(4, 2, 1, 2, 1, 4, topology, sizeof topology, book, sizeof book, &book_length);
+    uint8_t number = lindurask_new(4, 2, 1, 2, 1, 4, links, sizeof links, links, sizeof links, book, sizeof book,
+                                   &book_length);
     if (number != 0) {
         printf("no book was made: refused %u\n", number);
         return 1;

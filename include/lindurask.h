@@ -1,14 +1,14 @@
 /*
  * Lindurask: a slot planner for radio meshes.
  *
- * A book holds a site's tile plan, its topology and its accepted streams, each on one route or on
- * two. It is kept as an image: plain bytes, big-endian, that can be stored and sent as they are.
+ * A book holds a site's tile plan, its links, who hears whom, and its accepted streams, each on one
+ * route or on two. It is kept as an image: plain bytes, big-endian, that can be stored and sent as they are.
  * Every call but lindurask_new takes an image and checks it in full first; a call that changes the
  * book writes the image of the new book into a second buffer and leaves the first as it is. Nothing
  * is kept between calls, so calls may run in several threads at once, on buffers of their own.
  *
- * Images of versions 1 and 2 are read. A new or changed book is written in version 2, in which a
- * row says which route of its stream it is; lindurask_rewrite keeps the version.
+ * Images of versions 1, 2 and 3 are read; in versions 1 and 2 a node hears exactly its neighbours. A
+ * new or changed book is written in version 3; lindurask_rewrite keeps the version.
  *
  * Link with target/staticlib/libplanner.a, which `rt staticlib planner` makes (x86-64 Linux).
  *
@@ -29,7 +29,8 @@
  *    9  no placing exists: no free slots for the stream on its route, or on its second route
  *       beside the first
  *   10  a field of bytes 5 to 15 of the image, or an argument of a new book, out of its range
- *   11  topology: wrong length (new book), a bit from N up, a self-link, a one-way link
+ *   11  links or hearing: wrong length (new book), a bit from N up, a node joined to itself, one way
+ *       only, or a link that is missing from the hearing
  *   12  output buffer shorter than the answer; of a call that changes the book, shorter than
  *       LINDURASK_LONGEST_IMAGE
  *   13  image: wrong mark or version
@@ -77,8 +78,8 @@
 extern "C" {
 #endif
 
-/* The longest image, in bytes: 64 nodes, 64 rows, 512 hops, in version 2. */
-#define LINDURASK_LONGEST_IMAGE 2448
+/* The longest image, in bytes: 64 nodes, 64 rows, 512 hops, in version 3. */
+#define LINDURASK_LONGEST_IMAGE 2960
 
 /* The longest table, in bytes: 100 tiles of 32 slots, 3 bytes an entry. */
 #define LINDURASK_LONGEST_TABLE 9600
@@ -90,18 +91,21 @@ extern "C" {
 #define LINDURASK_LONGEST_LIST 256
 
 /*
- * Makes a book without streams, and writes its image of 16 + 8 x n bytes. Refusals: 10, 11, 12.
+ * Makes a book without streams, and writes its image of 16 + 16 x n bytes. Refusals: 10, 11, 12.
  *
  * s            slots of a tile, 1 to 32
  * c            tiles after which the plan repeats: 1, 2, 4, 5 or 10
  * kinds        bit b set if tile b of the plan is downlink, clear if it is uplink; 0 from bit c up
  * d, u         control slots at the start of a downlink and of an uplink tile, 0 to s
  * n            nodes, 2 to 64
- * topology     as it stands in the image: a row of 8 bytes, big-endian, for each node; bit b of
- *              a node's row set if node b is its neighbour. topology_len is 8 x n
+ * links        as they stand in the image: a row of 8 bytes, big-endian, for each node; bit b of
+ *              a node's row set if node b is its neighbour. links_len is 8 x n
+ * hearing      the same for the nodes that hear each other, every link among them. hearing_len is
+ *              8 x n; where nodes hear exactly their neighbours, links once more
  */
 uint8_t lindurask_new(uint8_t s, uint8_t c, uint16_t kinds, uint8_t d, uint8_t u, uint8_t n,
-                      const uint8_t *topology, size_t topology_len, uint8_t *out, size_t out_len, size_t *length);
+                      const uint8_t *links, size_t links_len, const uint8_t *hearing, size_t hearing_len,
+                      uint8_t *out, size_t out_len, size_t *length);
 
 /* Checks an image: 0 if it is that of a lawful book. Writes nothing. Refusals: those of an image. */
 uint8_t lindurask_check(const uint8_t *book, size_t book_len, size_t *length);

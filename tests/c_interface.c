@@ -17,12 +17,12 @@
 enum { HEAD = 44, REPLY = 13, MOST_BYTES = 4096, MOST_ROOM = 16384, MARGIN = 64 };
 
 /* The calls that have a name here; those from 9 to 12 are none. */
-enum { BALANCE = 6, ROUTES = 7, POST = 8, LINKS = 13 };
+enum { NEW = 0, BALANCE = 6, ROUTES = 7, POST = 8, LINKS = 13 };
 
 /* A record of a framed posting, the most of them, and how many requests stand on either side of a list. */
 enum { RECORD = 11, MOST_RECORDS = 100, BESIDE = 4 };
 
-_Static_assert(LINDURASK_LONGEST_IMAGE == 16 + 8 * 64 + 6 * 64 + 3 * 512, "64 nodes, 64 rows, 512 hops");
+_Static_assert(LINDURASK_LONGEST_IMAGE == 16 + 16 * 64 + 6 * 64 + 3 * 512, "64 nodes, 64 rows, 512 hops");
 _Static_assert(LINDURASK_LONGEST_TABLE == 3 * 100 * 32, "100 tiles of 32 slots");
 _Static_assert(LINDURASK_LONGEST_LIST == 32 * (1 + 7), "32 routes of 6 hops");
 
@@ -61,6 +61,7 @@ struct reply {
 };
 
 static uint8_t input[MARGIN + MOST_BYTES + MARGIN], before[MOST_BYTES];
+static uint8_t hearing[MARGIN + MOST_BYTES + MARGIN], hearing_before[MOST_BYTES];
 static uint8_t output[MARGIN + MOST_ROOM + MARGIN];
 static struct lindurask_request list[BESIDE + MOST_RECORDS + BESIDE];
 
@@ -134,15 +135,16 @@ static int is_beside(size_t count) {
     return 1;
 }
 
-/* Makes the call of a frame; book has len bytes, out has room, and the list has count requests. */
-static uint8_t call(const uint8_t *head, const uint8_t *book, size_t len, size_t count, uint8_t *out, size_t room,
-                    struct reply *r) {
+/* Makes the call of a frame; book has len bytes, hearing has heard, out has room, and the list has count requests. */
+static uint8_t call(const uint8_t *head, const uint8_t *book, size_t len, const uint8_t *hearing, size_t heard, size_t count,
+                    uint8_t *out, size_t room, struct reply *r) {
     uint16_t id = be16(head + 1), period = be16(head + 5), kinds = be16(head + 9);
     uint8_t source = head[3], destination = head[4];
     bool second = head[19] != 0;
     switch (head[0]) {
-    case 0:
-        return lindurask_new(head[7], head[8], kinds, head[11], head[12], head[13], book, len, out, room, &r->length);
+    case NEW:
+        return lindurask_new(head[7], head[8], kinds, head[11], head[12], head[13], book, len, hearing, heard, out,
+                             room, &r->length);
     case 1:
         return lindurask_check(book, len, &r->length);
     case 2:
@@ -203,25 +205,33 @@ static void give(const uint8_t *bytes, size_t size) {
 
 /* Answers one frame, whose head is read. */
 static void serve(const uint8_t *head) {
-    size_t len = be16(head + 14), room = be16(head + 16), further = be16(head + 40), count = further / RECORD;
+    size_t len = be16(head + 14), room = be16(head + 16), heard = be16(head + 38), further = be16(head + 40);
+    size_t count = further / RECORD;
     uint8_t reply[REPLY], records[RECORD * MOST_RECORDS];
     struct reply r = {.length = UNSET, .data = UNSET, .used = UNSET, .free_slots = UNSET};
     r.more = r.links = (uint8_t)UNSET;
     if ((head[0] > POST && head[0] != LINKS) || len > MOST_BYTES || room > MOST_ROOM)
         fail("is given a frame that is none");
+    if (heard > MOST_BYTES || (heard != 0 && head[0] != NEW))
+        fail("is given a hearing that is none");
     if (further % RECORD != 0 || count > MOST_RECORDS || (further != 0 && head[0] != POST))
         fail("is given records that are none");
     prepare(input, len, 0);
+    prepare(hearing, heard, 0);
     prepare(output, room, head[18]);
     take(before, len);
+    take(hearing_before, heard);
     take(records, further);
     memcpy(input + MARGIN, before, len);
+    memcpy(hearing + MARGIN, hearing_before, heard);
     prepare_list(records, count);
-    uint8_t number = call(head, input + MARGIN, len, count, output + MARGIN, room, &r);
+    uint8_t number = call(head, input + MARGIN, len, hearing + MARGIN, heard, count, output + MARGIN, room, &r);
     answer(head, number, &r, reply);
     put_list(records, count);
     if (memcmp(input + MARGIN, before, len) != 0 || !is_around(input, len))
         fail("changes its input");
+    if (memcmp(hearing + MARGIN, hearing_before, heard) != 0 || !is_around(hearing, heard))
+        fail("changes its hearing");
     if (!is_around(output, room))
         fail("writes beside its buffer");
     if (!is_beside(count))

@@ -81,6 +81,15 @@
 #define lindurask_links(book, len, node, links) lindurask_links(book, (len) - ((len) > 0), node, links)
 #elif WRONG == 38 /* links: its input changed */
 #define lindurask_links(book, len, ...) ((len) ? ((uint8_t *)(book))[(len) - 1]++ : 0, lindurask_links(book, len, __VA_ARGS__))
+#elif WRONG == 39 /* a new book: links and hearing exchanged */
+#define lindurask_new(s, c, kinds, d, u, n, links, links_len, hearing, hearing_len, ...) \
+    lindurask_new(s, c, kinds, d, u, n, hearing, hearing_len, links, links_len, __VA_ARGS__)
+#elif WRONG == 40 /* a new book: the links for the hearing */
+#define lindurask_new(s, c, kinds, d, u, n, links, links_len, hearing, hearing_len, ...) \
+    lindurask_new(s, c, kinds, d, u, n, links, links_len, (hearing_len) ? links : hearing, hearing_len, __VA_ARGS__)
+#elif WRONG == 41 /* a new book: the hearing taken for as long as the links */
+#define lindurask_new(s, c, kinds, d, u, n, links, links_len, hearing, hearing_len, ...) \
+    lindurask_new(s, c, kinds, d, u, n, links, links_len, hearing, (hearing_len) ? links_len : 0, __VA_ARGS__)
 #else
 #error "there is no such wrong interface"
 #endif

@@ -16,6 +16,8 @@ const HEAD: usize = 16;
 /// How a version writes what follows the head.
 struct Layout {
     version: u16,
+    /// The rows of who hears whom stand behind the links; where they do not, hearing is the links.
+    hearing: bool,
     /// Bytes of a row that say which of a stream's routes it is.
     way_bytes: usize,
     /// Bytes of a row that say its period.
@@ -23,9 +25,10 @@ struct Layout {
 }
 
 /// Every version that is read, the newest last.
-const LAYOUTS: [Layout; 2] = [
-    Layout { version: 1, way_bytes: 0, period_bytes: 1 },
-    Layout { version: 2, way_bytes: 1, period_bytes: 1 },
+const LAYOUTS: [Layout; 3] = [
+    Layout { version: 1, hearing: false, way_bytes: 0, period_bytes: 1 },
+    Layout { version: 2, hearing: false, way_bytes: 1, period_bytes: 1 },
+    Layout { version: 3, hearing: true, way_bytes: 1, period_bytes: 1 },
 ];
 /// The numbers of a stream's routes.
 const FIRST: u8 = 1;
@@ -34,7 +37,7 @@ const SECOND: u8 = 2;
 /// The version in which books are written.
 pub const NEWEST: u16 = LAYOUTS[LAYOUTS.len() - 1].version;
 
-/// A site's plan, its links and its streams.
+/// A site's plan, its links, who hears whom, and its streams.
 #[derive(Clone, Debug, PartialEq, Eq)]
 pub struct Book {
     pub version: u16,
@@ -50,6 +53,8 @@ pub struct Book {
     pub up: u8,
     /// For each node the set of its neighbours.
     pub links: Vec<u64>,
+    /// For each node the set of the nodes that it hears, its neighbours among them.
+    pub hearing: Vec<u64>,
     /// The routes of all streams in order of id, a second one right behind its first.
     pub ways: Vec<Way>,
 }
@@ -112,6 +117,11 @@ impl Bytes<'_> {
         self.number(2).map(|n| n as u16)
     }
 
+    /// A row of a site for each node: its neighbours, or the nodes that it hears.
+    fn nodes(&mut self, nodes: u8) -> Option<Vec<u64>> {
+        (0..nodes).map(|_| self.number(8)).collect()
+    }
+
     /// A row: one route of a stream.
     fn way(&mut self, layout: &Layout) -> Option<Way> {
         let id = self.word()?;
@@ -125,11 +135,11 @@ impl Bytes<'_> {
     }
 }
 
-/// Every link of these rows of neighbours once, the lower node first.
-pub fn pairs(links: &[u64]) -> Vec<(usize, usize)> {
-    let is_linked = |a: usize, b: usize| links[a] >> b & 1 == 1;
-    let upper = |a| (a + 1..links.len()).filter(move |&b| is_linked(a, b)).map(move |b| (a, b));
-    (0..links.len()).flat_map(upper).collect()
+/// Every pair of nodes that these rows join once, the lower node first.
+pub fn pairs(rows: &[u64]) -> Vec<(usize, usize)> {
+    let is_joined = |a: usize, b: usize| rows[a] >> b & 1 == 1;
+    let upper = |a| (a + 1..rows.len()).filter(move |&b| is_joined(a, b)).map(move |b| (a, b));
+    (0..rows.len()).flat_map(upper).collect()
 }
 
 impl Book {
@@ -141,9 +151,10 @@ impl Book {
         let (slots, tiles, kinds) = (head.byte()?, head.byte()?, head.word()?);
         let (down, up, nodes, ways) = (head.byte()?, head.byte()?, head.byte()?, head.byte()?);
         let mut rest = Bytes(&image[HEAD..]);
-        let links = (0..nodes).map(|_| rest.number(8)).collect::<Option<_>>()?;
+        let links = rest.nodes(nodes)?;
+        let hearing = if layout.hearing { rest.nodes(nodes)? } else { links.clone() };
         let ways = (0..ways).map(|_| rest.way(layout)).collect::<Option<_>>()?;
-        let book = Book { version, slots, tiles, kinds, down, up, links, ways };
+        let book = Book { version, slots, tiles, kinds, down, up, links, hearing, ways };
         (rest.0.is_empty() && book.is_sound()).then_some(book)
     }
 
@@ -222,6 +233,22 @@ impl Book {
     /// Every link once, the lower node first.
     pub fn pairs(&self) -> Vec<(usize, usize)> {
         pairs(&self.links)
+    }
+
+    /// For each node the set of the nodes that it hears without a link.
+    fn unlinked(&self) -> Vec<u64> {
+        self.hearing.iter().zip(&self.links).map(|(heard, linked)| heard & !linked).collect()
+    }
+
+    /// Every pair of nodes that hear each other without a link once, the lower node first.
+    pub fn heard_pairs(&self) -> Vec<(usize, usize)> {
+        pairs(&self.unlinked())
+    }
+
+    /// The nodes that a node hears without a link, from the lowest on.
+    pub fn heard_by(&self, node: u8) -> impl Iterator<Item = u8> {
+        let heard = self.unlinked()[usize::from(node)];
+        (0..self.nodes()).filter(move |other| heard >> other & 1 == 1)
     }
 
     /// The nodes that no link reaches.

@@ -6,6 +6,9 @@ use crate::text::{count, row};
 /// What stands before a line that belongs to the one above it.
 pub const INDENT: &str = "     ";
 
+/// What stands above the pairs of nodes that hear each other without a link.
+pub const HEARD: &str = "Heard without a link";
+
 /// How much a book holds.
 pub fn counts(book: &Book) -> String {
     format!(
@@ -23,6 +26,11 @@ pub fn with_routes(book: &Book) -> String {
         return String::new();
     }
     format!(" with {}", count(book.ways.len(), "route"))
+}
+
+/// Pairs of nodes in lines.
+pub fn pairs(pairs: &[(usize, usize)]) -> String {
+    row(" ", pairs.iter().map(|(a, b)| format!("{a}-{b}")))
 }
 
 /// A stream in its line, with its routes and their offsets below.

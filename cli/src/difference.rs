@@ -30,6 +30,8 @@ pub struct Difference<'a> {
     pub plan: Vec<Differs>,
     /// The links that each book has alone.
     pub links: Pair<Vec<(usize, usize)>>,
+    /// The pairs that hear each other without a link by each book alone.
+    pub heard: Pair<Vec<(usize, usize)>>,
     /// The streams that are not the same in both, in order of id; none in a book without it.
     pub streams: Vec<Pair<Option<Stream<'a>>>>,
     /// None where every node that both have does the same in every slot.
@@ -78,10 +80,12 @@ pub fn in_stream(streams: Pair<Stream>) -> Vec<Differs> {
     differing(streams.map(stream))
 }
 
-/// The links of one book that the other has not.
-fn alone(one: &Book, other: &Book) -> Vec<(usize, usize)> {
-    let others = other.pairs();
-    one.pairs().into_iter().filter(|pair| !others.contains(pair)).collect()
+/// The pairs of nodes that each book has alone.
+fn alone([one, other]: Pair<Vec<(usize, usize)>>) -> Pair<Vec<(usize, usize)>> {
+    let less = |own: &[(usize, usize)], others: &[(usize, usize)]| {
+        own.iter().filter(|pair| !others.contains(pair)).copied().collect()
+    };
+    [less(&one, &other), less(&other, &one)]
 }
 
 /// The streams that are not the same in both books.
@@ -111,11 +115,11 @@ fn seen(books: Pair<&Book>, tables: Pair<&[Vec<Entry>]>) -> Option<Seen> {
 impl<'a> Difference<'a> {
     /// Compares two books, with a table of each for every node of its own.
     pub fn of(books: Pair<&'a Book>, tables: Pair<&[Vec<Entry>]>) -> Difference<'a> {
-        let [first, second] = books;
         Difference {
             books,
             plan: differing(books.map(plan)),
-            links: [alone(first, second), alone(second, first)],
+            links: alone(books.map(Book::pairs)),
+            heard: alone(books.map(Book::heard_pairs)),
             streams: streams(books),
             seen: seen(books, tables),
         }
@@ -130,7 +134,7 @@ impl<'a> Difference<'a> {
     pub fn is_none(&self) -> bool {
         self.plan.is_empty()
             && self.unequal(Book::nodes).is_none()
-            && self.links.iter().all(Vec::is_empty)
+            && self.links.iter().chain(&self.heard).all(Vec::is_empty)
             && self.streams.is_empty()
     }
 }

@@ -1,6 +1,6 @@
 //! Frames: what is put to the engine and what it answers, as bytes. All numbers are big-endian.
 
-/// Bytes of a request before its book or topology; what no call here uses is 0.
+/// Bytes of a request before its book or links; what no call here uses is 0.
 const REQUEST_HEAD: usize = 44;
 /// Bytes of an answer before its output buffer.
 pub const ANSWER_HEAD: usize = 13;
@@ -47,6 +47,8 @@ pub struct Site {
     pub nodes: u8,
     /// A row of neighbours for each node, as in a book.
     pub links: Vec<u8>,
+    /// A row of the nodes that it hears for each node, as in a book.
+    pub hearing: Vec<u8>,
 }
 
 /// What an open asks for.
@@ -123,6 +125,8 @@ pub fn new(site: &Site) -> Request {
     head[7..9].copy_from_slice(&[site.slots, site.tiles]);
     head[9..11].copy_from_slice(&site.kinds.to_be_bytes());
     head[11..14].copy_from_slice(&[site.down, site.up, site.nodes]);
+    head[38..40].copy_from_slice(&(site.hearing.len() as u16).to_be_bytes());
+    head.extend(&site.hearing);
     request
 }
 

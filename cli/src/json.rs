@@ -70,6 +70,11 @@ pub fn plan(book: &Book) -> String {
     ])
 }
 
+/// Pairs of nodes.
+pub fn pairs(pairs: &[(usize, usize)]) -> String {
+    array(pairs.iter().map(|(a, b)| array([a, b])))
+}
+
 pub fn balance(node: u8, balance: Balance) -> String {
     object([
         ("node", node.to_string()),

@@ -7,6 +7,7 @@ mod bars;
 mod canvas;
 mod graph;
 mod grid;
+mod heard;
 mod hops;
 mod identity;
 mod layout;

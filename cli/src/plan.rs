@@ -1,14 +1,18 @@
-//! A site's plan and links as a person types them: read line by line, and explained where the engine refuses it.
+//! A site's plan, its links and who hears whom as a person types them: read line by line, and explained where the engine
+//! refuses it.
 
 use crate::book::MOST_NODES;
 use crate::frame::Site;
 use crate::lines::{fault, lines, numbers, Fault};
 
-/// The numbers by which the engine refuses a plan and its links.
+/// The numbers by which the engine refuses a plan, and its links or its hearing.
 const OUT_OF_RANGE: u8 = 10;
-const UNSOUND_LINKS: u8 = 11;
+const UNSOUND_PAIRS: u8 = 11;
 /// What a line may start with.
-const STARTS: &str = "a line starts with slots, tiles, control, nodes or link";
+const STARTS: &str = "a line starts with slots, tiles, control, nodes, link or hear";
+
+/// Two nodes that a line joins.
+type Pair = Said<(u64, u64)>;
 
 /// A value and the line that says it.
 #[derive(Clone)]
@@ -24,7 +28,9 @@ pub struct Plan {
     tiles: Option<Said<Vec<bool>>>,
     control: Option<Said<(u64, u64)>>,
     nodes: Option<Said<u64>>,
-    links: Vec<Said<(u64, u64)>>,
+    links: Vec<Pair>,
+    /// The pairs that hear each other; linked ones do without being named here.
+    hears: Vec<Pair>,
 }
 
 /// The kinds of tiles that words name: true for downlink.
@@ -44,6 +50,26 @@ fn keep<T>(place: &mut Option<Said<T>>, line: usize, value: T) -> Result<(), Fau
     }
     *place = Some(Said { line, value });
     Ok(())
+}
+
+/// Keeps a pair of nodes; one that is said again is the same.
+fn join(pairs: &mut Vec<Pair>, line: usize, value: (u64, u64)) -> Result<(), Fault> {
+    pairs.push(Said { line, value });
+    Ok(())
+}
+
+/// A row for each node with those that it is joined to. A node that no row can hold makes a row too many, which the
+/// engine refuses.
+fn rows<'a>(nodes: u64, pairs: impl Iterator<Item = &'a Pair>) -> Vec<u8> {
+    let count = nodes.min(MOST_NODES as u64) as usize;
+    let mut rows = vec![0u64; count];
+    for (from, to) in pairs.map(|pair| pair.value).flat_map(|(a, b)| [(a, b), (b, a)]) {
+        match rows.get_mut(from as usize) {
+            Some(row) if to < MOST_NODES as u64 => *row |= 1 << to,
+            _ => rows.resize(rows.len().max(count + 1), 0),
+        }
+    }
+    rows.iter().flat_map(|row| row.to_be_bytes()).collect()
 }
 
 impl Plan {
@@ -80,11 +106,12 @@ impl Plan {
                 None => fault(line, "write nodes and one number, as in: nodes 4"),
             },
             b"link" => match numbers(rest) {
-                Some([a, b]) => {
-                    self.links.push(Said { line, value: (a, b) });
-                    Ok(())
-                }
+                Some([a, b]) => join(&mut self.links, line, (a, b)),
                 None => fault(line, "write link and two nodes, as in: link 0 1"),
+            },
+            b"hear" => match numbers(rest) {
+                Some([a, b]) => join(&mut self.hears, line, (a, b)),
+                None => fault(line, "write hear and two nodes, as in: hear 0 2"),
             },
             _ => fault(line, STARTS),
         }
@@ -119,33 +146,26 @@ impl Plan {
             down: byte(control.value.0),
             up: byte(control.value.1),
             nodes: byte(nodes.value),
-            links: self.topology(nodes.value),
+            links: rows(nodes.value, self.links.iter()),
+            hearing: rows(nodes.value, self.links.iter().chain(&self.hears)),
         }
-    }
-
-    /// The rows of neighbours. A link to a node that no row can hold makes a row too many, which the engine refuses.
-    fn topology(&self, nodes: u64) -> Vec<u8> {
-        let count = nodes.min(MOST_NODES as u64) as usize;
-        let mut rows = vec![0u64; count];
-        for link in &self.links {
-            let (a, b) = link.value;
-            for (from, to) in [(a, b), (b, a)] {
-                match rows.get_mut(from as usize) {
-                    Some(row) if to < MOST_NODES as u64 => *row |= 1 << to,
-                    _ => rows.resize(rows.len().max(count + 1), 0),
-                }
-            }
-        }
-        rows.iter().flat_map(|row| row.to_be_bytes()).collect()
     }
 
     /// The line that the engine's refusal is about, and what is wrong with it.
     pub fn explain(&self, number: u8) -> Option<Fault> {
         match number {
             OUT_OF_RANGE => self.out_of_range(),
-            UNSOUND_LINKS => self.links.iter().find_map(|link| self.unsound(link)),
+            UNSOUND_PAIRS => self.unsound_pair(),
             _ => None,
         }
+    }
+
+    /// The first line that joins nodes as none may be joined.
+    fn unsound_pair(&self) -> Option<Fault> {
+        let links =
+            self.links.iter().filter_map(|pair| self.unsound(pair, "no node links to itself"));
+        let hears = self.hears.iter().filter_map(|pair| self.unsound(pair, "no node hears itself"));
+        links.chain(hears).min_by_key(|fault| fault.line)
     }
 
     fn out_of_range(&self) -> Option<Fault> {
@@ -177,17 +197,17 @@ impl Plan {
         Some(Fault { line, words: words.into() })
     }
 
-    /// What is wrong with a link.
-    fn unsound(&self, link: &Said<(u64, u64)>) -> Option<Fault> {
+    /// What is wrong with a pair; these words are said of a node joined to itself.
+    fn unsound(&self, pair: &Pair, of_one: &str) -> Option<Fault> {
         let nodes = self.nodes.as_ref()?.value;
-        let (a, b) = link.value;
+        let (a, b) = pair.value;
         let words = match [a, b].into_iter().find(|&node| nodes <= node) {
             Some(node) => {
                 format!("the site has no node {node}; they count from 0 to {}", nodes - 1)
             }
-            None if a == b => format!("no node links to itself (node {a})"),
+            None if a == b => format!("{of_one} (node {a})"),
             None => return None,
         };
-        Some(Fault { line: link.line, words })
+        Some(Fault { line: pair.line, words })
     }
 }

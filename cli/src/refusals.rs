@@ -13,9 +13,9 @@ const WORDS: [(u8, &str); 20] = [
     (8, "the book is full: 64 routes or 512 hops"),
     (9, "no free slots for this stream"),
     (10, "a number of the plan or of the book's head is out of its range"),
-    (11, "the links are not sound: a self-link, a one-way link or no such node"),
+    (11, "links or hearing not sound: a self-link, one-way, unheard or no such node"),
     (12, "no room for the answer"),
-    (13, "this is no book of version 1 or 2: its mark or its version is wrong"),
+    (13, "this is no book of version 1 to 3: its mark or its version is wrong"),
     (14, "the book is cut short, or not as long as its head says"),
     (15, "the rows of the book's streams are not lawful"),
     (16, "hops of two routes clash and meet in a slot"),
@@ -32,4 +32,16 @@ pub fn words(number: u8) -> Option<&'static str> {
 /// Every refusal with its words.
 pub fn all() -> impl Iterator<Item = (u8, &'static str)> {
     WORDS.into_iter().skip(1)
+}
+
+#[cfg(test)]
+mod tests {
+    use super::*;
+    use crate::book::NEWEST;
+
+    #[test]
+    fn a_book_of_no_version_is_told_which_there_are() {
+        let versions = format!("version 1 to {NEWEST}:");
+        assert!(words(13).is_some_and(|words| words.contains(&versions)));
+    }
 }

@@ -6,8 +6,8 @@
 #include <stddef.h>
 #include <stdint.h>
 
-uint8_t fast_new(uint8_t s, uint8_t c, uint16_t kinds, uint8_t d, uint8_t u, uint8_t n, const uint8_t *topology,
-                 size_t topology_len, uint8_t *out, size_t out_len, size_t *length);
+uint8_t fast_new(uint8_t s, uint8_t c, uint16_t kinds, uint8_t d, uint8_t u, uint8_t n, const uint8_t *links,
+                 size_t links_len, const uint8_t *hearing, size_t hearing_len, uint8_t *out, size_t out_len, size_t *length);
 uint8_t fast_check(const uint8_t *book, size_t book_len, size_t *length);
 uint8_t fast_rewrite(const uint8_t *book, size_t book_len, uint8_t *out, size_t out_len, size_t *length);
 struct fast_request {

@@ -21,20 +21,19 @@ pub const MAX_RECORDS: usize = 64;
 /// The most routes listed.
 pub const MAX_LISTED: usize = 32;
 
+/// The plan and the topology given for a new book.
+#[derive(Clone, Debug)]
+pub struct Site<'a> {
+    pub plan: Plan,
+    /// N.
+    pub nodes: u8,
+    pub links: &'a [u8],
+    pub hearing: &'a [u8],
+}
+
 /// Makes an empty book.
-#[allow(clippy::too_many_arguments)]
-pub fn new(
-    s: u8,
-    c: u8,
-    kinds: u16,
-    d: u8,
-    u: u8,
-    n: u8,
-    topology: &[u8],
-    out: &mut [u8],
-) -> (u8, usize) {
-    let book = new_book(Plan { s, c, kinds, d, u }, n, topology);
-    deliver(book.map(in_newest_version), out)
+pub fn new(site: &Site, out: &mut [u8]) -> (u8, usize) {
+    deliver(new_book(site).map(in_newest_version), out)
 }
 
 /// Says whether a book is lawful.
@@ -138,10 +137,12 @@ fn in_newest_version(book: Book) -> Vec<u8> {
     image::write(Version::NEWEST, &book)
 }
 
-fn new_book(plan: Plan, n: u8, topology: &[u8]) -> Result<Book, Refusal> {
-    refuse_if(!plan.is_in_range() || !NODES.contains(&n), Refusal::OutOfRange)?;
-    let topology = Topology::read(n, topology).ok_or(Refusal::UnsoundTopology)?;
-    Ok(Book { plan, topology, rows: Vec::new() })
+fn new_book(site: &Site) -> Result<Book, Refusal> {
+    let in_range = site.plan.is_in_range() && NODES.contains(&site.nodes);
+    refuse_if(!in_range, Refusal::OutOfRange)?;
+    let topology = Topology::read(site.nodes, site.links, site.hearing);
+    let topology = topology.ok_or(Refusal::UnsoundTopology)?;
+    Ok(Book { plan: site.plan.clone(), topology, rows: Vec::new() })
 }
 
 /// Reads a book of any version.

@@ -24,7 +24,8 @@
 //! |       | balance and links, which have none                             |
 //! | 18    | fill byte of the output buffer                                 |
 //! | 19    | 1 to ask for a second route, otherwise 0 (open)                |
-//! | 20–39 | 0                                                              |
+//! | 20–37 | 0                                                              |
+//! | 38–39 | length of the hearing (new), at most 1,024                     |
 //! | 40–41 | length of the further bytes, which are the records (post)      |
 //! | 42–43 | 0                                                              |
 //!
@@ -57,8 +58,7 @@
 //!
 //! What is 0 is for document 02's other requests, and so are calls 9 to 12:
 //! 20–21 account (W11); 22–23 first tile and 24–25 tiles (W10); 26–33 mains
-//! set (W13); 34–37 amount (W11); 38–39 length of the hearing (W6); further
-//! bytes that are the accounts (W11) or the tables (W9); 42–43 length of a
+//! set (W13); 34–37 amount (W11); further bytes that are the accounts (W11) or the tables (W9); 42–43 length of a
 //! second output buffer, which is the index, in words (W12), or the report
 //! (W7); bytes 8–9 of a record, its account (W11). Call 9 is keeps to (W13), 10
 //! purchase (W11), 11 salvage (W7), 12 book of (W9). In an answer the second

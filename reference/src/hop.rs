@@ -29,8 +29,8 @@ pub fn hops_of(route: &[u8]) -> impl Iterator<Item = Hop> + '_ {
 /// of the other.
 pub fn clash(topology: &Topology, one: Hop, two: Hop) -> bool {
     one.shares_a_node_with(two)
-        || topology.linked(one.sender, two.receiver)
-        || topology.linked(two.sender, one.receiver)
+        || topology.hear(one.sender, two.receiver)
+        || topology.hear(two.sender, one.receiver)
 }
 
 /// A hop and the slots it takes.

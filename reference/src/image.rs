@@ -5,8 +5,8 @@ use crate::law::{clashing_hops_meet, rows_are_lawful};
 use crate::plan::Plan;
 use crate::refusal::{Refusal, refuse_if};
 use crate::row::{FIRST_ROUTE, Row};
-use crate::topology::{NODES, Topology};
-use crate::version::{HEADER_LENGTH, Version};
+use crate::topology::{NODES, Topology, write_rows};
+use crate::version::{HEADER_LENGTH, Version, links_bytes};
 
 /// The mark S, L, B.
 const MARK: [u8; 3] = [0x53, 0x4C, 0x42];
@@ -30,7 +30,7 @@ pub fn read(image: &[u8]) -> Result<(Version, Book), Refusal> {
     let length = version.image_length(header.nodes, header.rows, header.hops);
     refuse_if(image.len() != length, Refusal::WrongLength)?;
     let (topology, rows) = image[HEADER_LENGTH..].split_at(version.topology_bytes(header.nodes));
-    let topology = Topology::read(header.nodes, topology).ok_or(Refusal::UnsoundTopology)?;
+    let topology = read_topology(version, header.nodes, topology)?;
     let rows = read_rows(version, rows, header.rows).ok_or(Refusal::UnlawfulRows)?;
     let book = Book { plan: header.plan, topology, rows };
     refuse_if(book.hops() != header.hops, Refusal::UnlawfulRows)?;
@@ -63,6 +63,13 @@ impl Header {
             && self.hops <= MAX_HOPS
             && self.last_byte == 0
     }
+}
+
+/// Reads links and hearing; an older version hears exactly its links.
+fn read_topology(version: Version, nodes: u8, bytes: &[u8]) -> Result<Topology, Refusal> {
+    let (links, rest) = bytes.split_at(links_bytes(nodes));
+    let hearing = if version.stores_hearing() { rest } else { links };
+    Topology::read(nodes, links, hearing).ok_or(Refusal::UnsoundTopology)
 }
 
 /// Exactly `count` rows that fill the bytes; none otherwise.
@@ -108,7 +115,10 @@ pub fn write(version: Version, book: &Book) -> Vec<u8> {
     image.push(book.rows.len() as u8);
     image.extend((book.hops() as u16).to_be_bytes());
     image.push(0);
-    image.extend(book.topology.write());
+    image.extend(write_rows(&book.topology.links));
+    if version.stores_hearing() {
+        image.extend(write_rows(&book.topology.hearing));
+    }
     for row in &book.rows {
         write_row(version, row, &mut image);
     }

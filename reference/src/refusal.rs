@@ -27,7 +27,8 @@ pub enum Refusal {
     NoPlacing = 9,
     /// A field of bytes 5 to 15, or an argument of a new book, out of its range.
     OutOfRange = 10,
-    /// Topology: wrong length, a bit from N up, a self-link, a one-way link.
+    /// Topology: wrong length, a bit from N up, a self-link, a one-way link, a
+    /// link missing from the hearing.
     UnsoundTopology = 11,
     /// The output buffer is shorter than the answer; for a posting, than the
     /// longest book.

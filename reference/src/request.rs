@@ -1,8 +1,9 @@
 //! A request: one call with all its arguments, and what the reference says.
 
-use crate::calls;
+use crate::calls::{self, Site};
 use crate::change::Open;
 use crate::frame::{Answer, Call, END, REQUEST_HEADER};
+use crate::plan::Plan;
 use crate::record::{RECORD_BYTES, Record};
 use std::io::{self, Read, Write};
 
@@ -26,6 +27,8 @@ pub struct Request {
     pub n: u8,
     /// The links of a new book, the book of any other call.
     pub bytes: Vec<u8>,
+    /// The hearing of a new book.
+    pub hearing: Vec<u8>,
     /// The records of a posting.
     pub further: Vec<u8>,
     /// Length of the output buffer.
@@ -51,6 +54,7 @@ impl Request {
             u: 0,
             n: 0,
             bytes: Vec::new(),
+            hearing: Vec::new(),
             further: Vec::new(),
             room: 0,
             fill: 0,
@@ -72,9 +76,11 @@ impl Request {
         put(14, &(self.bytes.len() as u16).to_be_bytes());
         put(16, &self.room.to_be_bytes());
         put(18, &[self.fill, u8::from(self.second)]);
+        put(38, &(self.hearing.len() as u16).to_be_bytes());
         put(40, &(self.further.len() as u16).to_be_bytes());
         output.write_all(&header)?;
         output.write_all(&self.bytes)?;
+        output.write_all(&self.hearing)?;
         output.write_all(&self.further)
     }
 
@@ -85,10 +91,9 @@ impl Request {
             return Ok(None);
         }
         let number = |place: usize| u16::from_be_bytes([header[place], header[place + 1]]);
-        let mut bytes = vec![0; usize::from(number(14))];
-        input.read_exact(&mut bytes)?;
-        let mut further = vec![0; usize::from(number(40))];
-        input.read_exact(&mut further)?;
+        let bytes = read_bytes(input, number(14))?;
+        let hearing = read_bytes(input, number(38))?;
+        let further = read_bytes(input, number(40))?;
         Ok(Some(Request {
             call: Call::of_number(header[0])?,
             id: number(1),
@@ -103,6 +108,7 @@ impl Request {
             u: header[12],
             n: header[13],
             bytes,
+            hearing,
             further,
             room: number(16),
             fill: header[18],
@@ -128,9 +134,7 @@ impl Request {
     fn call_reference(&self, out: &mut [u8], records: &mut [Record]) -> (u8, [u32; 3]) {
         let book = &self.bytes;
         let (number, length) = match self.call {
-            Call::New => {
-                calls::new(self.s, self.c, self.kinds, self.d, self.u, self.n, &self.bytes, out)
-            }
+            Call::New => calls::new(&self.site(), out),
             Call::Check => calls::check(book),
             Call::Rewrite => calls::rewrite(book, out),
             Call::Open => calls::open(book, self.open(), out),
@@ -153,6 +157,16 @@ impl Request {
         (number, [length as u32, 0, 0])
     }
 
+    /// The site of a new book.
+    fn site(&self) -> Site<'_> {
+        Site {
+            plan: Plan { s: self.s, c: self.c, kinds: self.kinds, d: self.d, u: self.u },
+            nodes: self.n,
+            links: &self.bytes,
+            hearing: &self.hearing,
+        }
+    }
+
     /// The stream that an open asks for.
     fn open(&self) -> Open {
         Open {
@@ -163,6 +177,12 @@ impl Request {
             second: self.second,
         }
     }
+}
+
+fn read_bytes(input: &mut impl Read, length: u16) -> io::Result<Vec<u8>> {
+    let mut bytes = vec![0; usize::from(length)];
+    input.read_exact(&mut bytes)?;
+    Ok(bytes)
 }
 
 /// Fills the buffer; false if the input ends before its first byte.

@@ -10,6 +10,11 @@ pub const HEADER_LENGTH: usize = 16;
 /// Bytes of a row for each of its hops: a node and an offset.
 pub const HOP_BYTES: usize = 3;
 
+/// Bytes of the links of a site with so many nodes.
+pub fn links_bytes(nodes: u8) -> usize {
+    8 * usize::from(nodes)
+}
+
 /// A version of the image; the value is its number.
 #[derive(Clone, Copy, Debug, PartialEq, Eq, PartialOrd, Ord)]
 #[repr(u16)]
@@ -18,13 +23,15 @@ pub enum Version {
     One = 1,
     /// Rows say which route of their stream they are.
     Two = 2,
+    /// Who hears whom is stored beside the links.
+    Three = 3,
 }
 
 impl Version {
-    pub const ALL: [Version; 2] = [Version::One, Version::Two];
+    pub const ALL: [Version; 3] = [Version::One, Version::Two, Version::Three];
 
     /// The version in which new and changed books are written.
-    pub const NEWEST: Version = Version::Two;
+    pub const NEWEST: Version = Version::Three;
 
     pub fn of_number(number: u16) -> Option<Version> {
         Version::ALL.into_iter().find(|&version| version as u16 == number)
@@ -35,9 +42,15 @@ impl Version {
         self >= Version::Two
     }
 
+    /// Rows of hearing follow those of the links.
+    pub fn stores_hearing(self) -> bool {
+        self >= Version::Three
+    }
+
     /// What the book holds can be said in this version.
     pub fn fits(self, book: &Book) -> bool {
-        self.stores_route() || book.rows.iter().all(|row| row.route == FIRST_ROUTE)
+        (self.stores_route() || book.rows.iter().all(|row| row.route == FIRST_ROUTE))
+            && (self.stores_hearing() || book.topology.hearing == book.topology.links)
     }
 
     /// Bytes of a row beside those of its hops: id, route, K, hop count and
@@ -46,9 +59,11 @@ impl Version {
         2 + usize::from(self.stores_route()) + 1 + 1 + 1
     }
 
-    /// Bytes of the topology of a site with so many nodes.
+    /// Bytes of the links, and if they are stored of the hearing, of a site with
+    /// so many nodes.
     pub fn topology_bytes(self, nodes: u8) -> usize {
-        8 * usize::from(nodes)
+        let sets = 1 + usize::from(self.stores_hearing());
+        sets * links_bytes(nodes)
     }
 
     /// The length of an image with so many nodes, rows and hops.

@@ -27,7 +27,14 @@ impl Dice {
     }
 }
 
-/// A book of six nodes and some streams, opened one after another.
+/// A topology that hears exactly its links.
+fn hearing_links(nodes: usize, links: &[(usize, usize)]) -> Topology {
+    let rows = topology(nodes, links);
+    Topology::read(nodes as u8, &rows, &rows).unwrap()
+}
+
+/// A book of six nodes, which may hear further, and some streams, opened one
+/// after another.
 fn small_book(dice: &mut Dice) -> Book {
     let s = 1 + dice.below(4) as u8;
     let c = PLAN_TILES[dice.below(5) as usize];
@@ -46,7 +53,11 @@ fn small_book(dice: &mut Dice) -> Book {
             }
         }
     }
-    let topology = Topology::read(6, &topology(6, &links)).unwrap();
+    let mut heard = links.clone();
+    if dice.below(2) == 0 {
+        heard.push((dice.below(5) as usize, 5));
+    }
+    let topology = Topology::read(6, &topology(6, &links), &topology(6, &heard)).unwrap();
     let mut book = Book { plan, topology, rows: Vec::new() };
     for id in 1..=dice.below(5) as u16 {
         try_to_open(dice, &mut book, id);
@@ -107,7 +118,7 @@ fn a_route_is_too_far_exactly_if_all_have_over_15_hops() {
         }
         let start = dice.below(13) as usize;
         links.push((start, start + 2 + dice.below(4) as usize));
-        let topology = Topology::read(19, &topology(19, &links)).unwrap();
+        let topology = hearing_links(19, &links);
         let mut found = Vec::new();
         all_routes(&topology, &mut vec![0], 18, &mut found);
         let short = found.iter().any(|route| route.len() - 1 <= MAX_ROUTE_HOPS);
@@ -132,7 +143,7 @@ fn short_by_search(topology: &Topology) -> Vec<Vec<u8>> {
 fn ten_nodes(dice: &mut Dice) -> Topology {
     let pairs = (0..10).flat_map(|a| (0..a).map(move |b| (a, b)));
     let links: Vec<_> = pairs.filter(|_| dice.below(3) == 0).collect();
-    Topology::read(10, &topology(10, &links)).unwrap()
+    hearing_links(10, &links)
 }
 
 #[test]

@@ -66,16 +66,21 @@ fn p6_meet_first_in_slot_27() {
 #[test]
 fn p7_lowest_node_list() {
     let links = topology(4, &[(0, 1), (0, 2), (1, 3), (2, 3)]);
-    let topology = Topology::read(4, &links).unwrap();
+    let topology = Topology::read(4, &links, &links).unwrap();
     assert_eq!(planners_route(&topology, 0, 3), Ok(vec![0, 1, 3]));
 }
 
 #[test]
 fn p8_clashes_in_line_a() {
-    let line_a = Topology::read(4, &line(4)).unwrap();
+    let line_a = Topology::read(4, &line(4), &line(4)).unwrap();
     let hop = |sender, receiver| Hop { sender, receiver };
     assert!(clash(&line_a, hop(0, 1), hop(2, 3)));
     assert!(!clash(&line_a, hop(0, 1), hop(3, 2)));
+    // Where 3 and 1 hear each other, 1 receives while 3 sends.
+    let heard = topology(4, &[(0, 1), (1, 2), (2, 3), (1, 3)]);
+    let heard = Topology::read(4, &line(4), &heard).unwrap();
+    assert!(clash(&heard, hop(0, 1), hop(3, 2)));
+    assert!(clash(&heard, hop(3, 2), hop(0, 1)));
 }
 
 #[test]
@@ -100,30 +105,43 @@ const P10: [u8; 32] = [
     0, 0, 0, 0, 0, 0, 0, 0x02, 0, 0, 0, 0, 0, 0, 0, 0x01,
 ];
 
-/// P10 with a row more, of one hop.
-fn p11(version: u8, row: &[u8]) -> Vec<u8> {
-    let mut bytes = [&P10, row].concat();
-    (bytes[4], bytes[12], bytes[14]) = (version, 0x01, 0x01);
-    bytes
+/// P10 in every version. Version 3 adds the hearing, which is the links.
+fn p10s() -> [Vec<u8>; 3] {
+    let hearing = &P10[16..];
+    let mut books = [P10.to_vec(), P10.to_vec(), [&P10, hearing].concat()];
+    (books[1][4], books[2][4]) = (0x02, 0x03);
+    books
+}
+
+/// P11 in every version: P10 with one row more, of one hop.
+fn p11s() -> [Vec<u8>; 3] {
+    let version_1 = vec![0x00, 0x07, 0x02, 0x01, 0x01, 0x00, 0x00, 0x02];
+    let version_2 = vec![0x00, 0x07, 0x01, 0x02, 0x01, 0x01, 0x00, 0x00, 0x02];
+    let mut books = p10s();
+    for (book, row) in books.iter_mut().zip([version_1, version_2.clone(), version_2]) {
+        (book[12], book[14]) = (0x01, 0x01);
+        book.extend(row);
+    }
+    books
 }
 
 #[test]
 fn p10_empty_book_of_two_nodes() {
-    assert_eq!(stored(Version::One, &line_a(2)), P10);
-    assert_eq!(written(|out| calls::rewrite(&P10, out)), P10);
-    let mut version_2 = P10;
-    version_2[4] = 0x02;
-    assert_eq!(line_a(2), version_2);
+    for (version, book) in Version::ALL.into_iter().zip(p10s()) {
+        assert_eq!(stored(version, &line_a(2)), book);
+        assert_eq!(written(|out| calls::rewrite(&book, out)), book);
+    }
+    assert_eq!(Some(&line_a(2)), p10s().last());
 }
 
 #[test]
 fn p11_one_row_added() {
-    let version_1 = p11(1, &[0x00, 0x07, 0x02, 0x01, 0x01, 0x00, 0x00, 0x02]);
-    let version_2 = p11(2, &[0x00, 0x07, 0x01, 0x02, 0x01, 0x01, 0x00, 0x00, 0x02]);
-    assert_eq!(opened(&P10, 7, 1, 0, 2), version_2);
-    assert_eq!(opened(&line_a(2), 7, 1, 0, 2), version_2);
-    assert_eq!(stored(Version::One, &version_2), version_1);
-    for book in [version_1, version_2] {
+    let newest = p11s().last().unwrap().clone();
+    for empty in p10s() {
+        assert_eq!(opened(&empty, 7, 1, 0, 2), newest);
+    }
+    for (version, book) in Version::ALL.into_iter().zip(p11s()) {
+        assert_eq!(stored(version, &newest), book);
         assert_eq!(calls::check(&book), (0, 0));
         assert_eq!(written(|out| calls::rewrite(&book, out)), book);
         assert_eq!(closed(&book, 7), line_a(2));
@@ -150,7 +168,7 @@ fn run_15_hops_are_accepted_and_16_are_too_far() {
 fn run_64_nodes_stand_and_65_do_not() {
     assert_eq!(calls::check(&new_book(OPEN_PLAN, &line(64))), (0, 0));
     let rows = vec![0; 8 * 65];
-    assert_eq!(refused(ROOM, |out| calls::new(4, 1, 0, 0, 0, 65, &rows, out)), 10);
+    assert_eq!(refused(ROOM, |out| calls::new(&site(OPEN_PLAN, 65, &rows), out)), 10);
     let mut image = new_book(OPEN_PLAN, &line(64));
     image[11] = 65;
     assert_eq!(calls::check(&image), (10, 0));

@@ -26,6 +26,7 @@ fn a_request_has_every_field_in_its_place() {
         u: 0x0C,
         n: 0x0D,
         bytes: vec![0xEE; 3],
+        hearing: vec![0xCC],
         further: vec![0xDD; 2],
         room: 0x1011,
         fill: 0x12,
@@ -33,7 +34,9 @@ fn a_request_has_every_field_in_its_place() {
         ..Request::blank(Call::Open)
     };
     let fields = [3, 1, 2, 3, 4, 5, 6, 7, 8, 9, 10, 11, 12, 13, 0, 3, 0x10, 0x11, 0x12, 1];
-    let expected = [&fields[..], &[0; 20], &[0, 2, 0, 0], &[0xEE; 3], &[0xDD; 2]].concat();
+    let lengths = [0, 1, 0, 2, 0, 0];
+    let bytes = [0xEE, 0xEE, 0xEE, 0xCC, 0xDD, 0xDD];
+    let expected = [&fields[..], &[0; 18], &lengths, &bytes].concat();
     assert_eq!(bytes_of(&request), expected);
     assert_eq!(Request::read(&mut &expected[..]).unwrap(), Some(request));
 }
@@ -58,12 +61,13 @@ fn a_new_book_is_answered_with_its_whole_buffer() {
         u: 1,
         n: 2,
         bytes: line(2),
-        room: 34,
+        hearing: line(2),
+        room: 50,
         fill: FILL,
         ..Request::blank(Call::New)
     };
     let image = [line_a(2), vec![FILL, FILL]].concat();
-    let expected = [&[0, 0, 0, 0, 32, 0, 0, 0, 0, 0, 0, 0, 0], &image[..]].concat();
+    let expected = [&[0, 0, 0, 0, 48, 0, 0, 0, 0, 0, 0, 0, 0], &image[..]].concat();
     assert_eq!(served(&[request]), expected);
 }
 

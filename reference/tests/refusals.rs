@@ -67,9 +67,9 @@ fn damaged_books() -> Vec<(u8, Vec<u8>)> {
 fn new_gives_0_10_11_12() {
     let rows = line(4);
     let new = |s, c, kinds, d, u, n, rows: &[u8]| {
-        refused(ROOM, |out| calls::new(s, c, kinds, d, u, n, rows, out))
+        refused(ROOM, |out| calls::new(&site((s, c, kinds, d, u), n, rows), out))
     };
-    assert_eq!(new_book(PLAN_A, &rows).len(), 48);
+    let length = new_book(PLAN_A, &rows).len();
     assert_eq!(new(0, 2, 1, 0, 0, 4, &rows), 10);
     assert_eq!(new(33, 2, 1, 2, 1, 4, &rows), 10);
     assert_eq!(new(4, 3, 1, 2, 1, 4, &rows), 10);
@@ -86,11 +86,11 @@ fn new_gives_0_10_11_12() {
     let mut one_way = line(4);
     one_way[7] = 0;
     assert_eq!(new(4, 2, 1, 2, 1, 4, &one_way), 11);
-    let short = |room| refused(room, |out| calls::new(4, 2, 1, 2, 1, 4, &rows, out));
-    assert_eq!((short(0), short(47)), (12, 12));
+    let short = |room| refused(room, |out| calls::new(&site(PLAN_A, 4, &rows), out));
+    assert_eq!((short(0), short(length - 1)), (12, 12));
     // 10 before 11 before 12.
-    assert_eq!(refused(0, |out| calls::new(0, 2, 1, 2, 1, 4, &[], out)), 10);
-    assert_eq!(refused(0, |out| calls::new(4, 2, 1, 2, 1, 4, &[], out)), 11);
+    assert_eq!(refused(0, |out| calls::new(&site((0, 2, 1, 2, 1), 4, &[]), out)), 10);
+    assert_eq!(refused(0, |out| calls::new(&site(PLAN_A, 4, &[]), out)), 11);
 }
 
 #[test]
@@ -144,11 +144,11 @@ fn stated_hops_and_rows_must_fill_the_image() {
     assert_eq!(calls::check(&few_rows), (15, 0));
     let rows = (1..=4).map(|id| row(id, 5, &[0, 1], &[4 * id + 3])).collect();
     let book = with_rows(&new_book((4, 1, 0, 0, 0), &line(4)), rows);
-    for (version, hops) in [(Version::One, 4 + 5), (Version::Two, 4 + 6)] {
+    for version in Version::ALL {
         let mut book = stored(version, &book);
         assert_eq!(calls::check(&book), (0, 0));
-        // Three rows fewer have the bytes of so many hops.
-        (book[12], book[14]) = (1, hops);
+        // Three rows fewer have the bytes of as many hops as a row has others.
+        (book[12], book[14]) = (1, 4 + version.row_bytes() as u8);
         assert_eq!(calls::check(&book), (15, 0));
     }
 }
@@ -284,7 +284,7 @@ fn links_gives_0_and_4() {
 #[test]
 fn the_longest_book_stands() {
     let book = loaded(64, 8);
-    for (version, longest) in [(Version::One, 2384), (Version::Two, 2448)] {
+    for (version, longest) in Version::ALL.into_iter().zip([2384, 2448, 2960]) {
         let book = stored(version, &book);
         assert_eq!((book.len(), version.longest_image()), (longest, longest));
         assert_eq!(calls::check(&book), (0, 0));

@@ -42,6 +42,7 @@ fn the_other_side_of_the_square() {
 #[test]
 fn both_rows_are_stored_the_second_right_after_the_first() {
     let book = open_both(&new_book(OPEN_PLAN, &square()), 9, 0, 3, 5);
+    let book = stored(Version::Two, &book);
     assert_eq!((book[4], book[12], book[14]), (2, 2, 4));
     let rows = [[0, 9, 1, 5, 2, 0, 1, 3, 0, 0, 0, 1], [0, 9, 2, 5, 2, 0, 2, 3, 0, 1, 0, 2]];
     assert_eq!(book[16 + 32..], rows.concat());
@@ -153,7 +154,7 @@ fn the_order_of_7_17_18_8_9() {
 fn an_older_book_is_changed_into_the_newest_version() {
     let older = stored(Version::One, &opened(&new_book(OPEN_PLAN, &square()), 3, 0, 1, 5));
     let book = open_both(&older, 9, 0, 3, 5);
-    assert_eq!((older[4], book[4]), (1, 2));
+    assert_eq!((older[4], book[4]), (1, Version::NEWEST as u8));
     assert_eq!(stream(&book, 3), stream(&older, 3));
     // A buffer for the longest book of the older version is too short.
     let room = Version::One.longest_image();

@@ -1,7 +1,7 @@
 """Words and refusals: each is said in full, by its number, with the node, id or period that is meant."""
 import os
 
-from tool import ROOT, check, work_out
+from tool import ROOT, check, refusal, work_out
 
 USAGE = {
     "new": "BOOK PLAN",
@@ -95,6 +95,14 @@ def lists(room):
         room.says(0, work_out.routes_json(book, nodes - 1, 0), "routes", name, str(nodes - 1), "0", "--json")
 
 
+def with_rows(image, start, rows):
+    """The image with these rows of nodes in the place of its own."""
+    for node, row in rows:
+        at = start + 8 * node
+        image = image[:at] + row.to_bytes(8, "big") + image[at + 8:]
+    return image
+
+
 def images(room):
     """A book that is none, by every number that a book has."""
     good = room.get("kiln.book")
@@ -102,25 +110,20 @@ def images(room):
     second = good.index(bytes([0, 2, 1, 20, 7]))
     # Stream 5 goes 6 to 7 in slot 4; in slot 2 node 7 sends for stream 1.
     clash = good[:-1] + b"\x02"
-    cases = [(b"", "14: the book is cut short, or not as long as its head says"), (good[:15], "14: the book is cut short, or not as long as its head says"),
-             (good[:-1], "14: the book is cut short, or not as long as its head says"), (good + b"x", "14: the book is cut short, or not as long as its head says"),
-             (good + bytes(100000), "14: the book is cut short, or not as long as its head says"),
-             (b"X" + good[1:], "13: this is no book of version 1 or 2: its mark or its version is wrong"),
-             (good[:4] + b"\x09" + good[5:], "13: this is no book of version 1 or 2: its mark or its version is wrong"),
-             (good[:5] + b"\x21" + good[6:], "10: a number of the plan or of the book's head is out of its range"),
-             (good[:16] + bytes(7) + b"\x03" + good[24:], "11: the links are not sound: a self-link, a one-way link or no such node"),
-             (good[:row + 3] + b"\x03" + good[row + 4:], "15: the rows of the book's streams are not lawful"),
-             (good[:row + 2] + b"\x02" + good[row + 3:], "15: the rows of the book's streams are not lawful"),
-             (good[:second + 1] + b"\x01" + good[second + 2:], "15: the rows of the book's streams are not lawful"),
-             (clash, "16: hops of two routes clash and meet in a slot")]
+    cases = [(b"", 14), (good[:15], 14), (good[:-1], 14), (good + b"x", 14), (good + bytes(100000), 14), (b"X" + good[1:], 13), (good[:4] + b"\x09" + good[5:], 13),
+             (good[:4] + b"\x04" + good[5:], 13), (good[:5] + b"\x21" + good[6:], 10), (good[:16] + bytes(7) + b"\x03" + good[24:], 11),
+             (good[:row + 3] + b"\x03" + good[row + 4:], 15), (good[:row + 2] + b"\x02" + good[row + 3:], 15), (good[:second + 1] + b"\x01" + good[second + 2:], 15)]
+    # The hearing of 8 nodes stands behind their links: node 0 hears itself, hears 2 alone, hears node 8, and it and 1 do not hear each other.
+    heard = [[(0, 3)], [(0, 6)], [(0, 0x102)], [(0, 0), (1, 4)]]
+    cases += [(with_rows(good, 16 + 8 * 8, rows), 11) for rows in heard] + [(clash, 16)]
     room.put("a.list", b"close 1\nopen 8 1 2 5\n")
-    for place, (data, words) in enumerate(cases):
+    for place, (data, number) in enumerate(cases):
         room.put("bad.book", data)
-        line = "refused %s (bad.book)\n" % words
+        line = "refused %s (bad.book)\n" % refusal(number)
         room.says(1, line, "check", "bad.book")
         command = [["open", "bad.book", "8", "1", "2", "5"], ["close", "bad.book", "1"], ["show", "bad.book"], ["table", "bad.book"],
                    ["post", "bad.book", "a.list"], ["balance", "bad.book", "1"], ["quote", "bad.book", "1", "2"], ["routes", "bad.book", "1", "2"], ["replan", "bad.book", "kiln.plan", "n.book"], ["page", "bad.book"]]
-        for words in command if place in (2, 12) else command[place % 9:place % 9 + 1]:
+        for words in command if place in (2, len(cases) - 1) else command[place % 9:place % 9 + 1]:
             room.says(1, line, *words)
         check(room.get("bad.book") == data, "a book that is none was changed")
     check("n.book" not in room.names(), "replan made a book of one that is none")
@@ -151,7 +154,7 @@ def usage(room):
     room.says(2, "usage: lindurask show %s\n" % USAGE["show"], "show", "kiln.book", "--stream")
     check(room.run("help").out == room.run("--help").out == room.run("-h").out == room.run("help", "help").out, "the ways to ask for help differ")
     version = [line.split('"')[1] for line in open(os.path.join(ROOT, "cli/Cargo.toml")) if line.startswith("version")][0]
-    room.says(0, "lindurask %s, books of version 2\n" % version, "--version")
+    room.says(0, "lindurask %s, books of version 3\n" % version, "--version")
     for word in ["Second", "2", "", "--second", "second second"]:
         room.says(2, "usage: lindurask open %s\n" % USAGE["open"], "open", "pond.book", "8", "4", "9", "20", word)
 

@@ -18,12 +18,15 @@ def plan(dice):
     links |= {(a, a + 1) for a in range(nodes - 1) if dice.random() < 0.9}
     lines = ["slots %d" % slots, "tiles " + " ".join("down" if k else "up" for k in kinds), "control %d %d" % (down, up), "nodes %d" % nodes]
     lines += ["link %d %d" % dice.choice([(a, b), (b, a)]) for a, b in links]
+    # Some pairs that hear each other, be they linked or not.
+    heard = {tuple(sorted(dice.sample(range(nodes), 2))) for _ in range(dice.choice([0, 1, nodes]))}
+    lines += ["hear %d %d" % dice.choice([(a, b), (b, a)]) for a, b in heard]
     dice.shuffle(lines)
     rows = [0] * nodes
     for a, b in links:
         rows[a] |= 1 << b
         rows[b] |= 1 << a
-    return "\n".join(lines), work_out.Book(slots, kinds, down, up, rows, [])
+    return "\n".join(lines), work_out.Book(slots, kinds, down, up, rows, [], heard=heard)
 
 
 def changed(room, name, book, dice):
@@ -81,8 +84,8 @@ def site(turn):
         said = room.run("new", "a.book", "a.plan")
         check(said.status == 0 and said.out == "made: " + work_out.counts(book) and room.get("a.book") == book.image(), "new: %s\n%s" % (said.all, text))
         if turn % 2:
-            # A book of version 1 is changed into the newest.
-            book = book.in_version(1)
+            # A book of an older version, which knows no hearing beside the links, is changed into the newest.
+            book = book.but(heard=[], version=1 + turn // 2 % 2)
             room.put("a.book", book.image())
         book = changed(room, "a.book", book, dice)
         read(room, "a.book", book, dice)

@@ -1,13 +1,14 @@
 """Two books compared: the same one twice, both ways round, files that are no books, and books made by chance."""
+import itertools
 import json
 import os
 import random
 
 import chance
 import tool
-from tool import check, work_out
+from tool import check, refusal, work_out
 
-SITES, PAIRS = 14, 8
+SITES, PAIRS = 10, 8
 SAME = "the books are the same\n"
 
 
@@ -18,15 +19,16 @@ def twice(room):
         room.put("copy.book", room.get(name + ".book"))
         for other in [name + ".book", "copy.book", "./" + name + ".book"] + ["link.book"] * (name == "kiln"):
             room.says(0, SAME, "diff", name + ".book", other)
-            room.says(0, '{"same":true,"version":null,"plan":null,"nodes":null,"links":null,"streams":[],"air":null}\n', "diff", other, name + ".book", "--json")
-    room.says(0, "the same book in versions 2 and 1: the air is the same\n", "diff", "kiln.book", "old.book")
-    room.says(0, "the same book in versions 1 and 2: the air is the same\n", "diff", "old.book", "kiln.book")
-    room.says(0, SAME, "diff", "old.book", "old.book")
+            room.says(0, '{"same":true,"version":null,"plan":null,"nodes":null,"links":null,"heard":null,"streams":[],"air":null}\n', "diff", other, name + ".book", "--json")
+    versions = {"old.book": 1, "older.book": 2, "kiln.book": 3}
+    for one, other in itertools.product(versions, versions):
+        same = "the same book in versions %d and %d: the air is the same\n" % (versions[one], versions[other])
+        room.says(0, SAME if one == other else same, "diff", one, other)
 
 
 def turned(said):
     """What is said of two books, of the second and the first."""
-    for name in ["version", "plan", "nodes", "links"]:
+    for name in ["version", "plan", "nodes", "links", "heard"]:
         said[name] = said[name] and said[name][::-1]
     for stream in said["streams"]:
         stream["books"].reverse()
@@ -36,9 +38,9 @@ def turned(said):
 
 
 def both_ways(room):
-    """Which book comes first changes the sides and nothing else."""
-    names = ["kiln.book", "yard.book", "pond.book", *work_out.others()]
-    found = [(one, other) for one in names for other in names if one < other]
+    """Which book comes first changes the sides and nothing else: each book beside the next two."""
+    names = sorted(["kiln.book", "pond.book", "ridge.book", *(name for name in work_out.others() if name not in ("older.book", "deaf.book"))])
+    found = [(one, names[place]) for at, one in enumerate(names) for place in range(at + 1, min(at + 3, len(names)))]
 
     def sides(pair):
         said, back = room.run("diff", *pair, "--json"), room.run("diff", *pair[::-1], "--json")
@@ -54,22 +56,17 @@ def refused(room):
     """An image that is refused is a file that failed, as the first book and as the second; the first is named where both are."""
     good = room.get("kiln.book")
     row = good.index(bytes([0, 1, 1, 10, 7]))
-    cases = [(b"", "14: the book is cut short, or not as long as its head says"), (good[:-1], "14: the book is cut short, or not as long as its head says"),
-             (b"X" + good[1:], "13: this is no book of version 1 or 2: its mark or its version is wrong"),
-             (good[:5] + b"\x21" + good[6:], "10: a number of the plan or of the book's head is out of its range"),
-             (good[:16] + bytes(7) + b"\x03" + good[24:], "11: the links are not sound: a self-link, a one-way link or no such node"),
-             (good[:row + 3] + b"\x03" + good[row + 4:], "15: the rows of the book's streams are not lawful"),
-             (good[:-1] + b"\x02", "16: hops of two routes clash and meet in a slot")]
-    for data, words in cases:
+    cases = [(b"", 14), (good[:-1], 14), (b"X" + good[1:], 13), (good[:5] + b"\x21" + good[6:], 10), (good[:16] + bytes(7) + b"\x03" + good[24:], 11),
+             (good[:80] + bytes(8) + good[88:], 11), (good[:row + 3] + b"\x03" + good[row + 4:], 15), (good[:-1] + b"\x02", 16)]
+    for data, number in cases:
         room.put("bad.book", data)
         room.put("worse.book", data)
-        line = "refused %s (bad.book)\n" % words
+        line = "refused %s (bad.book)\n" % refusal(number)
         for pair in [["bad.book", "kiln.book"], ["kiln.book", "bad.book"], ["bad.book", "bad.book"], ["bad.book", "worse.book"], ["bad.book", "none.book"]]:
             said = room.run("diff", *pair)
             check((said.status, said.out, said.err) == (2, "", line), "diff %s: %d %s" % (pair, said.status, said.all))
-        number, meaning = words.split(": ", 1)
         said = room.run("diff", "kiln.book", "bad.book", "--json")
-        want = work_out.in_json({"refused": int(number), "words": meaning, "about": "bad.book"})
+        want = work_out.in_json({"refused": number, "words": work_out.WORDS[number], "about": "bad.book"})
         check((said.status, said.out, said.err) == (2, want, ""), "diff --json with a book that is none: %d %s" % (said.status, said.all))
         check(room.get("bad.book") == data, "a book that is none was changed")
 
@@ -139,6 +136,12 @@ def linked(dice, book):
     return book.but(rows=rows)
 
 
+def heard(dice, book):
+    """The book with a pair more or less that hears itself without a link."""
+    pair = tuple(sorted(dice.sample(range(book.n), 2)))
+    return book.but(heard=set(book.heard) ^ {pair}, version=work_out.NEWEST)
+
+
 def planned(dice, book):
     """The book with another plan."""
     kinds = [dice.random() < 0.5 for _ in range(dice.choice([1, 2, 4, 5, 10]))]
@@ -148,10 +151,10 @@ def planned(dice, book):
 def other(dice, book):
     """A book that differs from this one somehow, or not at all."""
     second = [w for w in book.ways if w.number == 2]
-    changes = [lambda: grown(dice, book, dice.randint(1, 3)), lambda: linked(dice, book), lambda: planned(dice, book), lambda: book.but(rows=book.rows + [0]),
+    changes = [lambda: grown(dice, book, dice.randint(1, 3)), lambda: linked(dice, book), lambda: heard(dice, book), lambda: planned(dice, book), lambda: book.but(rows=book.rows + [0]),
                lambda: later(dice, book), lambda: grown(dice, chance.plan(dice)[1], 6)]
     changes += [lambda: moved(dice, book), lambda: renamed(dice, book)] * bool(book.ways)
-    changes.append((lambda: book.but(ways=[w for w in book.ways if w is not second[0]])) if second else (lambda: book.in_version(1)))
+    changes.append((lambda: book.but(ways=[w for w in book.ways if w is not second[0]])) if second else (lambda: book.but(heard=[], version=dice.choice([1, 2]))))
     return dice.choice(changes)()
 
 

@@ -70,11 +70,13 @@ def documents(room, usages, refusals):
         check("\n| %s | %s |" % (number, words) in answers, "docs/answers.md has other words for %s" % number)
     check(room.run("show", "kiln.book").out in readme, "README.md shows another picture of books/kiln.book")
     room.put("line.plan", re.search(r"```\n(slots 4 .*?)```", readme, re.S).group(1).encode())
+    more = re.search(r"```\n(hear .*?)```", readme, re.S).group(1).encode()
+    room.put("heard.plan", room.get("line.plan") + more)
     room.put("month.list", re.search(r"```\n(close 1\n.*?)```", readme, re.S).group(1).encode())
     room.put("my.book", room.get("pond.book"))
     os.symlink(".", room.at("books"))
     dialogues = re.findall(r"```\n(\$ ./lindurask .*?)```", readme, re.S)
-    check(len(dialogues) == 5, "README.md has %d dialogues" % len(dialogues))
+    check(len(dialogues) == 6, "README.md has %d dialogues" % len(dialogues))
     for part in "".join(dialogues).split("$ ./lindurask ")[1:]:
         words, said = part.split("\n", 1)
         got = room.run(*words.split()).all

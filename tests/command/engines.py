@@ -6,8 +6,8 @@ import subprocess
 import tool
 from tool import check
 
-# Answers each call with what the mode says; a call's room stands in bytes 16 and 17, its bytes in 14 and 15, and those of its
-# records, which have 11 each, in 40 and 41.
+# Answers each call with what the mode says; a call's room stands in bytes 16 and 17, its bytes in 14 and 15, those of its
+# hearing in 38 and 39, and those of its records, which have 11 each, in 40 and 41.
 FAKE = r'''#!/usr/bin/env python3
 import os, sys
 mode = sys.argv[0].rsplit("-", 1)[1]
@@ -17,6 +17,7 @@ while True:
     if len(head) < 44 or head[0] == 255:
         break
     data = read(int.from_bytes(head[14:16], "big"))
+    hearing = read(int.from_bytes(head[38:40], "big"))
     records = read(int.from_bytes(head[40:42], "big"))
     room = int.from_bytes(head[16:18], "big")
     number, counts, out = 0, [0, 0, 0], bytes([head[18]]) * room
@@ -159,10 +160,19 @@ def postings(room, engines):
     for data in [b"open 9 1 2 5\n", b"open 5 6 7 2\n", one + b"close 5\n", b"close 5\n" + one, b"close 5\n", b"close 200\n", one * 2, one * 65, one + b"close 8\n" + one + one]:
         posted("good", data, "opened another stream" if data == b"open 9 1 2 5\n" else wrong)
     posted("fickle", one + b"close 8\n", wrong)
+    hearing(room, engines, posted)
     engine = program(engines, "engine-good", FAKE.encode())
     got = room.run("post", "kiln.book", "a.list", "--dry-run", env={"LINDURASK_ENGINE": os.fsdecode(engine)})
     book = tool.work_out.Book.read(room.get("kiln.book"))
     check((got.status, got.all) == (0, tool.work_out.post(book, one.decode(), True)[0]), "post with the right answer: %s" % got.all)
+
+
+def hearing(room, engines, posted):
+    """The stream that was asked for, in a book whose nodes hear others than before."""
+    right = engines.get("new.image")
+    engines.put("new.image", tool.work_out.Book.read(right).but(heard=[(0, 5)]).image())
+    posted("good", b"open 8 1 2 5\n", "says what is no answer; nothing is changed")
+    engines.put("new.image", right)
 
 
 def called_lawful(room, engines):
@@ -177,7 +187,9 @@ def called_lawful(room, engines):
     second = pond.index(bytes([0, 1, 2, 10, 5]))
     unsound = {"a second route of another period": (second + 3, 20), "a second route to another end": (second + 10, 1), "two first routes": (second + 2, 1)}
     cases.update((what, pond[:at] + bytes([byte]) + pond[at + 1:]) for what, (at, byte) in unsound.items())
-    others = [b"", b"SLB", book[:40], b"SLB\0\1" + bytes(11), b"SLB\0\2" + b"\xff" * 4000, bytes(4096), book[:12] + b"\x40" + book[13:]]
+    # The last are without a row of streams, and end behind the links or inside the hearing.
+    rows = [book[:12] + bytes(4) + book[16:end] for end in (16 + 8 * 8, 16 + 16 * 8 - 1)]
+    others = [b"", b"SLB", book[:40], b"SLB\0\1" + bytes(11), b"SLB\0\2" + b"\xff" * 4000, b"SLB\0\3" + b"\xff" * 4001, bytes(4096), book[:12] + b"\x40" + book[13:], *rows]
     cases.update(("%d bytes" % len(data), data) for data in others)
     for what, data in cases.items():
         room.put("odd.book", data)

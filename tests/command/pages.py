@@ -1,4 +1,5 @@
 """The page: whole for one book; for every book each stream, node, hop and tile as worked out; made safely, under any name."""
+import math
 import os
 import random
 import re
@@ -122,6 +123,41 @@ def arrows(book):
             yield from ("Node %d to node %d: %s, offset %d" % (a, b, called(way), offset) for way, offset in there)
 
 
+def nodes(book):
+    """What the nodes of the graph say: their links, and whom they hear without one."""
+    for a in range(book.n):
+        linked, heard = ([str(b) for b in found] for found in [[b for b in range(book.n) if book.linked(a, b)], book.heard_by(a)])
+        yield "Node %d, linked to %s" % (a, ", ".join(linked) or "no node") + ("; hears %s without a link" % ", ".join(heard) if heard else "")
+
+
+def arcs(book):
+    """What the arcs of the graph say: one for each pair that hears itself without a link."""
+    return ["Nodes %d and %d hear each other without a link" % pair for pair in book.heard]
+
+
+def joined(what, text, book):
+    """By their places the straight lines join exactly the linked nodes, and the arcs those that hear each other without a link."""
+    graph = text.split('<svg class="graph"', 1)[1].split("</svg>", 1)[0]
+    spots = re.findall(r'<g class="node"><title>Node (\d+),[^<]*</title><circle cx="([^"]+)" cy="([^"]+)"', graph)
+    node = {(x, y): int(number) for number, x, y in spots}
+    check(len(node) == book.n, "%s: nodes in one place" % what)
+    place = r"(-?[\d.]+) (-?[\d.]+)"
+    lines = re.findall("M%sL%s" % (place, place), re.search(r'<path class="link" d="([^"]*)"', graph).group(1))
+    curves = [re.fullmatch("M%sQ%s %s" % (place, place, place), path).groups() for path in re.findall(r'<path class="heard" d="([^"]*)"', graph)]
+    found = [sorted(tuple(sorted([node.get((x, y)), node.get((u, v))])) for x, y, *_, u, v in drawn) for drawn in [lines, curves]]
+    check(found == [work_out.pairs(book), book.heard], "%s: the lines and arcs of the graph: %s" % (what, found))
+    # An arc bows off the straight line between its nodes, and the whole graph has room for it.
+    width, height = map(float, re.search(r'viewBox="0 0 (\S+) (\S+)"', graph).groups())
+    for curve in curves:
+        x, y, p, q, u, v = map(float, curve)
+        off = abs((u - x) * (q - y) - (v - y) * (p - x)) / math.hypot(u - x, v - y)
+        middle = (x + 2 * p + u) / 4, (y + 2 * q + v) / 4
+        check(off > 10 and 0 <= middle[0] <= width and 0 <= middle[1] <= height, "%s: the arc %s" % (what, curve))
+    said = ["%s heard without a link" % work_out.many(len(book.heard), "pair"), "A thin dashed arc joins two nodes that hear each other without a link",
+            "Heard without a link: %s." % ", ".join("%d–%d" % pair for pair in book.heard)]
+    check([text.count(words) for words in said] == ([2, 1, 1] if book.heard else [0] * 3), "%s: what is said of hearing" % what)
+
+
 def dashed(what, text, book):
     """Second routes are dashed, and no other; of a stream with one it is said that it survives."""
     second = [way for way in book.ways if way.number == 2]
@@ -147,14 +183,14 @@ def hold(what, text, book, title):
     check(page.rows["balances"][1:] == balances, "%s: the balances: %s" % (what, page.rows["balances"]))
     bars = ["%s used, %d free" % (work_out.many(used, "slot"), free) for _, used, free in map(book.balance, range(book.n))]
     check([label for label in page.labels if label.endswith(" free")] == bars, "%s: the bars" % what)
-    nodes = ["Node %d, linked to %s" % (a, ", ".join(str(b) for b in range(book.n) if book.linked(a, b)) or "no node") for a in range(book.n)]
-    want = sorted(nodes + list(arrows(book)) + list(hops(book)))
+    want = sorted(list(nodes(book)) + list(arcs(book)) + list(arrows(book)) + list(hops(book)))
     check(sorted(page.titles[1:]) == want, "%s: nodes, arrows and hops: %s" % (what, set(page.titles[1:]) ^ set(want)))
     routes = ["Route of " + "; ".join("%s: nodes %s" % (called(way), ", ".join(map(str, way.nodes))) for way in ways) for ways in book.streams()]
     check([label for label in page.labels if label.startswith("Route of ")] == routes, "%s: the routes" % what)
     drawn = [label for label in page.labels if label.startswith("Tile ")]
     check(drawn == list(tiles(book)), "%s: the tiles: %s" % (what, set(drawn) ^ set(tiles(book))))
     dashed(what, text, book)
+    joined(what, text, book)
 
 
 def samples(room):

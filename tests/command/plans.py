@@ -1,7 +1,8 @@
 """Plans as people type them: what is wrong, and in which line."""
-from tool import check
+from tool import check, work_out
 
 GOOD = ["slots 4", "tiles up", "control 0 1", "nodes 4", "link 0 1", "link 1 2", "link 2 3"]
+STARTS = "a line starts with slots, tiles, control, nodes, link or hear"
 MADE = "made: %d nodes, 0 streams of at most 64, 0 hops of at most 512\n"
 
 
@@ -28,16 +29,23 @@ def judged(room):
         shown = min(int(node), 2 ** 64 - 1)
         refused(11, "the site has no node %d; they count from 0 to 3" % shown, 8, *GOOD, "link 0 " + node)
         refused(11, "the site has no node %d; they count from 0 to 3" % shown, 9, *GOOD, "link 0 3", "link %s 1" % node)
+        refused(11, "the site has no node %d; they count from 0 to 3" % shown, 8, *GOOD, "hear 0 " + node)
+        refused(11, "the site has no node %d; they count from 0 to 3" % shown, 9, *GOOD, "hear 0 3", "hear %s 1" % node)
     refused(11, "the site has no node 64; they count from 0 to 63", 5, *GOOD[:3], "nodes 64", "link 3 64")
     refused(11, "no node links to itself (node 2)", 8, *GOOD, "link 2 2")
     refused(11, "no node links to itself (node 0)", 5, *GOOD[:4], "link 0 0")
+    refused(11, "the site has no node 64; they count from 0 to 63", 5, *GOOD[:3], "nodes 64", "hear 3 64")
+    refused(11, "no node hears itself (node 2)", 8, *GOOD, "hear 2 2")
+    # Of two lines that are wrong the first is named, be it a link or not.
+    refused(11, "no node hears itself (node 1)", 8, *GOOD, "hear 1 1", "link 2 2")
+    refused(11, "no node links to itself (node 2)", 8, *GOOD, "link 2 2", "hear 1 1")
 
 
 def not_understood(room):
     def wrong(words, line, *lines):
         bad(room, 2, "bad.plan, line %d: %s" % (line, words), *lines)
-    wrong("a line starts with slots, tiles, control, nodes or link", 1, "slot 4")
-    wrong("a line starts with slots, tiles, control, nodes or link", 8, *GOOD, "\x00")
+    wrong(STARTS, 1, "slot 4")
+    wrong(STARTS, 8, *GOOD, "\x00")
     wrong("write slots and one number, as in: slots 4", 3, "# a comment", "", "slots four")
     wrong("write slots and one number, as in: slots 4", 1, "slots 4 5")
     wrong("write slots and one number, as in: slots 4", 1, "slots -4")
@@ -46,6 +54,9 @@ def not_understood(room):
     wrong("write nodes and one number, as in: nodes 4", 1, "nodes")
     wrong("write link and two nodes, as in: link 0 1", 1, "link 0")
     wrong("write link and two nodes, as in: link 0 1", 1, "link 0 1 2")
+    for line in ["hear", "hear 0", "hear 0 1 2", "hear 0 -2", "hear 0 two"]:
+        wrong("write hear and two nodes, as in: hear 0 2", 8, *GOOD, line)
+    wrong(STARTS, 8, *GOOD, "hears 0 2")
     for line in GOOD[:4]:
         wrong("this was said in line %d before" % (GOOD.index(line) + 1), 8, *GOOD, line)
     for place, name in enumerate(["slots", "tiles", "control", "nodes"]):
@@ -66,7 +77,7 @@ def understood(room):
     ways = {"as it is": plan, "a byte-order mark": b"\xef\xbb\xbf" + plan, "CRLF": plan.replace(b"\n", b"\r\n"),
             "tabs": plan.replace(b" ", b"\t \t"), "no last newline": plan.rstrip(b"\n"), "blanks": b"  \n" + plan.replace(b"\n", b"  \n\n"),
             "all three": b"\xef\xbb\xbf" + plan.replace(b" ", b"\t").replace(b"\n", b"\r\n"),
-            "links first": b"".join(sorted(plan.splitlines(True))), "a link twice": plan + b"link 1 0\n",
+            "links first": b"".join(sorted(plan.splitlines(True))), "a link twice": plan + b"link 1 0\n", "a link that is heard": plan + b"hear 1 0\nhear 6 7\n",
             "long words": plan.replace(b"down", b"downlink").replace(b" up", b" uplink"), "filled up": plan + b"#" * (65535 - len(plan))}
     for place, (what, data) in enumerate(ways.items()):
         room.put("way.plan", data)
@@ -74,6 +85,7 @@ def understood(room):
         check(room.get("way%d.book" % place) == room.empty, "a plan with %s" % what)
         said = room.run("new", "piped%d.book" % place, "-", data=data)
         check(said.status == 0 and room.get("piped%d.book" % place) == room.empty, "a plan from standard input with %s" % what)
+    heard(room, plan)
     room.put("lone.plan", b"slots 4\ntiles up\ncontrol 0 1\nnodes 4\nlink 1 2\n")
     warning = "lindurask: warning: node %d has no link\n"
     room.says(0, MADE % 4 + warning % 0 + warning % 3, "new", "lone.book", "lone.plan")
@@ -82,6 +94,18 @@ def understood(room):
     room.put("bare.plan", b"slots 1\ntiles down\ncontrol 1 1\nnodes 2\n")
     room.says(0, MADE % 2 + warning % 0 + warning % 1, "new", "bare.book", "bare.plan")
     check("\nLinks\n  none\n" in room.run("show", "bare.book").out, "a book without links")
+
+
+def heard(room, plan):
+    """However two nodes are said to hear each other, and how often, the book says it both ways, and links stay as they are."""
+    want = work_out.plan_book("kiln").but(heard=[(0, 2), (3, 7)])
+    check(want.image() != room.empty and want.rows == work_out.plan_book("kiln").rows, "a hearing beside the links")
+    ways = [b"hear 0 2\nhear 3 7\n", b"hear 2 0\nhear 7 3\n", b"hear 3 7\nhear 0 2\nhear 2 0\nhear 3 7\n", b"hear 0 2\nhear 0 1\nhear 7 3 # a comment\n"]
+    for place, lines in enumerate(ways):
+        for text in [plan + lines, lines + plan]:
+            name = "heard%d%d.book" % (place, text == plan + lines)
+            room.says(0, MADE % 8, "new", name, "-", data=text)
+            check(room.get(name) == want.image(), "a plan with %r" % lines)
 
 
 def test(room):

@@ -6,7 +6,7 @@ import subprocess
 
 import chance
 import tool
-from tool import check, work_out
+from tool import check, refusal, work_out
 
 STARTS = "a line starts with open or close"
 OPEN = "write open, an id, two nodes and a period, as in: open 7 3 0 10, or open 7 3 0 10 second"
@@ -170,24 +170,22 @@ def dry(room):
 
 
 def refused(room):
-    """A list of which none is done leaves the file as it is, be it of version 1; so does a book that is none."""
+    """A list of which none is done leaves the file as it is, be it of an older version; so does a book that is none."""
     text = work_out.lists()["refused.list"]
     room.put("refused.list", text.encode())
-    for version in [1, 2]:
+    for version in [1, 2, 3]:
         book = work_out.sample("kiln").in_version(version)
         room.put("own.book", book.image())
         before = look(room, "own.book")
         room.says(1, work_out.post(book, text)[0], "post", "own.book", "refused.list")
         check(look(room, "own.book") == before, "a list of which none was done changed the book")
     good = room.get("kiln.book")
-    for data, words in [(b"", "14: the book is cut short, or not as long as its head says"), (b"X" + good[1:], "13: this is no book of version 1 or 2: its mark or its version is wrong"),
-                        (good[:5] + b"\x21" + good[6:], "10: a number of the plan or of the book's head is out of its range"),
-                        (good[:16] + bytes(7) + b"\x03" + good[24:], "11: the links are not sound: a self-link, a one-way link or no such node"),
-                        (good[:-1] + b"\x02", "16: hops of two routes clash and meet in a slot"), (good + bytes(5000), "14: the book is cut short, or not as long as its head says")]:
+    for data, number in [(b"", 14), (b"X" + good[1:], 13), (good[:5] + b"\x21" + good[6:], 10), (good[:16] + bytes(7) + b"\x03" + good[24:], 11),
+                         (good[:80] + bytes(8) + good[88:], 11), (good[:-1] + b"\x02", 16), (good + bytes(5000), 14)]:
         room.put("bad.book", data)
         for listed in ["refused.list", "-"]:
-            room.says(1, "refused %s (bad.book)\n" % words, "post", "bad.book", listed)
-            room.says(1, "refused %s (bad.book)\n" % words, "post", "bad.book", listed, "--dry-run")
+            room.says(1, "refused %s (bad.book)\n" % refusal(number), "post", "bad.book", listed)
+            room.says(1, "refused %s (bad.book)\n" % refusal(number), "post", "bad.book", listed, "--dry-run")
         check(room.get("bad.book") == data, "a book that is none was changed")
 
 
@@ -258,7 +256,7 @@ def site(turn):
         book = chance.plan(dice)[1]
         for count in [0, 1, REQUESTS, 64]:
             if turn % 2:
-                book = book.in_version(1) if all(w.number == 1 for w in book.ways) else book
+                book = book.but(heard=[], version=1) if all(w.number == 1 for w in book.ways) else book
             text = some(dice, book, count)
             for name in ["own.book", "single.book"]:
                 room.put(name, book.image())

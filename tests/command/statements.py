@@ -15,7 +15,7 @@ VARIABLE = "LINDURASK_STATEMENT"
 
 def every_pair(room):
     """Every two of the books, both ways round, in one statement."""
-    books = dict(work_out.others(), **{name + ".book": work_out.sample(name) for name in ["kiln", "pond"]})
+    books = dict(work_out.others(), **{name + ".book": work_out.sample(name) for name in ["kiln", "pond", "ridge"]})
     pairs = list(itertools.product(books, books))
     words = [name for pair in pairs for name in pair]
     known = {name: Known(book) for name, book in books.items()}
@@ -29,7 +29,7 @@ class Known(work_out.Book):
     """A book whose balances are worked out once."""
 
     def __init__(self, book):
-        super().__init__(book.s, book.kinds, book.d, book.u, book.rows, book.ways, book.version)
+        super().__init__(book.s, book.kinds, book.d, book.u, book.rows, book.ways, book.version, book.heard)
         self.balances = [book.balance(v) for v in range(book.n)]
 
     def balance(self, node):
@@ -41,7 +41,7 @@ def refused(room):
     good, kiln, pond = room.get("kiln.book"), work_out.sample("kiln"), work_out.sample("pond")
     row = good.index(bytes([0, 1, 1, 10, 7]))
     cases = [(b"", 14), (good[:-1], 14), (good + b"x", 14), (good + bytes(65535 - len(good)), 14), (b"X" + good[1:], 13), (good[:5] + b"\x21" + good[6:], 10),
-             (good[:16] + bytes(7) + b"\x03" + good[24:], 11), (good[:row + 3] + b"\x03" + good[row + 4:], 15), (good[:-1] + b"\x02", 16)]
+             (good[:16] + bytes(7) + b"\x03" + good[24:], 11), (good[:80] + bytes(8) + good[88:], 11), (good[:row + 3] + b"\x03" + good[row + 4:], 15), (good[:-1] + b"\x02", 16)]
     for data, number in cases:
         room.put("bad.book", data)
         for names, books in [(["bad.book", "kiln.book"], (number, kiln)), (["kiln.book", "bad.book"], (kiln, number)), (["bad.book", "bad.book"], (number, number))]:

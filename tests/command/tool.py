@@ -11,8 +11,6 @@ ROOT = os.path.dirname(os.path.dirname(os.path.dirname(os.path.abspath(__file__)
 TOOL = os.environ.get("LINDURASK_TOOL", os.path.join(ROOT, "cli/target/release/lindurask"))
 BOOKS = os.path.join(ROOT, "books")
 STORED = os.path.join(ROOT, "tests/stored/command_line")
-# The sample books.
-SAMPLES = ["kiln", "yard", "site", "pond"]
 passed = failed = 0
 
 
@@ -25,6 +23,13 @@ def loaded(name, path):
 
 # Documents 01 and 02 worked out by themselves.
 work_out = loaded("work_out", os.path.join(STORED, "work_out"))
+# The sample books.
+SAMPLES = work_out.SAMPLES
+
+
+def refusal(number):
+    """The number of a refusal and its words."""
+    return "%d: %s" % (number, work_out.WORDS[number])
 
 
 def check(holds, what):

@@ -3,7 +3,7 @@
 use super::{Command, Report};
 use crate::book::{Book, Stream};
 use crate::colour::Colour;
-use crate::describe;
+use crate::describe::{self, HEARD};
 use crate::difference::{in_stream, Difference, Differs, Pair, Seen};
 use crate::json;
 use crate::loaded::{unreadable, Loaded};
@@ -21,13 +21,14 @@ pub const DIFF: Command = Command {
     choices: &[JSON],
     summary: "say where two books differ",
     explains: "\
-Says what differs between two books: version, plan, nodes, links and streams,
-and the first slot and node where the air would show it, with what the node does
-there by each book. What the first book has stands behind <, what the second has
-behind >; tiles, slots and nodes are counted from 0. The nodes that both books
-have are compared, slot by slot in each tile. Two books that differ in nothing
-but their version are the same. The exit status is 0 where the books are the
-same, 1 where they differ, and 2 where one is no lawful book or cannot be read.",
+Says what differs between two books: version, plan, nodes, links, pairs that
+hear each other without a link, and streams, and the first slot and node where
+the air would show it, with what the node does there by each book. What the
+first book has stands behind <, what the second has behind >; tiles, slots and
+nodes are counted from 0. The nodes that both books have are compared, slot by
+slot in each tile. Two books that differ in nothing but their version are the
+same. The exit status is 0 where the books are the same, 1 where they differ,
+and 2 where one is no lawful book or cannot be read.",
     example: "lindurask diff sold.book kiln.book",
     run,
 };
@@ -59,13 +60,13 @@ fn number(title: &str, numbers: Option<Pair<u16>>) -> String {
     words.map_or(String::new(), |words| section(title, &both(&("", words))))
 }
 
-fn links(links: &Pair<Vec<(usize, usize)>>) -> String {
-    let list = |(mark, links): (&str, &Vec<(usize, usize)>)| {
-        let pairs = links.iter().map(|(a, b)| format!("{a}-{b}"));
-        let lines = if links.is_empty() { String::new() } else { row(" ", pairs) };
-        section(&format!("Links in {mark} alone"), &lines)
+/// The pairs of nodes that each book has alone.
+fn pairs(title: &str, pairs: &Pair<Vec<(usize, usize)>>) -> String {
+    let list = |(mark, own): (&str, &Vec<(usize, usize)>)| {
+        let lines = if own.is_empty() { String::new() } else { describe::pairs(own) };
+        section(&format!("{title} in {mark} alone"), &lines)
     };
-    MARKS.into_iter().zip(links).map(list).collect()
+    MARKS.into_iter().zip(pairs).map(list).collect()
 }
 
 /// The streams that one book has alone, then those of both that differ.
@@ -134,7 +135,8 @@ fn text(difference: &Difference, paths: Pair<&Path>) -> String {
         + &number("Version", version)
         + &section("Plan", &difference.plan.iter().map(both).collect::<String>())
         + &number("Nodes", difference.unequal(|book| book.nodes().into()))
-        + &links(&difference.links)
+        + &pairs("Links", &difference.links)
+        + &pairs(HEARD, &difference.heard)
         + &streams(&difference.streams)
         + &air(difference)
 }
@@ -142,6 +144,12 @@ fn text(difference: &Difference, paths: Pair<&Path>) -> String {
 /// A value of each book, or null where they have the same.
 fn pair<T>(values: Option<Pair<T>>, said: fn(T) -> String) -> String {
     values.map_or("null".into(), |values| json::array(values.map(said)))
+}
+
+/// The pairs of nodes that each book has alone, or null where they have the same.
+fn pairs_in_json(pairs: &Pair<Vec<(usize, usize)>>) -> String {
+    let alone = Some(pairs.each_ref()).filter(|pairs| pairs.iter().any(|own| !own.is_empty()));
+    pair(alone, |own| json::pairs(own))
 }
 
 /// A stream that is not the same in both, in JSON.
@@ -172,16 +180,13 @@ fn air_in_json(seen: &Seen) -> String {
 
 fn in_json(difference: &Difference) -> String {
     let plan = Some(difference.books).filter(|_| !difference.plan.is_empty());
-    let links = Some(difference.links.each_ref());
-    let links = links.filter(|links| links.iter().any(|own| !own.is_empty()));
-    let list =
-        |own: &Vec<(usize, usize)>| json::array(own.iter().map(|(a, b)| json::array([a, b])));
     json::answer([
         ("same", difference.is_none().to_string()),
         ("version", pair(difference.unequal(|book| book.version), |version| version.to_string())),
         ("plan", pair(plan, json::plan)),
         ("nodes", pair(difference.unequal(Book::nodes), |nodes| nodes.to_string())),
-        ("links", pair(links, list)),
+        ("links", pairs_in_json(&difference.links)),
+        ("heard", pairs_in_json(&difference.heard)),
         ("streams", json::array(difference.streams.iter().map(stream_in_json))),
         ("air", difference.seen.as_ref().map_or("null".into(), air_in_json)),
     ])

@@ -26,7 +26,11 @@ The plan has a line for each of these; # starts a comment:
   tiles down up    the plan's tiles in turn: 1, 2, 4, 5 or 10 of them
   control 2 1      control slots of a downlink and of an uplink tile
   nodes 4          nodes of the site, 2 to 64, numbered from 0
-  link 0 1         a link; one line for each",
+  link 0 1         a link; one line for each
+  hear 0 2         nodes that hear each other without a link; one line for each
+
+Linked nodes hear each other without a line. A node that receives hears no other
+sender in that slot; streams go over links alone.",
     example: "lindurask new kiln.book kiln.plan",
     run,
 };

@@ -23,7 +23,8 @@ Makes the book NEW from another plan, with the streams of BOOK opened anew in
 the order of their ids, those with a second route with one again. Prints what
 each got, and which no longer has a place. The exit status is 0 where all have a
 place, and 1 where one has none; NEW is made all the same. BOOK is not changed.
-PLAN is a file, or - for standard input.",
+PLAN is a file, or - for standard input. A yard that learns later who hears whom
+adds the hear lines to its plan, and opens its streams anew by it.",
     example: "lindurask replan kiln.book wider.plan wider.book",
     run,
 };

@@ -3,7 +3,7 @@
 use super::{Command, Report};
 use crate::book::{Balance, Book, Stream, CYCLE};
 use crate::colour::Colour;
-use crate::describe::{self, INDENT};
+use crate::describe::{self, HEARD, INDENT};
 use crate::frame;
 use crate::json;
 use crate::loaded::{accepted, Loaded};
@@ -20,14 +20,15 @@ pub const SHOW: Command = Command {
     choices: &[STREAM, NODE, NO_LISTS, JSON],
     summary: "draw a book: plan, links, streams, slots",
     explains: "\
-Draws the book: its plan, its links, its streams with period, routes, offsets
-and latency, and for each node that carries a stream a row of slots. Beside each
-node stands its number of links. Of each stream it says whether it survives the
-loss of any one relay, a node in the middle of a route. The picture starts at
-tile 0, or at TILE, and stops where it repeats or is full; each route has a
-letter of its own. With --stream only that stream and the nodes of its routes
-are shown, with --node only that node and the streams through it, with
---no-lists only the picture.",
+Draws the book: its plan, its links, the pairs of nodes that hear each other
+without a link, its streams with period, routes, offsets and latency, and for
+each node that carries a stream a row of slots. Beside each node stands its
+number of links. Of each stream it says whether it survives the loss of any one
+relay, a node in the middle of a route. The picture starts at tile 0, or at
+TILE, and stops where it repeats or is full; each route has a letter of its own.
+With --stream only that stream and the nodes of its routes are shown, with
+--node only that node and the streams through it, with --no-lists only the
+picture.",
     example: "lindurask show kiln.book --stream 7",
     run,
 };
@@ -98,8 +99,15 @@ fn or_none(lines: String) -> String {
 }
 
 fn links(book: &Book, colour: Colour) -> String {
-    let pairs = book.pairs().into_iter().map(|(a, b)| format!("{a}-{b}"));
-    format!("\n{}\n{}", colour.title("Links"), or_none(row(" ", pairs)))
+    format!("\n{}\n{}", colour.title("Links"), or_none(describe::pairs(&book.pairs())))
+}
+
+/// The pairs that hear each other without a link, where there are any.
+fn heard(book: &Book, colour: Colour) -> String {
+    match book.heard_pairs().as_slice() {
+        [] => String::new(),
+        heard => format!("\n{}\n{}", colour.title(HEARD), describe::pairs(heard)),
+    }
 }
 
 /// The routes of a stream under their letters, and what the loss of a relay is to it.
@@ -144,19 +152,21 @@ impl Nodes {
     }
 }
 
-/// A node's links and balance.
+/// A node's links, what it hears without one, and its balance.
 fn node(book: &Book, node: u8, nodes: &Nodes, colour: Colour) -> String {
     let at = usize::from(node);
     let Balance { data, used, free } = nodes.balances[at];
     let title = colour.title(&format!("Node {node}: {}", count(nodes.links[at], "link")));
     let links = or_none(row("  linked to", book.neighbours(node)));
-    format!("\n{title}\n{links}  data {data}, used {used}, free {free}\n")
+    let heard: Vec<u8> = book.heard_by(node).collect();
+    let heard = if heard.is_empty() { String::new() } else { row("  heard without a link", heard) };
+    format!("\n{title}\n{links}{heard}  data {data}, used {used}, free {free}\n")
 }
 
 /// The lists above the picture.
 fn lists(book: &Book, part: &Part, nodes: &Nodes, colour: Colour) -> String {
     let head = match part {
-        Part::All => plan(book, colour) + &links(book, colour),
+        Part::All => plan(book, colour) + &links(book, colour) + &heard(book, colour),
         Part::Stream(_) => String::new(),
         Part::Node(own) => node(book, *own, nodes, colour),
     };
@@ -178,13 +188,13 @@ fn idle(part: &Part, nodes: &Nodes) -> String {
 }
 
 fn in_json(book: &Book, part: &Part, nodes: &Nodes) -> String {
-    let pairs = book.pairs().into_iter().map(|(a, b)| json::array([a, b]));
     let streams = part.streams(book).map(|(_, stream)| json::stream(stream));
     json::answer([
         ("version", book.version.to_string()),
         ("plan", json::plan(book)),
         ("nodes", book.nodes().to_string()),
-        ("links", json::array(pairs)),
+        ("links", json::pairs(&book.pairs())),
+        ("heard", json::pairs(&book.heard_pairs())),
         ("linked", json::array(&nodes.links)),
         ("streams", json::array(streams)),
     ])

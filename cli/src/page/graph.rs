@@ -1,7 +1,8 @@
-//! The site's graph: nodes, links, and the arrows of the streams beside them.
+//! The site's graph: nodes, links, who hears whom without one, and the arrows of the streams beside the links.
 
 use super::arrows::{arrows, MOST_ARROWS};
 use super::canvas::Canvas;
+use super::heard;
 use super::identity::MARKED;
 use super::layout::Point;
 use super::markup::{joined, scrolling};
@@ -21,13 +22,14 @@ pub fn graph(book: &Book, places: &[Point]) -> String {
     let traffic = traffic(book);
     let canvas = Canvas::new(places, UNIT, MARGIN);
     let nodes = count(places.len(), "node");
-    let links = count(book.pairs().len(), "link");
+    let links = count(book.pairs().len(), "link") + &heard::counted(book);
     let figure = format!(
         "<svg class=\"graph\" style=\"--w:{}px\" {} role=\"img\" aria-label=\"Graph of the site \
          with {nodes} and {links}; the list below names the streams on each link.\">\n\
-         <path class=\"link\" d=\"{}\"/>\n{}{}</svg>\n",
+         {}<path class=\"link\" d=\"{}\"/>\n{}{}</svg>\n",
         canvas.width,
         canvas.frame(),
+        heard::arcs(book, &canvas),
         canvas.links(&book.links),
         arrows(book, &traffic, &canvas.spots),
         (0..places.len()).map(|node| node_drawn(book, &canvas, node)).collect::<String>(),
@@ -42,10 +44,13 @@ fn node_drawn(book: &Book, canvas: &Canvas, node: usize) -> String {
         false => joined(neighbours, ", "),
     };
     let numbered = canvas.numbered(node, RADIUS);
-    format!("<g class=\"node\"><title>Node {node}, linked to {linked}</title>{numbered}</g>\n")
+    let heard = heard::of_node(book, node);
+    format!(
+        "<g class=\"node\"><title>Node {node}, linked to {linked}{heard}</title>{numbered}</g>\n"
+    )
 }
 
-/// What the arrows mean.
+/// What the arrows and the arcs mean.
 fn legend(book: &Book, traffic: &Traffic) -> String {
     let single = "An arrow beside a link is a stream that goes there, with its id; it lies to the \
                   right of its direction.";
@@ -63,7 +68,7 @@ fn legend(book: &Book, traffic: &Traffic) -> String {
         (false, true) => format!("{single}{second}{shared}"),
         (false, false) => format!("{single}{second}"),
     };
-    format!("<p class=\"note\">{text}</p>\n")
+    format!("<p class=\"note\">{text}{}</p>\n", heard::legend(book))
 }
 
 #[cfg(test)]

@@ -1,6 +1,6 @@
 //! Books for the tests of the page.
 
-use crate::book::{Balance, Book, Way};
+use crate::book::{Balance, Book, Way, NEWEST};
 
 /// Links from pairs of nodes.
 pub fn links_of(nodes: usize, pairs: &[(usize, usize)]) -> Vec<u64> {
@@ -31,13 +31,14 @@ pub fn stream(id: u16, period: u16, nodes: &[u8], offsets: &[u16]) -> Way {
 /// A line under plan A of document 01, with eight slots a tile.
 pub fn line_book(nodes: usize, streams: Vec<Way>) -> Book {
     Book {
-        version: 2,
+        version: NEWEST,
         slots: 8,
         tiles: 2,
         kinds: 1,
         down: 2,
         up: 1,
         links: line_links(nodes),
+        hearing: line_links(nodes),
         ways: streams,
     }
 }
@@ -64,7 +65,8 @@ pub fn ring() -> Book {
         stream(65535, 10, &[1, 4], &[9]),
         second(stream(65535, 10, &[1, 2, 3, 4], &[10, 11, 12])),
     ];
-    Book { links: links_of(6, &ring), ..line_book(6, ways) }
+    let links = links_of(6, &ring);
+    Book { hearing: links.clone(), links, ..line_book(6, ways) }
 }
 
 /// The balances of the line of kilns: each hop counts at both its nodes, as often as its period.
@@ -88,13 +90,14 @@ pub fn full_site() -> Book {
     };
     let streams = (0..64).map(one).collect();
     Book {
-        version: 2,
+        version: NEWEST,
         slots: 32,
         tiles: 10,
         kinds: 0x21,
         down: 3,
         up: 1,
         links: square_links(8),
+        hearing: square_links(8),
         ways: streams,
     }
 }
@@ -102,13 +105,14 @@ pub fn full_site() -> Book {
 /// A book without streams and without data slots, whose nodes no link joins.
 pub fn bare() -> Book {
     Book {
-        version: 2,
+        version: NEWEST,
         slots: 1,
         tiles: 1,
         kinds: 1,
         down: 1,
         up: 0,
         links: vec![0; 2],
+        hearing: vec![0; 2],
         ways: Vec::new(),
     }
 }

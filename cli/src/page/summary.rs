@@ -1,5 +1,6 @@
 //! The book in a few figures: its size and its tile plan.
 
+use super::heard::counted;
 use super::markup::joined;
 use crate::book::{Book, CYCLE, MOST_HOPS, MOST_ROUTES};
 use crate::describe::with_routes;
@@ -7,8 +8,8 @@ use crate::text::count;
 
 /// What the book holds, and its tile plan.
 pub fn summary(book: &Book) -> String {
-    let size =
-        format!("{}, {}", count(book.links.len(), "node"), count(book.pairs().len(), "link"));
+    let (nodes, links) = (count(book.links.len(), "node"), count(book.pairs().len(), "link"));
+    let size = format!("{nodes}, {links}{}", counted(book));
     let streams = book.streams().count();
     let sold = format!("{streams}{} of at most {MOST_ROUTES}", with_routes(book));
     let used = format!("{} of at most {MOST_HOPS}", book.hops());

@@ -1,5 +1,6 @@
 //! Which streams go over which link, in which direction.
 
+use super::heard;
 use super::hops::hops;
 use super::identity::name;
 use super::markup::joined;
@@ -36,7 +37,7 @@ pub fn names(book: &Book, rows: &[usize]) -> String {
     joined(streams.chunk_by(follows).map(range), ", ")
 }
 
-/// All of it as text: each direction with its streams, and the links that no stream takes.
+/// All of it as text: each direction with its streams, the links that no stream takes, and who hears whom without one.
 pub fn listing(book: &Book, traffic: &Traffic) -> String {
     let item = |(&(from, to), rows): (&(usize, usize), &Vec<usize>)| {
         let slots = count(slots_in_use(book, rows), "slot");
@@ -57,7 +58,8 @@ pub fn listing(book: &Book, traffic: &Traffic) -> String {
     format!(
         "<h3>Streams on each link</h3>\n<p class=\"note\">From node → to node, the ids of the \
          streams that go there, and the slots of a cycle that they take.</p>\n{list}\
-         <p class=\"note\">Links without a stream: {rest}.</p>\n"
+         <p class=\"note\">Links without a stream: {rest}.</p>\n{}",
+        heard::listing(book)
     )
 }
 

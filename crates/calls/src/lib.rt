@@ -17,7 +17,7 @@ fn wide(x: u8) -> u16 {
 }
 
 // Makes a new book.
-fn new_book(frame: &[u8], topology: &[u8], out: &mut [u8]) -> Reply
+fn new_book(frame: &[u8], links: &[u8], out: &mut [u8]) -> Reply
     requires { ⌜ headLength ≤ length (now frame) ⌝ }
 {
     let plan = Plan {
@@ -27,7 +27,7 @@ fn new_book(frame: &[u8], topology: &[u8], out: &mut [u8]) -> Reply
         down: Slot(wide(frame[11])),
         up: Slot(wide(frame[12])),
     };
-    frames::answered(planner::new_book(plan, frame[13], topology, out))
+    frames::answered(planner::new_book(plan, frame[13], links, frames::hearing(frame), out))
 }
 
 // Opens a stream.
@@ -83,7 +83,7 @@ fn routes_between(frame: &[u8], book: &[u8], out: &mut [u8]) -> Reply
     }
 }
 
-// Makes a call that is no posting, with its book or its topology.
+// Makes a call that is no posting, with its book or its links.
 pub fn call(frame: &[u8], book: &[u8], out: &mut [u8]) -> Reply
     requires { ⌜ headLength ≤ length (now frame) ⌝ }
 {

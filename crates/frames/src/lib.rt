@@ -70,6 +70,10 @@ pub fn size(frame: &[u8]) -> usize
     if MOST_BYTES < bytes {
         return 0;
     }
+    let heard = long(image::word_at(frame, 38));
+    if MOST_BYTES < heard {
+        return 0;
+    }
     let list = long(image::word_at(frame, 40));
     if MOST_RECORDS < list {
         return 0;
@@ -77,7 +81,7 @@ pub fn size(frame: &[u8]) -> usize
     if list % RECORD != 0 {
         return 0;
     }
-    HEAD + bytes + list
+    HEAD + bytes + heard + list
 }
 
 // Where the book or the topology of a call ends.
@@ -89,6 +93,27 @@ fn book_end(frame: &[u8]) -> usize
     if frame.len() < end { frame.len() } else { end }
 }
 
+// Where the hearing of a new book ends, which stands behind its links.
+fn hearing_end(frame: &[u8]) -> usize
+    requires { ⌜ headLength ≤ length (now frame) ⌝ }
+    ensures { λ r. ⌜ (headLength ≤ r) × (r ≤ length (now (frame .entry))) ⌝ }
+{
+    let end = book_end(frame) + long(image::word_at(frame, 38));
+    if frame.len() < end { frame.len() } else { end }
+}
+
+// The hearing of a new book.
+pub fn hearing(frame: &[u8]) -> &[u8]
+    requires { ⌜ headLength ≤ length (now frame) ⌝ }
+{
+    let start = book_end(frame);
+    let end = start + long(image::word_at(frame, 38));
+    if frame.len() < end {
+        return &frame[start..];
+    }
+    &frame[start..end]
+}
+
 // The book or the topology of a call.
 pub fn book(frame: &[u8]) -> &[u8]
     requires { ⌜ headLength ≤ length (now frame) ⌝ }
@@ -97,12 +122,12 @@ pub fn book(frame: &[u8]) -> &[u8]
     &frame[HEAD..end]
 }
 
-// The records of a posting, which stand behind its book.
+// The records of a posting, which stand at the end.
 pub fn list(frame: &[u8]) -> &[u8]
     requires { ⌜ headLength ≤ length (now frame) ⌝ }
     ensures { λ r. ⌜ length (now r) ≤ mostRecords ⌝ }
 {
-    let start = book_end(frame);
+    let start = hearing_end(frame);
     let end = start + MOST_RECORDS;
     if frame.len() < end {
         return &frame[start..];

@@ -1,6 +1,6 @@
 -- What stands at a place, by the bytes of the image.
 use mathlib.Core.Path.{_≡_, refl, sym, ap, ap₂, _∙_}
-use mathlib.Core.Bool.{Bool, false, cond}
+use mathlib.Core.Bool.{Bool, true, false, cond}
 use mathlib.Core.List.{List, _∷_}
 use Prim.Native.Nat.{ℕ, zero, suc, _+_, _*_, _<_, _≤_, _-_}
 use native.Mathlib.Omega.{arith}
@@ -9,13 +9,14 @@ use lib.Dec.{leb}
 use lib.ListN.{length, getD, drop}
 use lib.Seq.{getD-drop, drop-drop}
 use Rattle.rules.specs.Book.{Row, hops, rowOffset}
-use Rattle.rules.specs.Image.{hasWays, periodPlace, hopsPlace, rowLength, wordAt, word64At, versionOf, rowsPlace, streamsOf}
+use Rattle.rules.specs.Image.{hasWays, hasHearing, headerLength, linksStart, hearingStart, rowsStart, periodPlace, hopsPlace, rowLength}
+use Rattle.rules.specs.Image.{wordAt, word64At, topologyAt, versionOf, nodesOf, hearingOf, rowsPlace, streamsOf}
 use Rattle.rules.specs.Words.{Tests}
 use Rattle.rules.proofs.Tests.{never, alike, tests-le}
 use Rattle.rules.proofs.Encoding.{hopsIn, Sized}
 use Rattle.rules.proofs.Fronts.{front-id, front-way, front-period, front-hops, front-node, front-offset, front-sized}
 use Rattle.rules.proofs.Reading.{readRows, rowsIn}
-use Rattle.image.specs.Places.{rowAt, nextAt, rowsFrom, Whole}
+use Rattle.image.specs.Places.{hearingPlace, rowAt, nextAt, rowsFrom, Whole}
 
 -- in the versions before 2 a row has no way
 pub place-without : (v : ℕ) → v < 2 → hopsPlace v ≡ 3
@@ -23,6 +24,40 @@ place-without v l = ap (λ (t : Bool). 2 + cond t 1 0 + 1) (lt-leb 2 v l)
 
 pub place-with : (v : ℕ) → 2 ≤ v → hopsPlace v ≡ 4
 place-with v l = ap (λ (t : Bool). 2 + cond t 1 0 + 1) (le-leb 2 v l)
+
+-- in the versions before 3 the hearing stands where the links do
+pub hearing-without : (v N : ℕ) → v < 3 → hearingPlace v N ≡ headerLength
+hearing-without v N l = ap (λ (t : Bool). cond t (hearingStart v N) (linksStart v)) (lt-leb 3 v l)
+
+pub hearing-with : (v N : ℕ) → 3 ≤ v → hearingPlace v N ≡ headerLength + 8 * N
+hearing-with v N l = ap (λ (t : Bool). cond t (hearingStart v N) (linksStart v)) (le-leb 3 v l)
+
+pub hearing-most : (v N : ℕ) → hearingPlace v N ≤ headerLength + 8 * N
+hearing-most v N = most (hasHearing v)
+  where
+    most : (t : Bool) → cond t (headerLength + 8 * N) headerLength ≤ headerLength + 8 * N
+    most true = omega arith
+    most false = omega arith
+
+-- and in every version the rows start behind it
+pub rows-behind : (v N : ℕ) → hearingPlace v N + 8 * N ≡ rowsStart v N
+rows-behind v N = behind (hasHearing v)
+  where
+    behind : (t : Bool) → cond t (headerLength + 8 * N) headerLength + 8 * N ≡ headerLength + 8 * N + cond t (8 * N) 0
+    behind true = refl
+    behind false = omega arith
+
+pub rows-most : (v N : ℕ) → rowsStart v N ≤ headerLength + 16 * N
+rows-most v N = omega (arith, rows-behind v N, hearing-most v N)
+
+-- what is read there is the hearing
+pub hearing-there : (s : List ℕ) → topologyAt s (hearingPlace (versionOf s) (nodesOf s)) (nodesOf s) ≡ hearingOf s
+hearing-there s = there (hasHearing (versionOf s))
+  where
+    there : (t : Bool) → topologyAt s (cond t (headerLength + 8 * nodesOf s) headerLength) (nodesOf s)
+        ≡ cond t (topologyAt s (headerLength + 8 * nodesOf s) (nodesOf s)) (topologyAt s headerLength (nodesOf s))
+    there true = refl
+    there false = refl
 
 module _ (s : List ℕ) (at : ℕ) where
   pub row-id : rowAt s at .id ≡ wordAt s at

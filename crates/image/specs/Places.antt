@@ -1,13 +1,18 @@
 -- Places in an image: the row that stands at a place, and the rows that stand from there on.
 use mathlib.Core.Path.{_≡_}
+use mathlib.Core.Bool.{cond}
 use mathlib.Core.List.{List, [], _∷_, _++_}
 use Prim.Native.Nat.{ℕ, zero, suc, _+_, _*_, _≤_, _-_}
 use lib.ListN.{length, getD, take, drop, replicate}
 use Rattle.rules.specs.Words.{_∈_}
 use Rattle.rules.specs.Book.{Row, LawfulRow}
-use Rattle.rules.specs.Image.{hopsPlace, rowLength, inTurn, encodeRow, setsAt, versionOf, siteOf}
+use Rattle.rules.specs.Image.{hasHearing, linksStart, hearingStart, hopsPlace, rowLength, inTurn, encodeRow, setsAt, versionOf, siteOf}
 use Rattle.rules.proofs.Encoding.{frontRow}
 use Rattle.rules.proofs.Reading.{rowsIn, LawfulImage}
+
+-- where the hearing stands: in a version that holds none, where the links do
+abbrev pub hearingPlace : ℕ → ℕ → ℕ
+hearingPlace v N = cond (hasHearing v) (hearingStart v N) (linksStart v)
 
 -- the row at the place
 unfoldable pub rowAt : List ℕ → ℕ → Row

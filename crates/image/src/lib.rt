@@ -5,7 +5,7 @@ ghost use lib.ListN.{length, getD, take};
 ghost use Rattle.rules.specs.Words.{Tests, TwoBytes};
 ghost use Rattle.rules.specs.Book.{hops, rowOffset};
 ghost use Rattle.rules.specs.Image.{headerLength, rowsStart, periodPlace, hopsPlace, rowLength, imageLength, mark, Version, versionOf, wordAt, word64At};
-ghost use Rattle.image.specs.Places.{rowAt, nextAt, Whole, Sets};
+ghost use Rattle.image.specs.Places.{hearingPlace, rowAt, nextAt, Whole, Sets};
 ghost use Rattle.image.specs.Header.{HeaderOf};
 use rules::Node;
 use rules::Plan;
@@ -19,10 +19,13 @@ pub const HEADER: usize = 16;
 pub const MARK: [u8; 3] = *b"SLB";
 
 // The newest version, in which new and changed books are written.
-pub const NEWEST: u16 = 2;
+pub const NEWEST: u16 = 3;
 
 // The first version whose rows hold their ways.
 const WAYS: u16 = 2;
+
+// The first version that holds who hears whom.
+const HEARING: u16 = 3;
 
 // The bytes of a topology row,
 pub const SET: usize = 8;
@@ -146,7 +149,7 @@ impl Book {
     pub const ROUTE_HOPS: usize = 15;
 
     // Its longest image in the newest version.
-    pub const LONGEST: usize = 2448;
+    pub const LONGEST: usize = 2960;
 
     // What the header of an image says.
     pub fn read(image: &[u8]) -> Book
@@ -170,12 +173,24 @@ impl Book {
         }
     }
 
-    // Where the rows of its streams start.
+    // Where its hearing stands: in a version that holds none, where the links do.
+    pub fn hearing_place(self) -> usize
+        requires { ⌜ self .nodes < 256 ⌝ }
+        ensures { λ r. ⌜ r ≡ hearingPlace (self .version) (self .nodes) ⌝ }
+    {
+        if self.version < HEARING {
+            HEADER
+        } else {
+            HEADER + SET * self.nodes
+        }
+    }
+
+    // Where the rows of its streams start: behind the hearing.
     pub fn rows_start(self) -> usize
         requires { ⌜ self .nodes < 256 ⌝ }
         ensures { λ r. ⌜ r ≡ rowsStart (self .version) (self .nodes) ⌝ }
     {
-        HEADER + SET * self.nodes
+        self.hearing_place() + SET * self.nodes
     }
 
     // The length of its image.

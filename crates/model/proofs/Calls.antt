@@ -22,7 +22,7 @@ use Rattle.rules.proofs.Counts.{counted}
 use Rattle.rules.proofs.Says.{None, says-none, says-unique}
 use Rattle.rules.proofs.Encoding.{stored-says}
 use Rattle.rules.proofs.Written.{Bytes, length-sets-at}
-use Rattle.rules.proofs.Reading.{bookIn, LawfulImage}
+use Rattle.rules.proofs.Reading.{bookIn, LawfulImage, lawful-stored}
 use Rattle.model.specs.Test.{joined}
 use Rattle.model.specs.Answer.{Tested, firstNumber, whenDone, lastBook}
 use Rattle.model.specs.Table.{tableOf, dataCount, freeCount}
@@ -87,47 +87,43 @@ module _ (image : List ℕ) (bytes : Bytes image) (refusals : ℕ → Book → L
       (λ e. let d = done-on e in (versionOf image, bookIn image, d .0, holds (versionOf image) (bookIn image) (d .0) (d .1)))
 
 -- NEW BOOK
-tests-given : (N : ℕ) (links : List ℕ) → Tests (eqb (length links) (8 * N) && areSound (topologyAt links 0 N) (topologyAt links 0 N)) (TopologiesGiven N links)
-tests-given N links =
-    alike (tests-and (tests-eq (length links) (8 * N)) (tests-topologies (topologyAt links 0 N) (topologyAt links 0 N)))
-    (λ p. record { links-whole = p .0; sound = p .1 })
-    (λ r. (r .links-whole, r .sound))
+tests-given : (N : ℕ) (links hearing : List ℕ)
+    → Tests (eqb (length links) (8 * N) && (eqb (length hearing) (8 * N) && areSound (topologyAt links 0 N) (topologyAt hearing 0 N))) (TopologiesGiven N links hearing)
+tests-given N links hearing =
+    alike (tests-and (tests-eq (length links) (8 * N)) (tests-and (tests-eq (length hearing) (8 * N)) (tests-topologies (topologyAt links 0 N) (topologyAt hearing 0 N))))
+    (λ p. record { links-whole = p .0; hearing-whole = p .1 .0; sound = p .1 .1 })
+    (λ r. (r .links-whole, (r .hearing-whole, r .sound)))
 
-pub new-computed : (plan : Plan) (N : ℕ) (links out : List ℕ)
-    → New plan N links out (new plan N links out .number) (new plan N links out .len) (new plan N links out .out)
-new-computed plan N links out =
-    reply (firstNumber (newTests plan N links (length out))) (encode newest (newBook plan N links)) out
-    (first-says (newTests plan N links (length out)) (newRefusals plan N links (length out)) (
+pub new-computed : (plan : Plan) (N : ℕ) (links hearing out : List ℕ)
+    → New plan N links hearing out (new plan N links hearing out .number) (new plan N links hearing out .len) (new plan N links hearing out .out)
+new-computed plan N links hearing out =
+    reply (firstNumber (newTests plan N links hearing (length out))) (encode newest (newBook plan N links hearing)) out
+    (first-says (newTests plan N links hearing (length out)) (newRefusals plan N links hearing (length out)) (
       refl,
       tests-not (tests-and (tests-plan plan) (tests-nodes N)),
-      λ n10. (refl, tests-not (tests-given N links), λ n11. (refl, tests-lt (length out) (length (encode newest (newBook plan N links))), λ n12. tt)),
+      λ n10. (refl, tests-not (tests-given N links hearing), λ n11. (refl, tests-lt (length out) (length (encode newest (newBook plan N links hearing))), λ n12. tt)),
     ))
     (λ e. refl)
 
 -- a new book is lawful
-pub new-lawful : (plan : Plan) (N : ℕ) (links : List ℕ) (room : ℕ) → Says (newRefusals plan N links room) 0
-    → Stored (encode newest (newBook plan N links)) newest (newBook plan N links)
-new-lawful plan N links room h = record {
-  version = (omega arith, omega arith);
-  lawful = record {
-    site = record {
-      plan = fits .0;
-      nodes = subst NodesInRange (sym (length-sets-at links 0 N)) (fits .1);
-      topologies = stable (tests-given N links) (n .1 .0) .sound;
-    };
-    streams = omega arith;
-    hops = omega arith;
-    rows = λ r m. absurd m;
-    rising = tt;
-    paired = λ r m. absurd m;
-    never-meet = λ m. m .one-there;
+pub new-lawful : (plan : Plan) (N : ℕ) (links hearing : List ℕ) (room : ℕ) → Says (newRefusals plan N links hearing room) 0
+    → Stored (encode newest (newBook plan N links hearing)) newest (newBook plan N links hearing)
+new-lawful plan N links hearing room h = lawful-stored (newBook plan N links hearing) record {
+  site = record {
+    plan = fits .0;
+    nodes = subst NodesInRange (sym (length-sets-at links 0 N)) (fits .1);
+    topologies = stable (tests-given N links hearing) (n .1 .0) .sound;
   };
-  fits = record { rows = λ r m. absurd m; hearing = refl };
-  bytes = refl;
+  streams = omega arith;
+  hops = omega arith;
+  rows = λ r m. absurd m;
+  rising = tt;
+  paired = λ r m. absurd m;
+  never-meet = λ m. m .one-there;
 }
   where
-    n : None (newRefusals plan N links room)
-    n = says-none (newRefusals plan N links room) (omega arith) h
+    n : None (newRefusals plan N links hearing room)
+    n = says-none (newRefusals plan N links hearing room) (omega arith) h
 
     fits : PlanInRange plan × NodesInRange N
     fits = stable (tests-and (tests-plan plan) (tests-nodes N)) (n .0)

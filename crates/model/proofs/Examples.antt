@@ -22,8 +22,8 @@ use Rattle.model.specs.Search.{routeOf}
 use Rattle.model.specs.Answer.{passes, routesOf, newRows}
 use Rattle.model.specs.Table.{cellOf}
 use Rattle.model.specs.Reading.{rowFits, isLawfulBook}
-use Rattle.model.specs.Examples.{planA, lineA, square, pair, empty, asked, askedTwo, opening, openingTwo, numberOn, SaysOn, after, rowsOn, opensWith, isStored}
-use Rattle.model.specs.Examples.{after2, after3, after7, hop, operationsP9, imageP10, imageP11, oldP10, oldP11, examples, Leaves, OpensWith, ExamplesHold}
+use Rattle.model.specs.Examples.{planA, lineA, heardA, square, pair, empty, asked, askedTwo, opening, openingTwo, numberOn, SaysOn, after, rowsOn, opensWith, isStored}
+use Rattle.model.specs.Examples.{after2, after3, after7, hop, operationsP9, imageP10, imageP11, olderP10, olderP11, oldP10, oldP11, examples, Leaves, OpensWith, ExamplesHold}
 use Rattle.model.proofs.Tests.{tests-same-by, tests-same, tests-same-row, tests-on-data, tests-meets, tests-clashes}
 use Rattle.model.proofs.Routes.{route-found, route-only}
 use Rattle.model.proofs.Firsts.{tests-passes}
@@ -92,7 +92,7 @@ module _ (b : Book) (h : T (isLawfulBook b)) where
 pub stored : (s : List ℕ) (v : ℕ) (b : Book) → b .site .hearing ≡ b .site .links → isStored s v b ≡ true → Stored s v b
 stored s v b hearing e =
     let t = tests-and (tests-version v) (tests-and (tests-book b) (tests-and (tests-every (rowFits v) (tests-fits v) (b .rows)) (tests-same s (encode v b)))) .yes e in
-    record { version = t .0; lawful = t .1 .0; fits = record { rows = t .1 .1 .0; hearing = hearing }; bytes = t .1 .1 .1 }
+    record { version = t .0; lawful = t .1 .0; fits = record { rows = t .1 .1 .0; hearing = λ older. hearing }; bytes = t .1 .1 .1 }
 
 -- the theorem
 pub examples-hold : ExamplesHold
@@ -115,6 +115,7 @@ examples-hold = record {
   p7 = route-of;
   p8 = tests-clashes lineA (hop 0 1) (hop 2 3) .yes (holds 13);
   p8-not = tests-not (tests-clashes lineA (hop 0 1) (hop 3 2)) .yes (holds 14);
+  p8-heard = tests-clashes heardA (hop 0 1) (hop 3 2) .yes (holds 23);
   p9 = λ slot l. (
     _,
     subst (λ (o : ℕ). Entry after2 2 slot o (cellOf after2 2 slot (after2 .rows) .stream))
@@ -126,6 +127,8 @@ examples-hold = record {
   p11-image = stored imageP11 newest after7 refl (holds 18);
   p10-old = stored oldP10 1 (empty pair) refl (holds 19);
   p11-old = stored oldP11 1 after7 refl (holds 20);
+  p10-older = stored olderP10 2 (empty pair) refl (holds 24);
+  p11-older = stored olderP11 2 after7 refl (holds 25);
   second = opens-with (empty square) tt (askedTwo 1 0 3 2) ((0 ∷ 1 ∷ 3 ∷ []) ∷ (0 ∷ 2 ∷ 3 ∷ []) ∷ []) ((2 ∷ 3 ∷ []) ∷ (3 ∷ 5 ∷ []) ∷ []) (holds 21);
   no-second = number-says (empty lineA) tt (openingTwo 1 3 0 2) 18 (holds 22);
 }

@@ -293,7 +293,9 @@ pub fn open_routed(
     requires { ⌜ PlannedBeside (now image) (now index) book (theAsked q) place at (now links) (now first) ⌝ }
     ensures { λ r. ⌜ OpensNew (now (image .entry)) (theAsked q) (r .number) (r .length) (now (out .exit)) (now (index .exit)) ⌝ }
 {
-    let hearing = links;
+    let n = book.nodes;
+    let heard = image::sets(image, book.hearing_place(), n);
+    let hearing = &heard[..n];
     if q.second {
         open_beside(image, index, book, q, place, at, links, hearing, first, out)
     } else {

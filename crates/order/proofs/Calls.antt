@@ -12,7 +12,7 @@ use Rattle.rules.specs.Image.{newest, longestImage, FullSize, encode, Stored}
 use Rattle.rules.specs.Calls.{OfBook, SaysOf, Wrote, Request, mostRequests, anyMiddle, Work, InOrder, postRefusals, Posted, Post, Serve}
 use Rattle.rules.specs.Order.{IdInRange, current, Posting}
 use Rattle.rules.proofs.Lists.{in-append, in-left, in-right}
-use Rattle.rules.proofs.Lawful.{same-site, work-site, in-order-site}
+use Rattle.rules.proofs.Lawful.{same-site, work-site}
 use Rattle.rules.proofs.Encoding.{stored-unique}
 use Rattle.rules.proofs.Bytes.{stored-bytes}
 use Rattle.rules.proofs.Choice.{work-unique, in-order-unique}
@@ -20,7 +20,8 @@ use Rattle.rules.proofs.Unique.{says-of-unique, zero-in}
 use Rattle.model.specs.Calls.{post}
 use Rattle.model.proofs.Calls.{post-computed}
 use Rattle.order.proofs.Steps.{Rows, on, Step}
-use Rattle.order.proofs.Lawful.{works-lawful, stored-anew}
+use Rattle.rules.proofs.Reading.{lawful-stored}
+use Rattle.order.proofs.Lawful.{works-lawful}
 
 -- what is true of the book that an image holds is true of the one that it is known to hold
 pub of-stored : {image : List ℕ} {v : ℕ} {b : Book} {P : ℕ → Book → Type 0} → Stored image v b → OfBook image P → P v b
@@ -76,7 +77,7 @@ module _ {image : List ℕ} {v : ℕ} {b : Book} (s : Stored image v b) (qs : Li
               book = c;
               works = w;
               version = newest;
-              holds = subst (λ (t : List ℕ). Stored t newest c) (sym e) (stored-anew s c l (in-order-site (anyMiddle b) b qs answers c w));
+              holds = subst (λ (t : List ℕ). Stored t newest c) (sym e) (lawful-stored c l);
               some = λ k. e;
               none = λ f. absurd (f z);
             }

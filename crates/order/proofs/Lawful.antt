@@ -1,4 +1,4 @@
--- Opens and closes leave a lawful book, so that what is written is the image of one.
+-- Opens and closes leave a lawful book.
 use mathlib.Core.Path.{_≡_, refl, sym, ap, subst}
 use mathlib.Core.Logic.{inl, inr}
 use mathlib.Core.List.{List, [], _∷_}
@@ -8,11 +8,10 @@ use Rattle.rules.specs.Words.{TwoBytes, _∈_}
 use Rattle.rules.specs.Says.{Says}
 use Rattle.rules.specs.Book.{Book, LawfulBook}
 use Rattle.rules.specs.Placing.{Asked}
-use Rattle.rules.specs.Image.{newest, encode, Stored}
 use Rattle.rules.specs.Calls.{Request, requestRefusals, Work, InOrder}
 use Rattle.rules.specs.Calls.Request.{Open}
 use Rattle.rules.specs.Order.{idOf, IdInRange}
-use Rattle.rules.proofs.Lawful.{made-lawful, lawful-stored}
+use Rattle.rules.proofs.Lawful.{made-lawful}
 
 -- a request, refused or done
 pub work-lawful : (middle : ℕ) (b : Book) (q : Request) (n : ℕ) (c : Book) → Work middle b q n c → LawfulBook b → IdInRange q → LawfulBook c
@@ -33,7 +32,3 @@ works-lawful middle b [] (n ∷ ns) c w l small = absurd w
 works-lawful middle b (q ∷ qs) [] c w l small = absurd w
 works-lawful middle b (q ∷ qs) (n ∷ ns) c (d, step, rest) l small =
     works-lawful middle d qs ns c rest (work-lawful middle b q n d step l (small q (inl refl))) (λ v m. small v (inr m))
-
--- the image in the newest version of a lawful book of the same site
-pub stored-anew : {image : List ℕ} {v : ℕ} {b : Book} → Stored image v b → (c : Book) → LawfulBook c → c .site ≡ b .site → Stored (encode newest c) newest c
-stored-anew {b = b} s c l e = lawful-stored b c e (s .fits .hearing) l

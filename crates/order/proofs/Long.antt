@@ -12,7 +12,7 @@ use Rattle.rules.specs.Book.{Row, Book, hopsInAll, mostStreams, mostHops, rowOf
 use Rattle.rules.specs.Image.{newest, encode, Stored}
 use Rattle.rules.proofs.Tests.{tests-and, tests-eq, tests-le, allOf, tests-every}
 use Rattle.rules.proofs.Lists.{at-in}
-use Rattle.rules.proofs.Reading.{row-newest}
+use Rattle.rules.proofs.Reading.{lawful-stored}
 use Rattle.model.specs.Reading.{isLawful, isPaired}
 use Rattle.model.proofs.Reading.{tests-site, tests-lawful, tests-rising, tests-paired}
 use Rattle.order.specs.Examples.{longOnes}
@@ -74,4 +74,4 @@ long-lawful = record {
 }
 
 pub long-held : Stored (encode newest longOnes) newest longOnes
-long-held = record { version = (omega arith, omega arith); lawful = long-lawful; fits = record { rows = λ r m. row-newest r; hearing = refl }; bytes = refl }
+long-held = lawful-stored longOnes long-lawful

@@ -20,11 +20,13 @@ pub extern "C" fn lindurask_new(
     d: u8,
     u: u8,
     n: u8,
-    topology: &[u8],
+    links: &[u8],
+    hearing: &[u8],
     out: &mut [u8],
     length: &mut usize,
 ) -> u8
-    ensures { λ r. ⌜ New (record { slots = s; tiles = c; kinds = kinds; down = d; up = u }) n (now (topology .entry)) (now (out .entry)) r (now (length .exit)) (now (out .exit)) ⌝ }
+    ensures { λ r. ⌜ New (record { slots = s; tiles = c; kinds = kinds; down = d; up = u }) n (now (links .entry)) (now (hearing .entry)) (now (out .entry))
+        r (now (length .exit)) (now (out .exit)) ⌝ }
 {
     let plan = Plan {
         slots: Slot(s as u16),
@@ -33,7 +35,7 @@ pub extern "C" fn lindurask_new(
         down: Slot(d as u16),
         up: Slot(u as u16),
     };
-    let answer = crate::new_book(plan, n, topology, out);
+    let answer = crate::new_book(plan, n, links, hearing, out);
     *length = answer.length;
     answer.number
 }

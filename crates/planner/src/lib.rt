@@ -32,9 +32,9 @@ pub struct Linked {
     pub links: u8,
 }
 
-// Makes a book without streams; the topology is given as it stands in an image.
-pub fn new_book(plan: Plan, nodes: u8, topology: &[u8], out: &mut [u8]) -> Answer
-    ensures { λ r. ⌜ New (thePlan plan) nodes (now (topology .entry)) (now (out .entry)) (r .number) (r .length) (now (out .exit)) ⌝ }
+// Makes a book without streams; the links, and who hears whom, are given as they stand in an image.
+pub fn new_book(plan: Plan, nodes: u8, links: &[u8], hearing: &[u8], out: &mut [u8]) -> Answer
+    ensures { λ r. ⌜ New (thePlan plan) nodes (now (links .entry)) (now (hearing .entry)) (now (out .entry)) (r .number) (r .length) (now (out .exit)) ⌝ }
 {
     let n = nodes as usize;
     if !fields::plan_in_range(plan) {
@@ -43,18 +43,14 @@ pub fn new_book(plan: Plan, nodes: u8, topology: &[u8], out: &mut [u8]) -> Answe
     if !fields::nodes_in_range(n) {
         return answers::refused(10);
     }
-    if topology.len() != image::SET * n {
+    if !fields::topology::given(n, links, hearing) {
         return answers::refused(11);
     }
-    let rows = image::sets(topology, 0, n);
-    if !routes::topology::sound(&rows[..n]) {
-        return answers::refused(11);
-    }
-    let length = image::HEADER + topology.len();
+    let length = image::HEADER + links.len() + hearing.len();
     if out.len() < length {
         return answers::refused(12);
     }
-    writer::put_new(plan, nodes, topology, out);
+    writer::put_new(plan, nodes, links, hearing, out);
     answers::done(length)
 }
 

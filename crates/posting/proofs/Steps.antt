@@ -16,8 +16,8 @@ use Rattle.rules.specs.Calls.{anyMiddle, Made, requestRefusals}
 use Rattle.rules.specs.Calls.Request.{Open, Close}
 use Rattle.rules.specs.Order.{idOf}
 use Rattle.rules.proofs.Encoding.{version-back}
-use Rattle.rules.proofs.Reading.{bookIn, NewestImage, book-back}
-use Rattle.rules.proofs.Lawful.{lawful-length, made-lawful, made-site, lawful-stored}
+use Rattle.rules.proofs.Reading.{bookIn, NewestImage, book-back, lawful-stored}
+use Rattle.rules.proofs.Lawful.{lawful-length, made-lawful, made-site}
 use Rattle.index.specs.Index.{IndexOf}
 use Rattle.index.specs.Beside.{ImageBeside, Works}
 use Rattle.writer.specs.Over.{over}
@@ -58,8 +58,7 @@ module _ {buffer : List ℕ} {len : ℕ} {words : List ℕ} (w : Standing buffer
         let s : List ℕ = take len buffer in
         let c : Book = h .done z .after in
         let says = subst (λ (n : ℕ). Says (requestRefusals (anyMiddle (bookIn s)) (bookIn s) q) n) z (h .says) in
-        lawful-stored (bookIn s) c (made-site (anyMiddle (bookIn s)) (bookIn s) q c (h .done z .made)) (w .image .newest .lawful .fits .hearing)
-        (made-lawful (bookIn s) (w .image .newest .lawful .lawful) (anyMiddle (bookIn s)) q small says c (h .done z .made))
+        lawful-stored c (made-lawful (bookIn s) (w .image .newest .lawful .lawful) (anyMiddle (bookIn s)) q small says c (h .done z .made))
 
     size-is : size ≡ length (encode newest (h .done z .after))
     size-is = sym (length-take-le size out (h .done z .fits)) ∙ ap length (h .done z .bytes)

@@ -21,12 +21,11 @@ use Rattle.rules.proofs.Lists.{reordered-in, reordered-back, in-append, in-left
 use Rattle.rules.proofs.Tests.{never}
 use Rattle.rules.proofs.Choice.{closed-unique}
 use Rattle.rules.proofs.Encoding.{stored-unique}
-use Rattle.rules.proofs.Reading.{withRows, stored-newest}
+use Rattle.rules.proofs.Reading.{withRows, lawful-stored, stored-newest}
 use Rattle.rules.proofs.Added.{new-route}
 use Rattle.model.proofs.Tests.{tests-known}
 use Rattle.model.proofs.Reading.{stable}
-use Rattle.rules.proofs.Lawful.{work-site}
-use Rattle.order.proofs.Lawful.{work-lawful, stored-anew}
+use Rattle.order.proofs.Lawful.{work-lawful}
 use Rattle.order.proofs.Calls.{taken, ran-one, served-ran}
 use Rattle.promises.specs.Promises.{OnlyMoves, Moves, HasWay, HasStream, OpenAdds, CloseRemoves, CloseUndoesOpen}
 
@@ -77,8 +76,7 @@ done image q out len out′ h = go (ℕ-discrete (h .whole) 0)
 done-stored : {image : List ℕ} {q : Request} {len : ℕ} {out′ : List ℕ} (d : Done image q len out′) → IdInRange q → Stored (take len out′) newest (d .after)
 done-stored {q = q} {len} {out′} d small =
     let l = work-lawful (anyMiddle (d .before)) (d .before) q 0 (d .after) (d .work) (d .held .lawful) small in
-    let e = work-site (anyMiddle (d .before)) (d .before) q 0 (d .after) (d .work) in
-    subst (λ (s : List ℕ). Stored s newest (d .after)) (sym (d .bytes)) (stored-anew (d .held) (d .after) l e)
+    subst (λ (s : List ℕ). Stored s newest (d .after)) (sym (d .bytes)) (lawful-stored (d .after) l)
 
 moves : {image : List ℕ} {q : Request} {len : ℕ} {out′ : List ℕ} (d : Done image q len out′) → IdInRange q → Moves image (idOf q) len out′ (d .before) (d .after)
 moves {q = q} d small = record {

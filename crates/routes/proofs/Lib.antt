@@ -4,6 +4,5 @@ pub mod Searching
 pub mod Going
 pub mod Descending
 pub mod Answers
-pub mod Soundness
 pub mod Cutting
 pub mod Seconding

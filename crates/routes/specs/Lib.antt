@@ -1,4 +1,3 @@
-pub mod Rows
 pub mod Planner
 pub mod Levels
 pub mod Second

@@ -12,7 +12,6 @@ use rules::Node;
 use rules::ROUTE_HOPS;
 
 pub mod second;
-pub mod topology;
 
 // Whether there is a route: of at most 15 hops, only of more, or none.
 pub enum Reach {

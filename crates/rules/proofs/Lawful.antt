@@ -182,15 +182,6 @@ module _ (b : Book) (l : LawfulBook b) (middle : ℕ) where
           ⊎-elim (λ (g : r ∈ o .gone). absurd (o .none-left x m (sym e ∙ o .of-id r g))) (λ (k : r ∈ c .rows). k)
           (in-append r (o .gone) (c .rows) (reordered-in r (o .plus .rows) h))
 
--- such a book is stored in the newest version
-pub lawful-stored : (b c : Book) → c .site ≡ b .site → b .site .hearing ≡ b .site .links → LawfulBook c → Stored (encode newest c) newest c
-lawful-stored b c e h l = record {
-  version = (omega arith, omega arith);
-  lawful = l;
-  fits = record { rows = λ r m. row-newest r; hearing = subst (λ (t : Site). t .hearing ≡ t .links) (sym e) h };
-  bytes = refl;
-}
-
 -- a period that is not none of them is one
 is-one : (K : ℕ) (xs : List ℕ) → ((K ∈ xs → ⊥) → ⊥) → K ∈ xs
 is-one K [] f = f (λ z. z)
@@ -200,7 +191,7 @@ is-one K (x ∷ xs) f = go (ℕ-discrete K x) (is-one K xs)
     go (yes e) rest = inl e
     go (no n) rest = inr (rest (λ g. f (λ k. ⊎-elim n g k)))
 
--- A REQUEST that is done leaves a lawful book, stored in the newest version
+-- A REQUEST that is done leaves a lawful book
 pub made-lawful : (b : Book) → LawfulBook b → (middle : ℕ) (q : Request) → ((a : Asked) → q ≡ Open a → TwoBytes (a .id)) → Says (requestRefusals middle b q) 0
     → (c : Book) → Made middle b q c → LawfulBook c
 made-lawful b l middle (Open q) small h =

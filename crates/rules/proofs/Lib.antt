@@ -29,5 +29,4 @@ pub mod Counts
 pub mod Slots
 pub mod Balances
 pub mod Added
-pub mod Hearing
 pub mod Lawful

@@ -23,7 +23,7 @@ pub record Ordered : Type 0 where
   pub expands : (node room v : ℕ) (b : Book) → numbers (expandRefusals node room v b) ≡ 4 ∷ 12 ∷ []
   pub balances : (node v : ℕ) (b : Book) → numbers (balanceRefusals node v b) ≡ 4 ∷ []
   pub lists : (middle source destination room v : ℕ) (b : Book) → numbers (routesRefusals middle source destination room v b) ≡ 4 ∷ 5 ∷ 12 ∷ []
-  pub news : (plan : Plan) (N : ℕ) (links : List ℕ) (room : ℕ) → numbers (newRefusals plan N links room) ≡ 10 ∷ 11 ∷ 12 ∷ []
+  pub news : (plan : Plan) (N : ℕ) (links hearing : List ℕ) (room : ℕ) → numbers (newRefusals plan N links hearing room) ≡ 10 ∷ 11 ∷ 12 ∷ []
   pub checks : (v : ℕ) (b : Book) → numbers (checkRefusals v b) ≡ []
 
 pub ordered : Ordered
@@ -36,6 +36,6 @@ ordered = record {
   expands = λ node room v b. refl;
   balances = λ node v b. refl;
   lists = λ middle source destination room v b. refl;
-  news = λ plan N links room. refl;
+  news = λ plan N links hearing room. refl;
   checks = λ v b. refl;
 }

@@ -5,7 +5,7 @@ use mathlib.Core.List.{List, [], _∷_, _++_}
 use Prim.Native.Nat.{ℕ, zero, suc, _+_, _*_}
 use native.Mathlib.Omega.{arith}
 use lib.ListN.{length, drop}
-use Rattle.rules.specs.Book.{Row, Book}
+use Rattle.rules.specs.Book.{Row, Book, LawfulBook}
 use Rattle.rules.specs.Image.{newest, RowFits, Fits, rowLength, inTurn, encodeRow, encode, versionOf, streamsOf, bookOf, rowsPlace, RowsOf, Stored}
 use Rattle.rules.proofs.Encoding.{hopsIn, frontRow, AllSized, AllFit, row-back, hops-in, left-over, lawful-sized, version-back, rows-of, only-rows}
 use Rattle.rules.proofs.Tests.{never}
@@ -59,13 +59,16 @@ newest-bytes {s} h = h .lawful .bytes ∙ ap (λ (v : ℕ). encode v (bookIn s))
 pub row-newest : (r : Row) → RowFits newest r
 row-newest r = record { one-way = λ e. never (sym e) }
 
--- so it holds what another version holds
-pub fits-newest : {v : ℕ} {b : Book} → Fits v b → Fits newest b
-fits-newest f = record { rows = λ r m. row-newest r; hearing = f .hearing }
+-- and every book
+pub fits-newest : (b : Book) → Fits newest b
+fits-newest b = record { rows = λ r m. row-newest r; hearing = λ e. never (sym e) }
 
--- a stored book can be stored in it
+-- so every lawful book can be stored in it
+pub lawful-stored : (b : Book) → LawfulBook b → Stored (encode newest b) newest b
+lawful-stored b l = record { version = (omega arith, omega arith); lawful = l; fits = fits-newest b; bytes = refl }
+
 pub stored-newest : {s : List ℕ} {v : ℕ} {b : Book} → Stored s v b → Stored (encode newest b) newest b
-stored-newest h = record { version = (omega arith, omega arith); lawful = h .lawful; fits = fits-newest (h .fits); bytes = refl }
+stored-newest {b = b} h = lawful-stored b (h .lawful)
 
 -- the image of a stored book holds it
 pub book-back : {v : ℕ} {b : Book} → Stored (encode v b) v b → bookIn (encode v b) ≡ b

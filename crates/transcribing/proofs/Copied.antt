@@ -6,21 +6,18 @@ use native.Mathlib.Omega.{arith}
 use lib.ListN.{length, take, drop, length-append}
 use lib.Seq.{take-at}
 use Rattle.rules.specs.Book.{Row, hops}
-use Rattle.rules.specs.Image.{newest, headerLength, linksStart, rowsStart, rowLength, longestImage, inTurn, encodeTopology, encodeRow, encode}
-use Rattle.rules.specs.Image.{versionOf, nodesOf, streamsOf, rowsPlace, linksOf}
-use Rattle.rules.proofs.Encoding.{length-sets, length-row, lawful-sized, length-encode}
-use Rattle.rules.proofs.Written.{length-sets-at}
+use Rattle.rules.specs.Image.{newest, rowsStart, rowLength, longestImage, inTurn, encodeRow, encode, streamsOf, rowsPlace}
+use Rattle.rules.proofs.Encoding.{length-row, lawful-sized, length-encode}
 use Rattle.rules.proofs.Reading.{rowsIn, bookIn, LawfulImage}
 use Rattle.image.specs.Header.{HeaderOf}
 use Rattle.image.specs.declared.Book as head
 use Rattle.image.specs.Places.{rowAt, nextAt, rowsFrom, Stands}
-use Rattle.image.proofs.Stands.{stored-length, stands-start, stands-rest, stands-split, stands-row, stands-next}
+use Rattle.image.proofs.Stands.{stands-start, stands-rest, stands-split, stands-row, stands-next}
 use Rattle.image.proofs.Walks.{rows-start, no-rows}
 use Rattle.writer.specs.Over.{over}
 use Rattle.writer.proofs.Laws.{then, over-front}
 use Rattle.writer.proofs.Books.{in-turn-append}
-use Rattle.transcribing.specs.Again.{renewed, PutAgain, Transcribed}
-use Rattle.transcribing.proofs.Parts.{front, renewed-encode}
+use Rattle.transcribing.specs.Again.{front, PutFront, PutAgain, Transcribed}
 
 -- a row between others
 split : (front : List ℕ) (xs ys : List Row) (r : Row) → front ++ inTurn (encodeRow newest) (xs ++ (r ∷ ys))
@@ -47,34 +44,20 @@ no-longer {s} h =
 
 -- THE START
 module _ {s : List ℕ} (h : LawfulImage s) where
-  links-long : headerLength + length (encodeTopology (linksOf s)) ≡ rowsPlace s
-  links-long = omega (arith, length-sets (linksOf s .rows), length-sets-at s (linksStart (versionOf s)) (nodesOf s))
-
-  pub front-fits : {b : head.Book} {at : ℕ} → HeaderOf s b → at ≡ rowsStart (b .version) (b .nodes) → (headerLength ≤ at) × (at ≤ length s) × (at ≤ longestImage newest)
-  front-fits hd e = (
-    omega (arith, e),
-    omega (arith, rows-start hd e, stored-length h),
-    omega (arith, rows-start hd e, length-sets-at s (linksStart (versionOf s)) (nodesOf s), h .lawful .site .nodes .1),
-  )
-
-  start : (d : List ℕ) {out : List ℕ} → length out ≡ longestImage newest → out ≡ over d 0 (renewed s (rowsPlace s)) → Copied s out (rowsPlace s) (rowsPlace s) (streamsOf s)
+  start : (d : List ℕ) {out : List ℕ} {to : ℕ} → length out ≡ longestImage newest → PutFront (bookIn s) d to out → Copied s out (rowsPlace s) to (streamsOf s)
   start d n p = record {
     stands = stands-start h;
     buffer = d;
-    bytes = p
-        ∙ ap (over d 0) (ap (λ (x : List ℕ). renewed x (rowsPlace s)) (h .bytes) ∙ renewed-encode (versionOf s) (bookIn s) (rowsPlace s) (sym links-long)
-        ∙ sym (append-nil (front (bookIn s))));
-    place = omega (arith, links-long, ap length (append-nil (front (bookIn s))));
+    bytes = p .bytes ∙ ap (over d 0) (sym (append-nil (front (bookIn s))));
+    place = p .on ∙ ap length (sym (append-nil (front (bookIn s))));
     room = n;
   }
 
-  pub copied-start : {b : head.Book} (d : List ℕ) {out : List ℕ} {at left : ℕ} → length out ≡ longestImage newest → HeaderOf s b
-      → at ≡ rowsStart (b .version) (b .nodes) → left ≡ b .streams → out ≡ over d 0 (renewed s at)
-      → Copied s out at at left
-  copied-start d {out} {at} {left} n hd e l p =
-      let f : at ≡ rowsPlace s = rows-start hd e in
-      subst (λ (n : ℕ). Copied s out at at n) (sym (l ∙ hd .streams))
-      (subst (λ (n : ℕ). Copied s out n n (streamsOf s)) (sym f) (start d n (p ∙ ap (λ (n : ℕ). over d 0 (renewed s n)) f)))
+  pub copied-start : {b : head.Book} (d : List ℕ) {out : List ℕ} {at to left : ℕ} → length out ≡ longestImage newest → HeaderOf s b
+      → at ≡ rowsStart (b .version) (b .nodes) → left ≡ b .streams → PutFront (bookIn s) d to out → Copied s out at to left
+  copied-start d {out} {at} {to} {left} n hd e l p =
+      subst (λ (n : ℕ). Copied s out at to n) (sym (l ∙ hd .streams))
+      (subst (λ (n : ℕ). Copied s out n to (streamsOf s)) (sym (rows-start hd e)) (start d n p))
 
 -- A TURN
 module _ {s out : List ℕ} {at to left : ℕ} (more : 0 < left) (k : Copied s out at to left) where

@@ -3,11 +3,12 @@ ghost use mathlib.Core.Path.{_≡_};
 ghost use Prim.Native.Nat.{_+_, _*_, _≤_};
 ghost use lib.ListN.{length};
 ghost use Rattle.rules.specs.Book.{hops};
-ghost use Rattle.rules.specs.Image.{newest, headerLength, rowLength};
-ghost use Rattle.rules.proofs.Reading.{LawfulImage};
+ghost use Rattle.rules.specs.Image.{newest, headerLength, rowLength, longestImage};
+ghost use Rattle.rules.proofs.Reading.{bookIn, LawfulImage};
+ghost use Rattle.image.specs.Header.{HeaderOf};
 ghost use Rattle.image.specs.Places.{rowAt, Whole};
 ghost use Rattle.writer.specs.Over.{over};
-ghost use Rattle.transcribing.specs.Again.{renewed, PutAgain, Transcribed};
+ghost use Rattle.transcribing.specs.Again.{renewed, PutFront, PutAgain, Transcribed};
 use image::Book;
 
 // The front of an image up to a place, with the newest version.
@@ -21,6 +22,19 @@ fn put_front(image: &[u8], out: &mut [u8], to: usize)
     writer::put_word(out, version_at, image::NEWEST);
     let plan_at = version_at + 2;
     writer::put_part(&image[plan_at..to], out, plan_at);
+}
+
+// What stands before the rows, as the newest version has it: the links, and behind them the hearing. The place after it.
+fn put_site(image: &[u8], book: Book, out: &mut [u8]) -> usize
+    requires { ⌜ LawfulImage (now image) × HeaderOf (now image) book × (length (now out) ≡ longestImage newest) ⌝ }
+    ensures { λ r. ⌜ PutFront (bookIn (now (image .entry))) (now (out .entry)) r (now (out .exit)) ⌝ }
+{
+    let hearing_at = image::HEADER + image::SET * book.nodes;
+    put_front(image, out, hearing_at);
+    let hearing = book.hearing_place();
+    let rows = book.rows_start();
+    writer::put_part(&image[hearing..rows], out, hearing_at);
+    hearing_at + (rows - hearing)
 }
 
 // The row at a place of an image, as the newest version has it: its id, its way, and the rest as it stands. The place after it.
@@ -45,8 +59,7 @@ pub fn transcribe(image: &[u8], out: &mut [u8; Book::LONGEST]) -> usize
 {
     let book = Book::read(image);
     let mut at = book.rows_start();
-    put_front(image, out, at);
-    let mut to = at;
+    let mut to = put_site(image, book, out);
     let mut left = book.streams;
     while 0 < left {
         to = put_again(image, at, out, to);

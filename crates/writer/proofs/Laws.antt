@@ -83,11 +83,13 @@ head-written d o₁ o₂ o₃ o₄ s to n h l p₁ p₂ p₃ p₄ =
     q₄ ∙ ap (λ (x : List ℕ). over d 0 (x ++ take (to - 15) (drop 15 s))) (append-assoc (take 12 s) (n ∷ []) (word h))
 
 -- the image of a book without streams, part by part
-pub new-written : (d o₁ o₂ o₃ rest topology : List ℕ) (plan : Plan) (N : ℕ) → o₁ ≡ over d 0 mark → rest ≡ drop 3 (encodeHeader newest plan N 0 0) → o₂ ≡ over o₁ 3 rest
-    → o₃ ≡ over o₂ 16 topology → o₃ ≡ over d 0 (encodeHeader newest plan N 0 0 ++ topology)
-new-written d o₁ o₂ o₃ rest topology plan N p₁ e p₂ p₃ =
-    let q₂ = then d o₁ o₂ mark (drop 3 (encodeHeader newest plan N 0 0)) 0 3 (omega arith) p₁ refl (p₂ ∙ ap (over o₁ 3) e) in
-    then d o₂ o₃ (encodeHeader newest plan N 0 0) topology 0 16 (omega arith) q₂ refl p₃
+pub new-written : (d o₁ o₂ o₃ o₄ rest links hearing : List ℕ) (plan : Plan) (N : ℕ) → o₁ ≡ over d 0 mark → rest ≡ drop 3 (encodeHeader newest plan N 0 0) → o₂ ≡ over o₁ 3 rest
+    → o₃ ≡ over o₂ 16 links → o₄ ≡ over o₃ (16 + length links) hearing → o₄ ≡ over d 0 (encodeHeader newest plan N 0 0 ++ (links ++ hearing))
+new-written d o₁ o₂ o₃ o₄ rest links hearing plan N p₁ e p₂ p₃ p₄ =
+    let head : List ℕ = encodeHeader newest plan N 0 0 in
+    let q₂ = then d o₁ o₂ mark (drop 3 head) 0 3 (omega arith) p₁ refl (p₂ ∙ ap (over o₁ 3) e) in
+    let q₃ = then d o₂ o₃ head links 0 16 (omega arith) q₂ refl p₃ in
+    then d o₃ o₄ (head ++ links) hearing 0 (16 + length links) (omega arith) q₃ (omega arith) p₄ ∙ ap (over d 0) (append-assoc head links hearing)
 
 -- what is written from the front on, and what was behind it
 pub over-front : (d x : List ℕ) → over d 0 x ≡ x ++ drop (length x) d

@@ -112,13 +112,14 @@ fn fields(plan: Plan, nodes: u8) -> [u8; 13]
     ]
 }
 
-// The image of a book without streams: the mark, the fields, and the topology as it is given.
-pub fn put_new(plan: Plan, nodes: u8, topology: &[u8], out: &mut [u8])
-    requires { ⌜ PlanInRange (thePlan plan) × (headerLength + length (now topology) ≤ length (now out)) ⌝ }
-    ensures { λ _. ⌜ now (out .exit) ≡ over (now (out .entry)) 0 (encodeHeader newest (thePlan plan) nodes 0 0 ++ now (topology .entry)) ⌝ }
+// The image of a book without streams: the mark, the fields, and the topologies as they are given.
+pub fn put_new(plan: Plan, nodes: u8, links: &[u8], hearing: &[u8], out: &mut [u8])
+    requires { ⌜ PlanInRange (thePlan plan) × (headerLength + length (now links) + length (now hearing) ≤ length (now out)) ⌝ }
+    ensures { λ _. ⌜ now (out .exit) ≡ over (now (out .entry)) 0 (encodeHeader newest (thePlan plan) nodes 0 0 ++ (now (links .entry) ++ now (hearing .entry))) ⌝ }
 {
     let rest = fields(plan, nodes);
     put_part(&image::MARK, out, 0);
     put_part(&rest, out, 3);
-    put_part(topology, out, image::HEADER);
+    put_part(links, out, image::HEADER);
+    put_part(hearing, out, image::HEADER + links.len());
 }

@@ -1,13 +1,13 @@
 //! The jobs: each makes its calls, and shows what every call gave back.
 
 use crate::planners::{Planner, Request, Said, Stream};
-use crate::site::{NODES, PLAN, doubled_streams, linked_topology, streams, topology};
+use crate::site::{NODES, PLAN, doubled_streams, hearing, linked_topology, streams, topology};
 use reference::image;
 use reference::version::Version;
 use std::slice;
 
 /// A buffer that holds the longest image.
-const LONGEST_IMAGE: usize = 2448;
+const LONGEST_IMAGE: usize = 2960;
 
 /// A buffer that holds the longest table.
 const LONGEST_TABLE: usize = 9600;
@@ -31,6 +31,8 @@ pub struct Site {
     both: Vec<u8>,
     /// The empty book of nodes that are all linked to each other.
     linked: Vec<u8>,
+    /// The empty book of nodes that hear further than they talk.
+    heard: Vec<u8>,
 }
 
 impl Site {
@@ -45,9 +47,10 @@ impl Site {
             older: Vec::new(),
             months: [Vec::new(), Vec::new()],
             both: Vec::new(),
-            linked: empty_book(planner, &linked_topology()),
+            linked: empty_book(planner, &linked_topology(), &linked_topology()),
+            heard: empty_book(planner, &topology(), &hearing()),
         };
-        site.empty = empty_book(planner, &site.topology);
+        site.empty = empty_book(planner, &site.topology, &site.topology);
         let mut done = |number: u8, _: &[u8]| assert_eq!(number, 0, "every stream has a place");
         site.full = open_all(planner, &site.empty, &site.streams, &mut done);
         site.both = open_all(planner, &site.empty, &site.doubled, &mut done);
@@ -58,10 +61,10 @@ impl Site {
     }
 }
 
-/// The empty book of a topology.
-fn empty_book(planner: &dyn Planner, topology: &[u8]) -> Vec<u8> {
+/// The empty book of the links and of who hears whom.
+fn empty_book(planner: &dyn Planner, links: &[u8], hearing: &[u8]) -> Vec<u8> {
     let mut image = [0; LONGEST_IMAGE];
-    let (number, length) = planner.new_book(&PLAN, topology, &mut image);
+    let (number, length) = planner.new_book(&PLAN, links, hearing, &mut image);
     assert_eq!(number, 0, "the empty book is made");
     image[..length].to_vec()
 }
@@ -86,12 +89,13 @@ pub struct Job {
 /// A check of one image.
 pub const CHECK: Job = Job { name: "check: the full book", run: check };
 
-pub const JOBS: [Job; 17] = [
+pub const JOBS: [Job; 18] = [
     Job { name: "new: the empty book", run: new },
     Job { name: "open: 64 streams, one after the other", run: open },
     Job { name: "open: 32 streams with a second route, one after the other", run: open_doubled },
     Job { name: "post: 64 opens in one list", run: post_opens },
     Job { name: "post: 32 opens with a second route in one list", run: post_doubled },
+    Job { name: "post: the same where nodes hear two steps far", run: post_heard },
     CHECK,
     Job { name: "rewrite: the full book", run: rewrite },
     Job { name: "expand: every node of the full book", run: expand },
@@ -108,7 +112,7 @@ pub const JOBS: [Job; 17] = [
 
 fn new(planner: &dyn Planner, site: &Site, show: Show) {
     let mut out = [0; LONGEST_IMAGE];
-    let said = planner.new_book(&PLAN, &site.topology, &mut out);
+    let said = planner.new_book(&PLAN, &site.topology, &site.topology, &mut out);
     show_bytes(show, said, &out);
 }
 
@@ -131,6 +135,10 @@ fn post_opens(planner: &dyn Planner, site: &Site, show: Show) {
 
 fn post_doubled(planner: &dyn Planner, site: &Site, show: Show) {
     post_all(planner, &site.empty, &site.doubled, |stream| vec![Request::open(stream)], show);
+}
+
+fn post_heard(planner: &dyn Planner, site: &Site, show: Show) {
+    post_all(planner, &site.heard, &site.doubled, |stream| vec![Request::open(stream)], show);
 }
 
 fn post_closes(planner: &dyn Planner, site: &Site, show: Show) {

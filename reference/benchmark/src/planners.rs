@@ -1,6 +1,6 @@
 //! The three planners behind one interface.
 
-use reference::calls;
+use reference::calls::{self, Site};
 use reference::change::Open;
 use reference::record::Record;
 
@@ -9,7 +9,7 @@ pub type Said = (u8, usize);
 
 /// A planner's calls that the jobs make.
 pub trait Planner {
-    fn new_book(&self, plan: &Plan, topology: &[u8], out: &mut [u8]) -> Said;
+    fn new_book(&self, plan: &Plan, links: &[u8], hearing: &[u8], out: &mut [u8]) -> Said;
     fn check(&self, book: &[u8]) -> Said;
     fn rewrite(&self, book: &[u8], out: &mut [u8]) -> Said;
     fn open(&self, book: &[u8], stream: &Stream, out: &mut [u8]) -> Said;
@@ -20,7 +20,7 @@ pub trait Planner {
     fn routes(&self, book: &[u8], source: u8, destination: u8, out: &mut [u8]) -> (Said, bool);
 }
 
-/// The arguments of a new book beside its topology.
+/// The arguments of a new book beside its links and who hears whom.
 pub struct Plan {
     pub s: u8,
     pub c: u8,
@@ -79,8 +79,10 @@ macro_rules! planner_in_c {
                     d: u8,
                     u: u8,
                     n: u8,
-                    topology: *const u8,
-                    topology_len: usize,
+                    links: *const u8,
+                    links_len: usize,
+                    hearing: *const u8,
+                    hearing_len: usize,
                     out: *mut u8,
                     out_len: usize,
                     length: *mut usize,
@@ -164,9 +166,8 @@ macro_rules! planner_in_c {
         // Safety, of every call: each pointer goes with the length of its own slice, and a
         // shared and a mutable slice never overlap.
         impl Planner for $planner {
-            fn new_book(&self, plan: &Plan, topology: &[u8], out: &mut [u8]) -> Said {
+            fn new_book(&self, plan: &Plan, links: &[u8], hearing: &[u8], out: &mut [u8]) -> Said {
                 let Plan { s, c, kinds, d, u, n } = *plan;
-                let (rows, size) = (topology.as_ptr(), topology.len());
                 said(|length| unsafe {
                     $module::new(
                         s,
@@ -175,8 +176,10 @@ macro_rules! planner_in_c {
                         d,
                         u,
                         n,
-                        rows,
-                        size,
+                        links.as_ptr(),
+                        links.len(),
+                        hearing.as_ptr(),
+                        hearing.len(),
                         out.as_mut_ptr(),
                         out.len(),
                         length,
@@ -301,9 +304,10 @@ fn said(call: impl FnOnce(&mut usize) -> u8) -> Said {
 pub struct Reference;
 
 impl Planner for Reference {
-    fn new_book(&self, plan: &Plan, topology: &[u8], out: &mut [u8]) -> Said {
+    fn new_book(&self, plan: &Plan, links: &[u8], hearing: &[u8], out: &mut [u8]) -> Said {
         let Plan { s, c, kinds, d, u, n } = *plan;
-        calls::new(s, c, kinds, d, u, n, topology, out)
+        let plan = reference::plan::Plan { s, c, kinds, d, u };
+        calls::new(&Site { plan, nodes: n, links, hearing }, out)
     }
 
     fn check(&self, book: &[u8]) -> Said {

@@ -2,10 +2,12 @@
 #![allow(dead_code)]
 
 use reference::book::Book;
+use reference::calls::{self, Site};
 use reference::change::Open;
+use reference::image;
+use reference::plan::Plan;
 use reference::row::{FIRST_ROUTE, Row, SECOND_ROUTE};
 use reference::version::Version;
-use reference::{calls, image};
 
 /// Longer than any answer.
 pub const ROOM: usize = 16384;
@@ -32,11 +34,20 @@ pub fn line(nodes: usize) -> Vec<u8> {
     topology(nodes, &links)
 }
 
-/// An empty book.
-pub fn new_book(plan: (u8, u8, u16, u8, u8), topology: &[u8]) -> Vec<u8> {
-    let (s, c, kinds, d, u) = plan;
-    let n = (topology.len() / 8) as u8;
-    written(|out| calls::new(s, c, kinds, d, u, n, topology, out))
+/// A site that hears exactly its links.
+pub fn site((s, c, kinds, d, u): (u8, u8, u16, u8, u8), nodes: u8, links: &[u8]) -> Site<'_> {
+    Site { plan: Plan { s, c, kinds, d, u }, nodes, links, hearing: links }
+}
+
+/// An empty book that hears exactly its links.
+pub fn new_book(plan: (u8, u8, u16, u8, u8), links: &[u8]) -> Vec<u8> {
+    new_book_hearing(plan, links, links)
+}
+
+/// An empty book with this hearing.
+pub fn new_book_hearing(plan: (u8, u8, u16, u8, u8), links: &[u8], hearing: &[u8]) -> Vec<u8> {
+    let nodes = (links.len() / 8) as u8;
+    written(|out| calls::new(&Site { hearing, ..site(plan, nodes, links) }, out))
 }
 
 /// Plan A on a line of nodes, no streams.

@@ -1,78 +1,104 @@
--- The topology, the rows and their hops are tested in turn.
-use mathlib.Core.Path.{sym, _∙_, subst}
+-- The topologies, the rows and their hops are tested in turn.
+use mathlib.Core.Path.{_≡_, sym, ap, _∙_, subst₂}
+use mathlib.Core.List.{List}
+use Prim.Native.Nat.{ℕ}
 use native.Mathlib.Omega.{arith}
 use borrow.Author.Needs.{needs}
 use borrow.Author.Tests.{not-true, not-false}
-use Rattle.rules.specs.Topology.{SoundTopology, SoundTopologies}
-use Rattle.rules.specs.Image.{linksOf, hearingOf, RowsOf}
+use lib.ListN.{length, take}
+use Rattle.rules.specs.Topology.{SoundTopologies}
+use Rattle.rules.specs.Image.{nodesOf, linksOf, hearingOf, RowsOf}
 use Rattle.rules.proofs.Tests.{fails}
-use Rattle.rules.proofs.Hearing.{heard-links}
 use Rattle.rules.proofs.Reading.{rowsIn}
+use Rattle.image.proofs.Topologies.{hearing-inside, hearing-nodes, hearing-rows}
+use Rattle.bitset.specs.Rows.{topology}
+use Rattle.rows.specs.Frame.{ReadFrom}
 use Rattle.rows.proofs.Walks.{links-read, nodes-read, topology-read}
 use Rattle.lawful.proofs.Verdicts.{unsound, no-rows, meeting-hops, lawful-book}
 use Rattle.lawful.proofs.body_verdict.Statement.{statement}
 use Rattle.lawful.proofs.body_verdict.Tie as tie
 
-slice-aggregate-links : tie.Need-slice-aggregate-links
-slice-aggregate-links c =
+sets-requires-2 : tie.Need-sets-requires-2
+sets-requires-2 c κs =
     let p = c .before .before .before .pre in
-    p .2 .nodes ∙ sym (nodes-read (links-read (p .1) (p .2) (c .before .sets .ensures)))
+    (omega (arith, p .2 .nodes, p .1 .fields .nodes), hearing-inside (omega (arith, p .1 .size)) (p .2) (c .hearing-place .ensures))
 
-sound-requires : tie.Need-sound-requires
-sound-requires c κs =
-    let p = c .before .before .before .pre in
-    let read = links-read (p .1) (p .2) (c .before .sets .ensures) in
-    (omega (arith, nodes-read read, p .1 .fields .nodes), omega (arith, nodes-read read, p .1 .fields .nodes))
+-- what was read: the links, and the hearing
+links-here : (c : tie.After-sets2) → let start = c .before .before .before .before in
+    ReadFrom (start .args .image .now) (start .args .book) (take (start .args .book .nodes) (c .before .before .sets .result))
+links-here c = let p = c .before .before .before .before .pre in links-read (p .1) (p .2) (c .before .before .sets .ensures)
+
+hearing-here : (c : tie.After-sets2) → let start = c .before .before .before .before in
+    take (start .args .book .nodes) (c .sets2 .result) ≡ hearingOf (start .args .image .now) .rows
+hearing-here c = hearing-rows (c .before .before .before .before .pre .2) (c .before .hearing-place .ensures) (c .sets2 .ensures)
+
+hearing-count : (c : tie.After-sets2) → let start = c .before .before .before .before in
+    length (take (start .args .book .nodes) (c .sets2 .result)) ≡ nodesOf (start .args .image .now)
+hearing-count c = ap length (hearing-here c) ∙ hearing-nodes (c .before .before .before .before .args .image .now)
+
+slice-aggregate-links : tie.Need-slice-aggregate-links
+slice-aggregate-links c = c .before .before .before .before .before .pre .2 .nodes ∙ sym (nodes-read (links-here (c .before)))
+
+slice-aggregate-hearing : tie.Need-slice-aggregate-hearing
+slice-aggregate-hearing c = c .before .before .before .before .before .before .pre .2 .nodes ∙ sym (hearing-count (c .before .before))
+
+both-sound-requires : tie.Need-both-sound-requires
+both-sound-requires c κs =
+    let p = c .before .before .before .before .before .before .pre in
+    let count = nodes-read (links-here (c .before .before)) in
+    ((omega (arith, count, p .1 .fields .nodes), omega (arith, count, p .1 .fields .nodes)), hearing-count (c .before .before) ∙ sym count)
 
 returns : tie.Need-returns
 returns c =
-    let p = c .before .before .before .before .before .pre in
-    let read = links-read (p .1) (p .2) (c .before .before .before .sets .ensures) in
-    unsound _ (p .0) (p .1) (λ h. fails (c .before .sound .ensures) (not-true _ (c .if1 .taken)) (subst SoundTopology (sym (topology-read read)) (h .links-sound)))
+    let read = c .before .before .before .before in
+    let p = read .before .before .before .before .pre in
+    unsound _ (p .0) (p .1) (λ h. fails (c .before .both-sound .ensures) (not-true _ (c .if1 .taken))
+    (subst₂ SoundTopologies (sym (topology-read (links-here read))) (sym (ap topology (hearing-here read))) h))
 
 rows-hold-requires : tie.Need-rows-hold-requires
-rows-hold-requires c κs = let p = c .before .before .before .before .before .pre in links-read (p .1) (p .2) (c .before .before .before .sets .ensures)
+rows-hold-requires c κs = links-here (c .before .before .before .before)
 
--- the topology is sound
-sound-here : (c : tie.Else1) → let s = c .before .before .before .before .before .args .image .now in SoundTopologies (linksOf s) (hearingOf s)
+-- the topologies are sound
+sound-here : (c : tie.Else1) → let s = c .before .before .before .before .before .before .before .before .args .image .now in SoundTopologies (linksOf s) (hearingOf s)
 sound-here c =
-    let p = c .before .before .before .before .before .pre in
-    heard-links _ (subst SoundTopology (topology-read (links-read (p .1) (p .2) (c .before .before .before .sets .ensures)))
-    (c .before .sound .ensures .yes (not-false _ (c .if1 .left))))
+    let read = c .before .before .before .before in
+    subst₂ SoundTopologies (topology-read (links-here read)) (ap topology (hearing-here read)) (c .before .both-sound .ensures .yes (not-false _ (c .if1 .left)))
 
 returns-2 : tie.Need-returns-2
 returns-2 c =
-    let p = c .before .before .before .before .before .before .before .pre in
+    let p = c .before .before .before .before .before .before .before .before .before .before .pre in
     no-rows _ (p .0) (p .1) (sound-here (c .before .before)) (fails (c .before .rows-hold .ensures) (not-true _ (c .if2 .taken)))
 
 -- and the rows are rows
-rows-here : (c : tie.Else2) → let s = c .before .before .before .before .before .before .before .args .image .now in RowsOf s (rowsIn s)
+rows-here : (c : tie.Else2) → let s = c .before .before .before .before .before .before .before .before .before .before .args .image .now in RowsOf s (rowsIn s)
 rows-here c = c .before .rows-hold .ensures .yes (not-false _ (c .if2 .left))
 
 hops-meet-requires : tie.Need-hops-meet-requires
 hops-meet-requires c κs =
-    let p = c .before .before .before .before .before .before .before .before .pre in
+    let sound = c .before .before .before in
+    let read = sound .before .before .before .before in
+    let p = read .before .before .before .before .pre in
     record {
       framed = p .1;
       header = p .2;
-      hearing-read = record {
-        rows-are = links-read (p .1) (p .2) (c .before .before .before .before .before .before .sets .ensures) .links-are;
-        sound = sound-here (c .before .before .before);
-      };
+      hearing-read = record { rows-are = hearing-here read; sound = sound-here sound };
       rows = rows-here (c .before);
     }
 
 returns-3 : tie.Need-returns-3
 returns-3 c =
-    let p = c .before .before .before .before .before .before .before .before .before .before .pre in
-    meeting-hops _ (p .0) (p .1) (sound-here (c .before .before .before .before .before)) (rows-here (c .before .before .before))
-    (c .before .hops-meet .ensures .met .yes (c .if3 .taken))
+    let rows = c .before .before .before in
+    let sound = rows .before .before in
+    let p = sound .before .before .before .before .before .before .before .before .pre in
+    meeting-hops _ (p .0) (p .1) (sound-here sound) (rows-here rows) (c .before .hops-meet .ensures .met .yes (c .if3 .taken))
 
 returns-4 : tie.Need-returns-4
 returns-4 c =
-    let start = c .before .before .before .before .before .before .before .before .before in
-    let p = start .before .pre in
-    lawful-book _ (p .0) (p .1) (sound-here (c .before .before .before .before .before)) (rows-here (c .before .before .before)) (λ i. start .shared-slice-known .given i .fits)
+    let rows = c .before .before .before in
+    let sound = rows .before .before in
+    let known = sound .before .before .before .before .before .before .before in
+    let p = known .before .pre in
+    lawful-book _ (p .0) (p .1) (sound-here sound) (rows-here rows) (λ i. known .shared-slice-known .given i .fits)
     (fails (c .before .hops-meet .ensures .met) (c .if3 .left)) (c .before .hops-meet .ensures .indexed (c .if3 .left))
 
 pub body-verdict-spec : {M : Type 1} → statement M
@@ -80,9 +106,13 @@ body-verdict-spec =
     tie.close
     (tie.spec
     (λ c κs. search needs)
+    (λ c κs. search needs)
+    sets-requires-2
     (λ c. search needs)
     slice-aggregate-links
-    sound-requires
+    (λ c. search needs)
+    slice-aggregate-hearing
+    both-sound-requires
     returns
     rows-hold-requires
     returns-2

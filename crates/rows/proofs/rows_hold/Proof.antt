@@ -2,6 +2,7 @@
 use native.Mathlib.Omega.{arith}
 use borrow.Author.Tests.{not-true, not-false}
 use Rattle.rules.proofs.Tests.{fails, said-no}
+use Rattle.image.proofs.Walks.{rows-start}
 use Rattle.rows.proofs.Filling.{all-fill, tests-rows-of}
 use Rattle.rows.proofs.Walks.{plan-read, nodes-most, row-tested, row-by-read, Still, still-start, still-no, still-next, still-end}
 use Rattle.rows.proofs.rows_hold.Statement.{statement}
@@ -14,7 +15,9 @@ abbrev μ-loop : tie.MeasureT-loop
 μ-loop image links plan at₀ before₀ last₀ left₀ at before last left = left
 
 loop-holds : tie.Need-loop-holds Inv-loop μ-loop
-loop-holds c = still-start _ _ (c .before .before .before .before .pre .framed) (omega arith) (omega arith)
+loop-holds c =
+    let p = c .before .before .before .before .pre in
+    still-start _ _ (p .framed) (rows-start (p .header) (c .rows-start .ensures)) (omega arith)
 
 returns : tie.Need-returns Inv-loop μ-loop
 returns c =

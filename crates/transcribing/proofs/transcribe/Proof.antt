@@ -3,7 +3,7 @@ use native.Mathlib.Omega.{arith}
 use borrow.Author.Needs.{needs}
 use mathlib.Core.Path.{refl}
 use Rattle.image.proofs.Stands.{stored-length, stands-row}
-use Rattle.transcribing.proofs.Copied.{Copied, front-fits, copied-start, copied-room, copied-next, copied-end}
+use Rattle.transcribing.proofs.Copied.{Copied, copied-start, copied-room, copied-next, copied-end}
 use Rattle.transcribing.proofs.transcribe.Statement.{statement}
 use Rattle.transcribing.proofs.transcribe.Tie as tie
 
@@ -16,16 +16,14 @@ abbrev μ-loop : tie.MeasureT-loop
 read-requires : tie.Need-read-requires Inv-loop μ-loop
 read-requires c κs = omega (arith, stored-length (c .before .pre))
 
-put-front-requires : tie.Need-put-front-requires Inv-loop μ-loop
-put-front-requires c κs =
-    let f = front-fits (c .before .before .before .before .pre) (c .before .before .read .ensures) (c .before .rows-start .ensures) in
-    (f .0, f .1, omega (arith, f .2))
+put-site-requires : tie.Need-put-site-requires Inv-loop μ-loop
+put-site-requires c κs = (c .before .before .before .before .pre, c .before .before .read .ensures, omega arith)
 
 loop-holds : tie.Need-loop-holds Inv-loop μ-loop
 loop-holds c =
     let a = c .before .before .before .before .before in
-    copied-start (a .pre) (a .args .out .now) (omega (arith, c .put-front .kept .1 .0))
-    (c .before .before .before .read .ensures) (c .before .before .rows-start .ensures) refl (c .put-front .ensures)
+    copied-start (a .pre) (a .args .out .now) (omega (arith, c .put-site .kept .1 .1 .0))
+    (c .before .before .before .read .ensures) (c .before .before .rows-start .ensures) refl (c .put-site .ensures)
 
 put-again-requires : tie.Need-put-again-requires Inv-loop μ-loop
 put-again-requires c κs =
@@ -48,7 +46,7 @@ transcribe-spec =
     μ-loop
     read-requires
     (λ c κs. search needs)
-    put-front-requires
+    put-site-requires
     loop-holds
     put-again-requires
     (λ c κs. stands-row (c .before .before .loop-test .taken) (c .before .before .before .loop .inv .stands) .whole)

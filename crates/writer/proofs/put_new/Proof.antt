@@ -7,12 +7,14 @@ use Rattle.writer.proofs.put_new.Tie as tie
 
 returns : tie.Need-returns
 returns c =
-    let topology = c .before .before in
-    let rest = topology .before .before .before .before in
+    let hearing = c .before .before in
+    let links = hearing .before .before .before .before in
+    let rest = links .before .before .before .before in
     let mark = rest .before .before .before .before .before in
     let made = mark .before .before .before in
-    let a = made .before .before .before in
-    new-written _ _ _ _ _ _ (thePlan (a .args .plan)) (a .args .nodes) (mark .put-part .ensures) (made .fields .ensures) (rest .put-part2 .ensures) (topology .put-part3 .ensures)
+    let a = made .before .before .before .before in
+    new-written _ _ _ _ _ _ _ _ (thePlan (a .args .plan)) (a .args .nodes) (mark .put-part .ensures) (made .fields .ensures) (rest .put-part2 .ensures)
+    (links .put-part3 .ensures) (hearing .put-part4 .ensures)
 
 pub put-new-spec : {M : Type 1} → statement M
 put-new-spec =
@@ -23,6 +25,8 @@ put-new-spec =
     (λ c κs. search needs)
     (λ c. search needs)
     (λ c κs. search needs)
+    (λ c κs. search needs)
+    (λ c. search needs)
     (λ c κs. search needs)
     (λ c. search needs)
     returns)

@@ -17,6 +17,7 @@ const OLDER_KEPT: &str = "older versions kept by a rewrite";
 const OLDER_CHANGED: &str = "older versions written in the newest by a change";
 const SECOND_OPENED: &str = "second routes opened";
 const BOTH_CLOSED: &str = "streams closed with both their routes";
+const HEARD_FURTHER: &str = "calls done on a book that hears further than its links";
 const EMPTY_LIST: &str = "postings of an empty list";
 const NONE_DONE: &str = "postings of which no record was done";
 const ALL_DONE: &str = "postings of which every record was done";
@@ -25,7 +26,7 @@ const LONGEST_LIST: &str = "postings of 64 records";
 const NO_LINKS: &str = "nodes without a link";
 const MOST_LINKS: &str = "nodes with 63 links";
 
-pub const EVENTS: [&str; 16] = [
+pub const EVENTS: [&str; 17] = [
     NO_ROUTE,
     FEW_ROUTES,
     ALL_LISTED,
@@ -35,6 +36,7 @@ pub const EVENTS: [&str; 16] = [
     OLDER_CHANGED,
     SECOND_OPENED,
     BOTH_CLOSED,
+    HEARD_FURTHER,
     EMPTY_LIST,
     NONE_DONE,
     ALL_DONE,
@@ -62,6 +64,9 @@ pub fn events(request: &Request, answer: &Answer) -> Vec<&'static str> {
     };
     if older {
         events.push(OLDER_READ);
+    }
+    if book.topology.hearing != book.topology.links {
+        events.push(HEARD_FURTHER);
     }
     if request.call == Call::Open && request.second {
         events.push(SECOND_OPENED);

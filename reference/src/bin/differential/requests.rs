@@ -5,7 +5,12 @@ use reference::frame::{Call, Request};
 use reference::plan::{PERIODS, Plan};
 use reference::record::Record;
 
-pub fn new(plan: &Plan, nodes: u8, topology: &[u8]) -> Request {
+/// A new book whose hearing is its links.
+pub fn new(plan: &Plan, nodes: u8, links: &[u8]) -> Request {
+    new_with_hearing(plan, nodes, links, links)
+}
+
+pub fn new_with_hearing(plan: &Plan, nodes: u8, links: &[u8], hearing: &[u8]) -> Request {
     Request {
         s: plan.s,
         c: plan.c,
@@ -13,7 +18,8 @@ pub fn new(plan: &Plan, nodes: u8, topology: &[u8]) -> Request {
         d: plan.d,
         u: plan.u,
         n: nodes,
-        bytes: topology.to_vec(),
+        bytes: links.to_vec(),
+        hearing: hearing.to_vec(),
         ..Request::blank(Call::New)
     }
 }

@@ -89,12 +89,12 @@ fn other_route(book: &Book, source: u8, destination: u8) -> bool {
     // The first route's own links go too, or one of one link were found again.
     for pair in first.windows(2) {
         let (a, b) = (usize::from(pair[0]), usize::from(pair[1]));
-        topology.rows[a] &= !(1 << b);
-        topology.rows[b] &= !(1 << a);
+        topology.links[a] &= !(1 << b);
+        topology.links[b] &= !(1 << a);
     }
     for &node in &first[1..first.len() - 1] {
-        topology.rows.iter_mut().for_each(|row| *row &= !(1 << node));
-        topology.rows[usize::from(node)] = 0;
+        topology.links.iter_mut().for_each(|row| *row &= !(1 << node));
+        topology.links[usize::from(node)] = 0;
     }
     planners_route(&topology, source, destination) != Err(Refusal::NoRoute)
 }

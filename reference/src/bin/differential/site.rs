@@ -39,13 +39,14 @@ fn any_control(dice: &mut Dice, s: u8) -> u8 {
     }
 }
 
+/// A site that hears exactly its links.
 pub fn of_links(nodes: usize, links: impl IntoIterator<Item = (usize, usize)>) -> Topology {
     let mut rows = vec![0; nodes];
     for (a, b) in links {
         rows[a] |= 1 << b;
         rows[b] |= 1 << a;
     }
-    Topology { rows }
+    Topology { hearing: rows.clone(), links: rows }
 }
 
 /// Links 0-1, 1-2 and so on.
@@ -90,6 +91,27 @@ fn scattered(dice: &mut Dice, nodes: usize, percent: usize) -> Topology {
     of_links(nodes, pairs.filter(|_| dice.chance(percent)).collect::<Vec<_>>())
 }
 
+/// The same links, and these nodes hear each other too.
+pub fn hearing_also(
+    topology: Topology,
+    pairs: impl IntoIterator<Item = (usize, usize)>,
+) -> Topology {
+    let mut further = topology;
+    for (a, b) in pairs {
+        further.hearing[a] |= 1 << b;
+        further.hearing[b] |= 1 << a;
+    }
+    further
+}
+
+/// The same links, and each two nodes hear each other with this chance.
+pub fn hearing_further(dice: &mut Dice, topology: Topology, percent: usize) -> Topology {
+    let nodes = topology.links.len();
+    let pairs = (0..nodes).flat_map(|a| (0..a).map(move |b| (a, b)));
+    let heard: Vec<_> = pairs.filter(|_| dice.chance(percent)).collect();
+    hearing_also(topology, heard)
+}
+
 /// The same links between nodes numbered anew.
 fn renumbered(dice: &mut Dice, topology: &Topology) -> Topology {
     let nodes = topology.nodes();
@@ -101,7 +123,8 @@ fn renumbered(dice: &mut Dice, topology: &Topology) -> Topology {
     of_links(usize::from(nodes), renamed.collect::<Vec<_>>())
 }
 
-/// Any topology of two nodes or more.
+/// Any topology of two nodes or more; a third of them hear further than their
+/// links.
 pub fn any_topology(dice: &mut Dice) -> Topology {
     let nodes = match dice.below(12) {
         0 => 2,
@@ -123,7 +146,12 @@ pub fn any_topology(dice: &mut Dice) -> Topology {
             scattered(dice, nodes, percent)
         }
     };
-    if dice.chance(60) { renumbered(dice, &topology) } else { topology }
+    let topology = if dice.chance(60) { renumbered(dice, &topology) } else { topology };
+    match dice.below(6) {
+        0 => hearing_further(dice, topology, 5),
+        1 => hearing_further(dice, topology, 40),
+        _ => topology,
+    }
 }
 
 pub fn empty_book(plan: Plan, topology: Topology) -> Book {

@@ -1,12 +1,13 @@
 //! The arguments of a new book: each in and out of its range, and the
 //! topology sound and unsound.
 
+use super::new_request;
 use crate::dice::Dice;
 use crate::driver::{Driver, Room};
-use crate::requests::new;
+use crate::requests::{new, new_with_hearing};
 use crate::site::{any_plan, any_topology, line, plan_a};
 use reference::plan::Plan;
-use reference::topology::Topology;
+use reference::topology::write_rows;
 
 pub fn ask(driver: &mut Driver, dice: &mut Dice) {
     each_byte(driver);
@@ -22,7 +23,7 @@ pub fn ask(driver: &mut Driver, dice: &mut Dice) {
 
 /// S, C, D, U and N at every value, the others as in plan A.
 fn each_byte(driver: &mut Driver) {
-    let rows = line(4).write();
+    let rows = write_rows(&line(4).links);
     for value in 0..=255 {
         let plans = [
             Plan { s: value, ..plan_a() },
@@ -40,7 +41,7 @@ fn each_byte(driver: &mut Driver) {
 
 /// For every C each single bit of the tile kinds, and all bits below C.
 fn tile_kinds(driver: &mut Driver) {
-    let rows = line(3).write();
+    let rows = write_rows(&line(3).links);
     for c in [1, 2, 4, 5, 10] {
         for bit in 0..16 {
             driver.ask(new(&Plan { c, kinds: 1 << bit, ..plan_a() }, 3, &rows), Room::Exact);
@@ -54,8 +55,9 @@ fn tile_kinds(driver: &mut Driver) {
 /// Every N with a topology of its length.
 fn node_counts(driver: &mut Driver) {
     for nodes in 0..=128 {
-        let rows = line(nodes.min(64)).rows.into_iter().chain([0; 64]).take(nodes).collect();
-        let rows = Topology { rows }.write();
+        let rows: Vec<u64> =
+            line(nodes.min(64)).links.into_iter().chain([0; 64]).take(nodes).collect();
+        let rows = write_rows(&rows);
         for room in [Room::Exact, Room::OneShort, Room::Spare(9)] {
             driver.ask(new(&plan_a(), nodes as u8, &rows), room);
         }
@@ -66,27 +68,36 @@ fn node_counts(driver: &mut Driver) {
 fn topology_bits(driver: &mut Driver) {
     for nodes in [2, 5, 63, 64] {
         let sound = line(nodes);
-        for a in 0..nodes.min(5) {
-            for b in 0..64 {
-                let mut turned = sound.clone();
-                turned.rows[a] ^= 1 << b;
-                driver.ask(new(&plan_a(), nodes as u8, &turned.write()), Room::Exact);
-                if b < nodes && b != a {
-                    turned.rows[b] ^= 1 << a;
-                    driver.ask(new(&plan_a(), nodes as u8, &turned.write()), Room::Exact);
-                }
+        for (a, b) in (0..nodes.min(5)).flat_map(|a| (0..64).map(move |b| (a, b))) {
+            let mut turned = sound.links.clone();
+            turned[a] ^= 1 << b;
+            links_and_hearing(driver, &sound.links, &turned);
+            if b < nodes && b != a {
+                turned[b] ^= 1 << a;
+                links_and_hearing(driver, &sound.links, &turned);
             }
         }
     }
 }
 
-/// Topologies of the wrong length.
+/// Changed rows as the links, as the hearing and as both.
+fn links_and_hearing(driver: &mut Driver, sound: &[u64], turned: &[u64]) {
+    let (nodes, sound, turned) = (sound.len() as u8, write_rows(sound), write_rows(turned));
+    for (links, hearing) in [(&turned, &turned), (&sound, &turned), (&turned, &sound)] {
+        driver.ask(new_with_hearing(&plan_a(), nodes, links, hearing), Room::Exact);
+    }
+}
+
+/// Topologies of the wrong length, of links, of hearing and of both.
 fn topology_lengths(driver: &mut Driver) {
     let rows = vec![0; 1024];
     for nodes in [2, 3, 31, 32, 33, 63, 64] {
         let right = 8 * nodes;
         for length in [0, 1, 8, right - 8, right - 1, right, right + 1, right + 8, 512, 1024] {
-            driver.ask(new(&plan_a(), nodes as u8, &rows[..length]), Room::Exact);
+            let (right, wrong) = (&rows[..right], &rows[..length]);
+            for (links, hearing) in [(wrong, wrong), (right, wrong), (wrong, right)] {
+                driver.ask(new_with_hearing(&plan_a(), nodes as u8, links, hearing), Room::Exact);
+            }
         }
     }
 }
@@ -95,9 +106,9 @@ fn topology_lengths(driver: &mut Driver) {
 fn order(driver: &mut Driver) {
     for faults in 0..8 {
         let s = if faults & 1 == 0 { 4 } else { 33 };
-        let rows = if faults & 2 == 0 { line(4) } else { Topology { rows: vec![1; 4] } };
+        let rows = if faults & 2 == 0 { line(4).links } else { vec![1; 4] };
         let room = if faults & 4 == 0 { Room::Full } else { Room::Nothing };
-        driver.ask(new(&Plan { s, ..plan_a() }, 4, &rows.write()), room);
+        driver.ask(new(&Plan { s, ..plan_a() }, 4, &write_rows(&rows)), room);
     }
 }
 
@@ -109,8 +120,9 @@ fn thrown(driver: &mut Driver, dice: &mut Dice) {
         0 => plan.kinds ^= 1 << dice.below(16),
         1 => plan.d = plan.s + 1,
         2 => plan.c = dice.byte(),
-        3 => topology.rows[dice.below(usize::from(nodes))] ^= 1 << dice.below(64),
+        3 => topology.links[dice.below(usize::from(nodes))] ^= 1 << dice.below(64),
+        4 => topology.hearing[dice.below(usize::from(nodes))] ^= 1 << dice.below(64),
         _ => {}
     }
-    driver.ask(new(&plan, nodes, &topology.write()), Room::any(dice));
+    driver.ask(new_request(&plan, &topology), Room::any(dice));
 }

@@ -4,13 +4,13 @@ use crate::dice::Dice;
 use crate::driver::{Driver, Room};
 use crate::requests::{self, BOOK_CALLS};
 use crate::site::{
-    add_stream, add_with_second, empty_book, grid, ids, line, load, of_links, open_plan, plan_a,
-    versions,
+    add_stream, add_with_second, empty_book, grid, hearing_also, ids, line, load, of_links,
+    open_plan, plan_a, versions,
 };
 use reference::book::Book;
 use reference::image;
 use reference::plan::Plan;
-use reference::version::Version;
+use reference::version::{HEADER_LENGTH, Version};
 
 pub fn ask(driver: &mut Driver, dice: &mut Dice) {
     for (version, book) in small_books() {
@@ -43,12 +43,13 @@ fn small_books() -> Vec<(Version, Book)> {
     let mut both_ways = empty_book(open_plan(2), square);
     add_with_second(&mut both_ways, 3, 0, 3, 5);
     add_stream(&mut both_ways, 4, 1, 2, 10);
-    let mut books: Vec<(Version, Book)> =
-        versions(&pair).into_iter().map(|version| (version, pair.clone())).collect();
-    books.push((Version::One, two_ways));
-    books.push((Version::One, triangle));
-    books.push((Version::NEWEST, both_ways));
-    books
+    vec![
+        (Version::One, pair.clone()),
+        (Version::NEWEST, pair),
+        (Version::One, two_ways),
+        (Version::One, triangle),
+        (Version::NEWEST, both_ways),
+    ]
 }
 
 /// Books that are changed bit by bit.
@@ -60,7 +61,12 @@ fn larger_books(dice: &mut Dice) -> Vec<(Version, Book)> {
     add_stream(&mut long, 300, 0, 15, 100);
     add_stream(&mut long, 200, 15, 0, 50);
     add_stream(&mut long, 400, 4, 11, 20);
-    vec![(Version::NEWEST, crowded), (Version::One, long.clone()), (Version::NEWEST, long)]
+    // Nodes 0 and 3 hear each other without a link.
+    let mut heard = empty_book(open_plan(2), hearing_also(line(4), [(0, 3)]));
+    add_stream(&mut heard, 1, 0, 3, 10);
+    let mut books = vec![(Version::NEWEST, crowded), (Version::NEWEST, heard)];
+    books.extend(versions(&long).into_iter().map(|version| (version, long.clone())));
+    books
 }
 
 /// Every call in turn, mostly with a buffer that holds the answer.
@@ -84,11 +90,15 @@ fn cut_and_grown(driver: &mut Driver, dice: &mut Dice, version: Version, book: &
     }
 }
 
+/// Every value at every byte; in the topology every bit, which is a link or
+/// none.
 fn every_value(driver: &mut Driver, dice: &mut Dice, version: Version, book: &Book) {
     let (mut image, ids) = (image::write(version, book), ids(book));
+    let topology = HEADER_LENGTH..version.image_length(book.topology.nodes(), 0, 0);
     for place in 0..image.len() {
         let kept = image[place];
-        for change in 1..=255 {
+        let in_topology = topology.contains(&place);
+        for change in (1..=255u8).filter(|change| !in_topology || change.is_power_of_two()) {
             image[place] = kept ^ change;
             ask_next(driver, dice, place + usize::from(change), &image, &ids);
         }

@@ -5,7 +5,7 @@ use crate::driver::{Driver, Room};
 use crate::requests::{
     balance, check, close, expand, links, open, open_with_second, rewrite, routes,
 };
-use crate::site::{empty_book, images, line, of_links, open_plan, plan_a};
+use crate::site::{empty_book, hearing_also, images, line, of_links, open_plan, plan_a};
 use reference::plan::Plan;
 
 pub fn ask(driver: &mut Driver) {
@@ -13,6 +13,9 @@ pub fn ask(driver: &mut Driver) {
     for empty in images(&empty_book(plan_a(), line(4))) {
         on_line_a(driver, empty);
     }
+    // P8 where 3 hears 1: 0→1 and 3→2 clash.
+    let heard = new_image(driver, &plan_a(), &hearing_also(line(4), [(1, 3)]));
+    on_line_a(driver, heard);
     new_image(driver, &plan_a(), &line(2));
     for empty in images(&empty_book(plan_a(), line(2))) {
         on_two_nodes(driver, &empty);

@@ -17,13 +17,19 @@ mod unusual;
 use crate::dice::Dice;
 use crate::driver::{Driver, Room};
 use crate::requests;
+use reference::frame::Request;
 use reference::plan::Plan;
-use reference::topology::Topology;
+use reference::topology::{Topology, write_rows};
 
 /// The image of an empty book, asked for.
 fn new_image(driver: &mut Driver, plan: &Plan, topology: &Topology) -> Vec<u8> {
-    let request = requests::new(plan, topology.nodes(), &topology.write());
-    driver.ask(request, Room::Exact).written().to_vec()
+    driver.ask(new_request(plan, topology), Room::Exact).written().to_vec()
+}
+
+/// A new book of this site.
+fn new_request(plan: &Plan, topology: &Topology) -> Request {
+    let (links, hearing) = (write_rows(&topology.links), write_rows(&topology.hearing));
+    requests::new_with_hearing(plan, topology.nodes(), &links, &hearing)
 }
 
 /// The families whose size is fixed.

@@ -73,13 +73,25 @@ fn change_plan(dice: &mut Dice, book: &mut Book) {
     }
 }
 
-/// One link made or cut: hops may now clash or have no link.
+/// One link or one hearing made or cut: hops may now clash or have no link, or
+/// a link may not be heard.
 fn change_link(dice: &mut Dice, book: &mut Book) {
-    let nodes = book.topology.rows.len();
+    let topology = &mut book.topology;
+    let nodes = topology.links.len();
     let (a, b) = (dice.below(nodes), dice.below(nodes));
-    if a != b {
-        book.topology.rows[a] ^= 1 << b;
-        book.topology.rows[b] ^= 1 << a;
+    let turn = |rows: &mut Vec<u64>| {
+        if a != b {
+            rows[a] ^= 1 << b;
+            rows[b] ^= 1 << a;
+        }
+    };
+    match dice.below(4) {
+        0 => turn(&mut topology.links),
+        1 => turn(&mut topology.hearing),
+        _ => {
+            turn(&mut topology.links);
+            topology.hearing.clone_from(&topology.links);
+        }
     }
 }
 

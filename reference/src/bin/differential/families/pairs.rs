@@ -1,10 +1,10 @@
-//! Two rows of one hop each: every two hops of a line of six, every two
-//! periods, offsets that meet and offsets that just do not.
+//! Two rows of one hop each: every two hops of a line of six, which may hear
+//! further, every two periods, offsets that meet and offsets that just do not.
 
 use crate::dice::Dice;
 use crate::driver::{Driver, Room};
 use crate::requests::{self, BOOK_CALLS, check, open};
-use crate::site::{any_image, empty_book, line, open_plan};
+use crate::site::{any_image, empty_book, hearing_further, line, open_plan};
 use reference::book::Book;
 use reference::plan::{PERIODS, Plan};
 use reference::row::{FIRST_ROUTE, Row};
@@ -28,7 +28,11 @@ fn hops() -> Vec<[u8; 2]> {
 
 fn ask_pair(driver: &mut Driver, dice: &mut Dice, one: ([u8; 2], u8), two: ([u8; 2], u8)) {
     let plan = open_plan(dice.pick(&[1, 2, 3, 32]));
-    let mut book = empty_book(plan, line(usize::from(NODES)));
+    let mut topology = line(usize::from(NODES));
+    if dice.chance(30) {
+        topology = hearing_further(dice, topology, 20);
+    }
+    let mut book = empty_book(plan, topology);
     if dice.chance(30) {
         // Offset 0 would be the first for the second hop, if the two do not meet.
         let offset = other_offset(dice, &book.plan, (0, two.1), one.1);
