@@ -1,22 +1,22 @@
 -- The book with rows more, and its image.
 use mathlib.Core.Path.{_≡_, refl, sym, ap, _∙_, subst}
 use mathlib.Core.Logic.{inl, inr, ⊎-elim}
-use mathlib.Core.List.{List, [], _∷_, _++_}
-use Prim.Native.Nat.{ℕ, _+_, _*_, _<_, _≤_}
+use mathlib.Core.List.{List, [], _∷_, _++_, append-assoc}
+use Prim.Native.Nat.{ℕ, _+_, _-_, _*_, _<_, _≤_}
 use native.Mathlib.Omega.{arith}
 use lib.ListN.{length, take, drop, length-append, length-drop}
-use lib.Seq.{take-at}
+use lib.Seq.{length-take-le}
 use Rattle.rules.specs.Words.{_∈_, Reordered}
 use Rattle.rules.specs.Words.Reordered.{put}
 use Rattle.rules.specs.Book.{Row, Book, key, RisingByKey, hopsInAll, mostStreams, mostHops, Plus}
-use Rattle.rules.specs.Image.{newest, headerLength, linksStart, rowsStart, rowLength, longestImage, versionOf, nodesOf, streamsOf, hopsOf, inTurn, encodeRow, encode}
+use Rattle.rules.specs.Image.{newest, headerLength, linksStart, rowsStart, rowLength, longestImage, versionOf, nodesOf, streamsOf, hopsOf, rowsPlace, inTurn, encodeRow, encode}
 use Rattle.rules.proofs.Written.{length-sets-at}
 use Rattle.rules.proofs.Lists.{reordered-same, in-left, in-right, in-append}
 use Rattle.rules.proofs.Reading.{rowsIn, bookIn, NewestImage, withRows, newest-bytes}
 use Rattle.image.proofs.Stands.{stored-rows, stored-length}
 use Rattle.writer.specs.Over.{over, headed}
-use Rattle.writer.proofs.Laws.{then, over-front, length-headed}
-use Rattle.writer.proofs.Books.{length-body, rows-more}
+use Rattle.writer.proofs.Laws.{then, length-over, length-headed, laid}
+use Rattle.writer.proofs.Books.{rows-low, rows-more}
 use Rattle.finding.specs.Spot.{Vacant}
 use Rattle.finding.proofs.Ids.{with-middle}
 use Rattle.adding.specs.Puts.{Fresh, PutIn}
@@ -52,9 +52,8 @@ module _ {s : List ℕ} {id at : ℕ} (h : NewestImage s) (v : Vacant s id at) w
   behind-encode : drop at (encode newest (bookIn s)) ≡ inTurn (encodeRow newest) (v .rest)
   behind-encode = ap (drop at) (sym (newest-bytes h)) ∙ v .bytes ∙ ap (λ (n : ℕ). inTurn (encodeRow n) (v .rest)) (h .version)
 
-  pub place-low : headerLength ≤ at
-  place-low =
-      omega (arith, length-body (bookIn s) (v .before) (v .rest) (v .all), ap length behind-encode, length-drop at (encode newest (bookIn s)), inside-encode)
+  pub place-low : rowsPlace s ≤ at
+  place-low = rows-low (v .before) (v .rest) (h .lawful) (v .all) (v .inside) (v .bytes)
 
   way-most : (x : Row) → x ∈ v .before → x .way ≤ 2
   way-most x m = h .lawful .lawful .rows x (subst (λ (rows : List Row). x ∈ rows) (sym (v .all)) (in-left x (v .before) (v .rest) m)) .way-most
@@ -98,27 +97,31 @@ module _ {s : List ℕ} {id at : ℕ} {bytes : List ℕ} {new : List Row} (h : N
     long : length (headed s at n k) ≡ at
     long = length-headed s at n k (omega (arith, place-low h (f .vacant))) (f .vacant .inside)
 
+    low : 16 ≤ rowsPlace s
+    low = omega arith
+
     length-more : length s + length bytes ≡ length (encode newest more)
     length-more =
         omega
         (arith, ap length parts, length-append (headed s at n k ++ bytes) (drop at s), length-append (headed s at n k) bytes, long, length-drop at s, f .vacant .inside)
 
-    written : (d o₁ o₂ o₃ tail : List ℕ) (e : ℕ) → o₁ ≡ over d 0 (headed s at n k) → o₂ ≡ over o₁ at bytes → e ≡ at + length bytes → tail ≡ drop at s → o₃ ≡ over o₂ e tail
-        → o₃ ≡ encode newest more ++ drop (length (encode newest more)) d
-    written d o₁ o₂ o₃ tail e p q z t u =
-        let a = then d o₁ o₂ (headed s at n k) bytes 0 at (omega arith) p (omega (arith, long)) q in
-        let b = then d o₂ o₃ (headed s at n k ++ bytes) tail 0 e (omega arith) a (omega (arith, length-append (headed s at n k) bytes, long)) u in
-        b ∙ ap (λ (x : List ℕ). over d 0 (headed s at n k ++ bytes ++ x)) t ∙ ap (over d 0) parts ∙ over-front d (encode newest more)
-
-    pub put-in : (d o₁ o₂ o₃ tail : List ℕ) (e len : ℕ) → length d ≡ longestImage newest → length s + length bytes ≤ longestImage newest → len ≡ length s + length bytes
-        → o₁ ≡ over d 0 (headed s at n k) → o₂ ≡ over o₁ at bytes → e ≡ at + length bytes → tail ≡ drop at s → o₃ ≡ over o₂ e tail → PutIn s new len o₃
-    put-in d o₁ o₂ o₃ tail e len a l b p q z t u =
-        let image : List ℕ = encode newest more in
-        let w : o₃ ≡ image ++ drop (length image) d = written d o₁ o₂ o₃ tail e p q z t u in
-        let m : len ≡ length image = b ∙ length-more in
+    pub put-in : (d o₁ o₂ o₃ tail : List ℕ) (e start len : ℕ) → start ≡ rowsPlace s → length d ≡ longestImage newest → length s + length bytes ≤ longestImage newest
+        → len ≡ length s + length bytes → o₁ ≡ over (over d 0 (headed s headerLength n k)) start (take (at - start) (drop start s)) → o₂ ≡ over o₁ at bytes
+        → e ≡ at + length bytes → tail ≡ drop at s → o₃ ≡ over o₂ e tail → PutIn s new len o₃
+    put-in d o₁ o₂ o₃ tail e start len g a l b p q z t u =
+        let front : List ℕ = take (at - start) (drop start s) in
+        let under : List ℕ = over d 0 (headed s headerLength n k) in
+        let behind = place-low h (f .vacant) in
+        let size : length (headed s headerLength n k) ≡ 16 = length-headed s headerLength n k (omega arith) (omega (arith, low, behind, f .vacant .inside)) in
+        let long-under : length under ≡ length d = length-over d 0 (headed s headerLength n k) (omega (arith, size)) in
+        let long-front : length front ≡ at - start = length-take-le (at - start) (drop start s) (omega (arith, length-drop start s, f .vacant .inside)) in
+        let x = then under o₁ o₂ front bytes start at (omega (arith, long-under, g, behind, f .vacant .inside)) p (omega (arith, long-front, g, behind)) q in
+        let y = then under o₂ o₃ (front ++ bytes) tail start e (omega (arith, long-under, g, behind, f .vacant .inside)) x
+        (omega (arith, length-append front bytes, long-front, g, behind)) u in
         record {
           after = more;
           plus = plus;
-          fits = omega (arith, ap length w, length-append image (drop (length image) d));
-          bytes = ap (take len) w ∙ take-at image (drop (length image) d) len (sym m);
+          laid = laid s d o₃ (bytes ++ drop at s) (encode newest more) at n k start len g (omega (arith, g, behind)) (f .vacant .inside)
+              (sym parts ∙ append-assoc (headed s at n k) bytes (drop at s)) (b ∙ length-more) (omega arith)
+              (y ∙ ap (λ (r : List ℕ). over under start (front ++ bytes ++ r)) t ∙ ap (over under start) (append-assoc front bytes (drop at s)));
         }

@@ -2,7 +2,7 @@
 use mathlib.Core.Path.{_≡_}
 use mathlib.Core.List.{List}
 use Prim.Native.Nat.{ℕ, _+_, _<_, _≤_}
-use lib.ListN.{length, take}
+use lib.ListN.{length}
 use Rattle.rules.specs.Words.{_∈_}
 use Rattle.rules.specs.Topology.{mostRouteHops}
 use Rattle.rules.specs.Placing.{Asked}
@@ -10,6 +10,7 @@ use Rattle.rules.specs.Book.{Row, Book, RisingByKey, hopsInAll, mostStreams, mo
 use Rattle.rules.specs.Image.{newest, inTurn, encodeRow, encode, streamsOf, hopsOf}
 use Rattle.rules.proofs.Encoding.{AllSized}
 use Rattle.rules.proofs.Reading.{bookIn, NewestImage}
+use Rattle.image.specs.Places.{Laid}
 use Rattle.finding.specs.Spot.{Vacant}
 
 -- a place where rows of some id may stand
@@ -25,12 +26,11 @@ pub record Fresh (s : List ℕ) (id at : ℕ) (bytes : List ℕ) (new : List Row
   pub sized : AllSized newest new
   pub bytes-are : bytes ≡ inTurn (encodeRow newest) new
 
--- the image of the book with the rows in it stands in the first bytes
+-- the image of the book with the rows in it is laid out but for the topologies
 pub record PutIn (s : List ℕ) (new : List Row) (len : ℕ) (out : List ℕ) : Type 0 where
   pub after : Book
   pub plus : Plus (bookIn s) new after
-  pub fits : len ≤ length out
-  pub bytes : take len out ≡ encode newest after
+  pub laid : Laid s (encode newest after) len out
 
 -- the rows of these bytes were put in
 abbrev pub PutsRows : List ℕ → ℕ → List ℕ → ℕ → ℕ → ℕ → List ℕ → Type 0

@@ -1,4 +1,4 @@
-// Writes the image of a book in the newest version with the rows of a stream more.
+// Lays out the image of a book in the newest version with the rows of a stream more, but for its topologies, which stay.
 ghost use mathlib.Core.Path.{_≡_};
 ghost use mathlib.Core.List.{[], _∷_};
 ghost use Prim.Native.Nat.{_+_, _*_, _≤_};
@@ -24,7 +24,7 @@ const FIRST: u8 = 1;
 // and its second.
 const SECOND: u8 = 2;
 
-// Writes the image with rows more at the place: so many, of so many hops.
+// Lays out the image with rows more at the place: so many, of so many hops. The topologies are left out.
 fn put_in(
     image: &[u8],
     at: usize,
@@ -42,6 +42,7 @@ fn put_in(
     writer::put_head(
         image,
         out,
+        book.rows_start(),
         at,
         (book.streams + rows) as u8,
         (book.hops + hops) as u16,
@@ -59,7 +60,7 @@ fn row_size(hops: usize) -> usize
     image::row_length(image::NEWEST) + image::HOP * hops
 }
 
-// Writes the image with the row of a stream on one route.
+// Lays out the image with the row of a stream on one route.
 pub fn put_one(
     image: &[u8],
     at: usize,
@@ -78,7 +79,7 @@ pub fn put_one(
     put_in(image, at, &new[..size], 1, hops, out)
 }
 
-// Writes the image with the rows of a stream on two routes.
+// Lays out the image with the rows of a stream on two routes.
 pub fn put_two(
     image: &[u8],
     at: usize,

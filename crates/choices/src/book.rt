@@ -21,6 +21,6 @@ pub fn list_on(image: &[u8], source: Node, destination: Node, out: &mut [u8]) ->
     if source.0 == destination.0 {
         return crate::refused(5);
     }
-    let links = image::sets(image, image::HEADER, n);
+    let links = topologies::sets(image, image::HEADER, n);
     crate::list(&links[..n], bitset::ALL, source, destination, out)
 }

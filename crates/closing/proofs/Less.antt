@@ -5,11 +5,11 @@ use mathlib.Core.List.{List, [], _∷_, _++_}
 use Prim.Native.Nat.{ℕ, _+_, _-_, _≤_}
 use native.Mathlib.Omega.{arith}
 use lib.ListN.{length, take, drop, length-append, length-drop}
-use lib.Seq.{take-at}
+use lib.Seq.{length-take-le}
 use Rattle.rules.specs.Words.{_∈_, Reordered}
 use Rattle.rules.specs.Words.Reordered.{put}
 use Rattle.rules.specs.Book.{Row, Book, RisingByKey, hops, hopsInAll}
-use Rattle.rules.specs.Image.{newest, headerLength, longestImage, streamsOf, hopsOf, inTurn, encodeRow, encode}
+use Rattle.rules.specs.Image.{newest, headerLength, longestImage, streamsOf, hopsOf, rowsPlace, inTurn, encodeRow, encode}
 use Rattle.rules.specs.Calls.{Closed}
 use Rattle.rules.specs.Calls.Request.{Close}
 use Rattle.rules.proofs.Lawful.{lawful-length}
@@ -18,8 +18,8 @@ use Rattle.rules.proofs.Reading.{bookIn, NewestImage, withRows, newest-bytes}
 use Rattle.index.specs.Beside.{Done}
 use Rattle.image.proofs.Stands.{stored-rows}
 use Rattle.writer.specs.Over.{over, headed}
-use Rattle.writer.proofs.Laws.{then, over-front, length-headed}
-use Rattle.writer.proofs.Books.{total-append, length-body, rows-less}
+use Rattle.writer.proofs.Laws.{then, length-over, length-headed, laid}
+use Rattle.writer.proofs.Books.{total-append, rows-low, rows-less}
 use Rattle.finding.proofs.Ids.{with-middle}
 use Rattle.closing.specs.declared.Gone.{Gone}
 use Rattle.closing.specs.Gone.{GoneAt}
@@ -81,10 +81,8 @@ module _ {s : List ℕ} {id at : ℕ} {words : List ℕ} {g : Gone} (h : NewestI
   behind-encode : drop at (encode newest (bookIn s)) ≡ inTurn (encodeRow newest) (t .gone ++ t .rest)
   behind-encode = ap (drop at) (sym (newest-bytes h)) ∙ t .bytes ∙ ap (λ (v : ℕ). inTurn (encodeRow v) (t .gone ++ t .rest)) (h .version)
 
-  pub place-low : headerLength ≤ at
-  place-low =
-      omega
-      (arith, length-body (bookIn s) (t .before) (t .gone ++ t .rest) (t .all), ap length behind-encode, length-drop at (encode newest (bookIn s)), inside-encode)
+  pub place-low : rowsPlace s ≤ at
+  place-low = rows-low (t .before) (t .gone ++ t .rest) (h .lawful) (t .all) (t .inside) (t .bytes)
 
   -- THE IMAGE, which is no longer than the longest
   pub place-fits : (at ≤ longestImage newest) × (at + (length s - g .next) ≤ longestImage newest)
@@ -104,18 +102,22 @@ module _ {s : List ℕ} {id at : ℕ} {words : List ℕ} {g : Gone} (h : NewestI
         omega
         (arith, ap length parts, length-append (headed s at n k) (drop (g .next) s), length-headed s at n k (omega (arith, place-low)) (t .inside), length-drop (g .next) s)
 
-    -- the image without the rows was written, and the words are its index
-    pub out-done : {len : ℕ} (d o₁ o₂ tail : List ℕ) → len ≡ at + (length s - g .next) → length o₂ ≡ longestImage newest
-        → o₁ ≡ over d 0 (headed s at n k) → tail ≡ drop (g .next) s → o₂ ≡ over o₁ at tail → Done s (Close id) len o₂ words
-    out-done {len} d o₁ o₂ tail e size p q r = record {
-      after = less;
-      made = closed;
-      fits = omega (arith, place-fits);
-      bytes = ap (take len) written ∙ take-at (encode newest less) (drop (length (encode newest less)) d) len (sym length-less ∙ sym e);
-      index = t .index;
-    }
-      where
-        written : o₂ ≡ encode newest less ++ drop (length (encode newest less)) d
-        written =
-            then d o₁ o₂ (headed s at n k) tail 0 at (omega arith) p (omega (arith, length-headed s at n k (omega (arith, place-low)) (t .inside))) r
-            ∙ ap (λ (x : List ℕ). over d 0 (headed s at n k ++ x)) q ∙ ap (over d 0) parts ∙ over-front d (encode newest less)
+    -- the image without the rows was laid out, and the words are its index
+    pub out-done : {len : ℕ} (d o₁ o₂ tail : List ℕ) (start : ℕ) → start ≡ rowsPlace s → len ≡ at + (length s - g .next) → length d ≡ longestImage newest
+        → o₁ ≡ over (over d 0 (headed s headerLength n k)) start (take (at - start) (drop start s)) → tail ≡ drop (g .next) s → o₂ ≡ over o₁ at tail
+        → Done s (Close id) len o₂ words
+    out-done {len} d o₁ o₂ tail start z e size p q r =
+        let front : List ℕ = take (at - start) (drop start s) in
+        let under : List ℕ = over d 0 (headed s headerLength n k) in
+        let low : 16 ≤ rowsPlace s = omega arith in
+        let long-head : length (headed s headerLength n k) ≡ 16 = length-headed s headerLength n k (omega arith) (omega (arith, low, place-low, t .inside)) in
+        let long-under : length under ≡ length d = length-over d 0 (headed s headerLength n k) (omega (arith, long-head)) in
+        let long-front : length front ≡ at - start = length-take-le (at - start) (drop start s) (omega (arith, length-drop start s, t .inside)) in
+        let x = then under o₁ o₂ front tail start at (omega (arith, long-under, z, place-low, place-fits)) p (omega (arith, long-front, z, place-low)) r in
+        record {
+          after = less;
+          made = closed;
+          laid = laid s d o₂ (drop (g .next) s) (encode newest less) at n k start len z (omega (arith, z, place-low)) (t .inside) (sym parts) (e ∙ length-less)
+              (omega (arith, e, place-fits)) (x ∙ ap (λ (r : List ℕ). over under start (front ++ r)) q);
+          index = t .index;
+        }

@@ -72,7 +72,7 @@ fn rows_of(image: &[u8], index: &mut [u64; index::WORDS], id: u16, at: usize, sl
     }
 }
 
-// Writes the image without the rows of the id, of which the first is at the place, and takes them out of the index.
+// Lays out the image without the rows of the id, of which the first is at the place, and takes them out of the index.
 fn take_out(
     image: &[u8],
     index: &mut [u64; index::WORDS],
@@ -89,6 +89,7 @@ fn take_out(
     writer::put_head(
         image,
         out,
+        book.rows_start(),
         at,
         (book.streams - gone.rows) as u8,
         (book.hops - gone.hops) as u16,

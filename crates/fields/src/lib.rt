@@ -1,6 +1,4 @@
 // Whether the fields of a header, or the arguments of a new book, are in their ranges.
-pub mod topology;
-
 ghost use Prim.Native.Nat.{_≤_};
 ghost use lib.ListN.{length};
 ghost use Rattle.rules.specs.Words.{Tests, _∈_, NoBitFrom};

@@ -6,7 +6,7 @@ use Prim.Native.Nat.{ℕ, zero, suc, _+_, _*_, _≤_, _-_}
 use lib.ListN.{length, getD, take, drop, replicate}
 use Rattle.rules.specs.Words.{_∈_}
 use Rattle.rules.specs.Book.{Row, LawfulRow}
-use Rattle.rules.specs.Image.{hasHearing, linksStart, hearingStart, hopsPlace, rowLength, inTurn, encodeRow, setsAt, versionOf, siteOf}
+use Rattle.rules.specs.Image.{hasHearing, headerLength, linksStart, hearingStart, hopsPlace, rowLength, inTurn, encodeRow, setsAt, versionOf, siteOf, rowsPlace}
 use Rattle.rules.proofs.Encoding.{frontRow}
 use Rattle.rules.proofs.Reading.{rowsIn, LawfulImage}
 
@@ -52,3 +52,9 @@ pub record RowHere (s : List ℕ) (at : ℕ) : Type 0 where
   pub there : rowAt s at ∈ rowsIn s
   pub lawful : LawfulRow (siteOf s) (rowAt s at)
   pub whole : Whole s at
+
+-- an image of the site of s, laid out but for the topologies: its header, and its rows from where those of s stand on
+pub record Laid (s image : List ℕ) (len : ℕ) (out : List ℕ) : Type 0 where
+  pub long : len ≡ length image
+  pub fits : len ≤ length out
+  pub whole : image ≡ take headerLength (take len out) ++ (take (rowsPlace s - headerLength) (drop headerLength s) ++ drop (rowsPlace s) (take len out))

@@ -5,7 +5,7 @@ ghost use lib.ListN.{length, getD, take};
 ghost use Rattle.rules.specs.Words.{Tests, TwoBytes};
 ghost use Rattle.rules.specs.Book.{hops, rowOffset};
 ghost use Rattle.rules.specs.Image.{headerLength, rowsStart, periodPlace, hopsPlace, rowLength, imageLength, mark, Version, versionOf, wordAt, word64At};
-ghost use Rattle.image.specs.Places.{hearingPlace, rowAt, nextAt, Whole, Sets};
+ghost use Rattle.image.specs.Places.{hearingPlace, rowAt, nextAt, Whole};
 ghost use Rattle.image.specs.Header.{HeaderOf};
 use rules::Node;
 use rules::Plan;
@@ -122,20 +122,6 @@ pub fn period_place_in(image: &[u8]) -> usize
     ensures { λ r. ⌜ (r ≡ periodPlace (versionOf (now (image .entry)))) × (r ≤ 3) ⌝ }
 {
     hops_place_in(image) - 1
-}
-
-// The n rows of a topology from a place on, and zeros after them.
-pub fn sets(image: &[u8], at: usize, n: usize) -> [u64; 64]
-    requires { ⌜ (n ≤ 64) × (at + 8 * n ≤ length (now image)) ⌝ }
-    ensures { λ r. ⌜ Sets (now (image .entry)) at n r ⌝ }
-{
-    let mut rows = [0u64; 64];
-    let mut i: usize = 0;
-    while i < n {
-        rows[i] = word64_at(image, at + SET * i);
-        i += 1;
-    }
-    rows
 }
 
 impl Book {

@@ -1,13 +1,13 @@
 -- An image in the newest version beside the index of its rows, and what a request does to both.
 use mathlib.Core.Path.{_≡_}
 use mathlib.Core.List.{List}
-use Prim.Native.Nat.{ℕ, _≤_}
-use lib.ListN.{length, take}
+use Prim.Native.Nat.{ℕ}
 use Rattle.rules.specs.Says.{Says}
 use Rattle.rules.specs.Book.{Book}
 use Rattle.rules.specs.Image.{newest, encode, planOf}
 use Rattle.rules.specs.Calls.{Request, anyMiddle, requestRefusals, Made}
 use Rattle.rules.proofs.Reading.{rowsIn, bookIn, NewestImage}
+use Rattle.image.specs.Places.{Laid}
 use Rattle.index.specs.Index.{IndexOf}
 
 -- the image is that of a lawful book in the newest version, and the words are the index of its rows
@@ -15,12 +15,11 @@ pub record ImageBeside (s words : List ℕ) : Type 0 where
   pub newest : NewestImage s
   pub index : IndexOf (planOf s .slots) (rowsIn s) words
 
--- the image of the book after the request was written, and the words are the index of its rows
+-- the image of the book after the request was laid out but for the topologies, and the words are the index of its rows
 pub record Done (s : List ℕ) (q : Request) (len : ℕ) (out words : List ℕ) : Type 0 where
   pub after : Book
   pub made : Made (anyMiddle (bookIn s)) (bookIn s) q after
-  pub fits : len ≤ length out
-  pub bytes : take len out ≡ encode newest after
+  pub laid : Laid s (encode newest after) len out
   pub index : IndexOf (planOf s .slots) (after .rows) words
 
 -- the number that the request's refusals say; where it is refused the words are still the index of the rows

@@ -11,11 +11,11 @@ fn body_verdict(image: &[u8], book: Book, index: &mut [u64; index::WORDS]) -> u8
     ensures { λ r. ⌜ Verdict (now (image .entry)) r (now (index .exit)) ⌝ }
 {
     let n = book.nodes;
-    let linked = image::sets(image, image::HEADER, n);
-    let heard = image::sets(image, book.hearing_place(), n);
+    let linked = topologies::sets(image, image::HEADER, n);
+    let heard = topologies::sets(image, book.hearing_place(), n);
     let links = &linked[..n];
     let hearing = &heard[..n];
-    if !fields::topology::both_sound(links, hearing) {
+    if !topologies::soundness::both_sound(links, hearing) {
         return 11;
     }
     if !rows::rows_hold(image, book, links) {

@@ -59,7 +59,7 @@ works : {s out words : List ℕ} {q : Asked} {number len : ℕ}
 works r = record {
   says = r .says;
   refused = r .refused;
-  done = λ z. let k = r .done z in record { after = k .after; made = k .is; fits = k .fits; bytes = k .bytes; index = k .index };
+  done = λ z. let k = r .done z in record { after = k .after; made = k .is; laid = k .laid; index = k .index };
 }
 
 below : {s : List ℕ} {book : head.Book} → HeaderOf s book → (a : ℕ) → (book .nodes ≤ a → ⊥) → a < nodesOf s

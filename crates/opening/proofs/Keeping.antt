@@ -33,8 +33,7 @@ pub kept : {s out words : List ℕ} {new rows : List Row} {len : ℕ} → PutIn 
 kept p i f g = record {
   after = p .after;
   is = p .plus;
-  fits = p .fits;
-  bytes = p .bytes;
+  laid = p .laid;
   index = index-alike (λ x m. reordered-back x (p .plus .rows) (f x m)) (λ x m. g x (reordered-in x (p .plus .rows) m)) i;
 }
 

@@ -33,7 +33,7 @@ module _ {R : Book → Type 0} {s out words : List ℕ} {n len : ℕ} where
 
 -- a book that was kept is as well another's
 pub kept-alike : {R R′ : Book → Type 0} {s out words : List ℕ} {len : ℕ} → ((c : Book) → R c → R′ c) → Kept R s len out words → Kept R′ s len out words
-kept-alike f k = record { after = k .after; is = f (k .after) (k .is); fits = k .fits; bytes = k .bytes; index = k .index }
+kept-alike f k = record { after = k .after; is = f (k .after) (k .is); laid = k .laid; index = k .index }
 
 -- refusals that apply alike, and a book that is as well what was asked
 pub out-alike : {R R′ : Book → Type 0} {s out words : List ℕ} {n len : ℕ} (rs ss : List Refusal) → Alike rs ss → ((c : Book) → R c → R′ c)

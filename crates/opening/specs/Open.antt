@@ -1,8 +1,7 @@
 -- What an open says of a lawful image, part by part.
 use mathlib.Core.Path.{_≡_}
 use mathlib.Core.List.{List, [], _∷_}
-use Prim.Native.Nat.{ℕ, _≤_}
-use lib.ListN.{length, take}
+use Prim.Native.Nat.{ℕ}
 use Rattle.rules.specs.Says.{Refusal, _when_, Says}
 use Rattle.rules.specs.Tiles.{periodAt}
 use Rattle.rules.specs.Periods.{InList}
@@ -13,16 +12,16 @@ use Rattle.rules.specs.Image.{newest, encode, planOf}
 use Rattle.rules.specs.Calls.{anyMiddle, OfRoutes, Opened, askedRefusals}
 use Rattle.rules.proofs.Says.{None}
 use Rattle.rules.proofs.Reading.{rowsIn, bookIn}
+use Rattle.image.specs.Places.{Laid}
 use Rattle.index.specs.Index.{IndexOf}
 use Rattle.opening.specs.declared.Judged.{Judged}
 use Rattle.opening.specs.declared.Judged.the-variants.{Refused, InOrder}
 
--- the image of a book with R stands in the first bytes, and the words are the index of its rows
+-- the image of a book with R is laid out but for the topologies, and the words are the index of its rows
 pub record Kept (R : Book → Type 0) (s : List ℕ) (len : ℕ) (out words : List ℕ) : Type 0 where
   pub after : Book
   pub is : R after
-  pub fits : len ≤ length out
-  pub bytes : take len out ≡ encode newest after
+  pub laid : Laid s (encode newest after) len out
   pub index : IndexOf (planOf s .slots) (after .rows) words
 
 -- what is wrong with a request by itself; or nothing is, and its period is at the place

@@ -34,7 +34,7 @@ fn open_new(
     ensures { λ r. ⌜ OpensNew (now (image .entry)) (theAsked q) (r .number) (r .length) (now (out .exit)) (now (index .exit)) ⌝ }
 {
     let n = book.nodes;
-    let rows = image::sets(image, image::HEADER, n);
+    let rows = topologies::sets(image, image::HEADER, n);
     let planned = routes::plan(&rows[..n], bitset::ALL, q.source, q.destination);
     let reach = planned.reach;
     let end = planned.hops + 1;

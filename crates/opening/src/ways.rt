@@ -294,7 +294,7 @@ pub fn open_routed(
     ensures { λ r. ⌜ OpensNew (now (image .entry)) (theAsked q) (r .number) (r .length) (now (out .exit)) (now (index .exit)) ⌝ }
 {
     let n = book.nodes;
-    let heard = image::sets(image, book.hearing_place(), n);
+    let heard = topologies::sets(image, book.hearing_place(), n);
     let hearing = &heard[..n];
     if q.second {
         open_beside(image, index, book, q, place, at, links, hearing, first, out)

@@ -43,7 +43,7 @@ pub fn new_book(plan: Plan, nodes: u8, links: &[u8], hearing: &[u8], out: &mut [
     if !fields::nodes_in_range(n) {
         return answers::refused(10);
     }
-    if !fields::topology::given(n, links, hearing) {
+    if !topologies::soundness::given(n, links, hearing) {
         return answers::refused(11);
     }
     let length = image::HEADER + links.len() + hearing.len();

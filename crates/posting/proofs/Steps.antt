@@ -1,15 +1,15 @@
 -- One request on the book that is worked on: the book after it stands, beside its index.
 use mathlib.Core.Path.{_≡_, refl, sym, ap, _∙_, subst}
 use mathlib.Core.Bool.{Bool, true, false, cond}
-use mathlib.Core.List.{List, _++_}
-use Prim.Native.Nat.{ℕ, _≤_}
+use mathlib.Core.List.{List, _++_, append-assoc}
+use Prim.Native.Nat.{ℕ, _+_, _-_, _≤_}
 use native.Mathlib.Omega.{arith}
-use lib.ListN.{length, take, drop, length-append}
-use lib.Seq.{take-at, length-take-le}
+use lib.ListN.{length, take, drop, length-append, length-take, length-drop, take-append-drop}
+use lib.Seq.{take-at, take-append-le, take-append-add, drop-append-le, length-take-le}
 use Rattle.rules.specs.Words.{TwoBytes}
 use Rattle.rules.specs.Book.{Site, Book}
 use Rattle.rules.specs.Placing.{Asked}
-use Rattle.rules.specs.Image.{newest, longestImage, encode, Stored}
+use Rattle.rules.specs.Image.{newest, headerLength, longestImage, encode, Stored, rowsPlace}
 use Rattle.rules.specs.Calls as calls
 use Rattle.rules.specs.Says.{Says}
 use Rattle.rules.specs.Calls.{anyMiddle, Made, requestRefusals}
@@ -18,6 +18,7 @@ use Rattle.rules.specs.Order.{idOf}
 use Rattle.rules.proofs.Encoding.{version-back}
 use Rattle.rules.proofs.Reading.{bookIn, NewestImage, book-back, lawful-stored}
 use Rattle.rules.proofs.Lawful.{lawful-length, made-lawful, made-site}
+use Rattle.image.proofs.Stands.{stored-length}
 use Rattle.index.specs.Index.{IndexOf}
 use Rattle.index.specs.Beside.{ImageBeside, Works}
 use Rattle.writer.specs.Over.{over}
@@ -34,6 +35,34 @@ small-id r l a e = subst TwoBytes (sym (named (r .opens)) ∙ ap idOf e) l
     named : (t : Bool) → idOf (cond t (Open (record { id = r .id; source = r .source; destination = r .destination; period = r .period; second = r .second })) (Close (r .id))) ≡ r .id
     named true = refl
     named false = refl
+
+-- a laid out image in the place of that in a buffer, whose topologies stay
+relaid : (buffer buffer′ bytes image : List ℕ) (len start size : ℕ) → len ≤ length buffer → (headerLength ≤ start) × (start ≤ len) × (start ≤ size) → length bytes ≡ size
+    → image ≡ take headerLength bytes ++ (take (start - headerLength) (drop headerLength (take len buffer)) ++ drop start bytes)
+    → buffer′ ≡ over (over buffer 0 (take headerLength bytes)) start (drop start bytes) → take size buffer′ ≡ image
+unfolding over
+relaid buffer buffer′ bytes image len start size fits (low, l, m) long whole e =
+    let head : List ℕ = take 16 bytes in
+    let s : List ℕ = take len buffer in
+    let middle : List ℕ = take (start - 16) (drop 16 s) in
+    let rows : List ℕ = drop start bytes in
+    let under : List ℕ = over buffer 0 head in
+    let long-head : length head ≡ 16 = length-take-le 16 bytes (omega arith) in
+    let long-s : length s ≡ len = length-take-le len buffer fits in
+    let long-rows : length rows ≡ size - start = length-drop start bytes ∙ ap (λ (k : ℕ). k - start) long in
+    let c : start ≡ length head + (start - 16) = omega arith in
+    let split : buffer ≡ s ++ drop len buffer = sym (take-append-drop len buffer) in
+    let stays : take (start - 16) (drop 16 buffer) ≡ middle =
+    ap (λ (x : List ℕ). take (start - 16) (drop 16 x)) split ∙ ap (take (start - 16)) (drop-append-le 16 s (drop len buffer) (omega arith))
+    ∙ take-append-le (start - 16) (drop 16 s) (drop len buffer) (omega (arith, length-drop 16 s)) in
+    let front : take start under ≡ head ++ middle =
+    ap (take start) (over-front buffer head) ∙ ap (λ (k : ℕ). take k (head ++ drop (length head) buffer)) c
+    ∙ take-append-add head (drop (length head) buffer) (start - 16)
+    ∙ ap (λ (k : ℕ). head ++ take (start - 16) (drop k buffer)) long-head ∙ ap (λ (x : List ℕ). head ++ x) stays in
+    let long-middle : length middle ≡ start - 16 = length-take-le (start - 16) (drop 16 s) (omega (arith, length-drop 16 s)) in
+    let long-all : length (head ++ middle ++ rows) ≡ size = omega (arith, length-append (head ++ middle) rows, length-append head middle, long-head, long-middle, long-rows) in
+    ap (take size) (e ∙ ap (λ (x : List ℕ). x ++ rows ++ drop (start + length rows) under) front)
+    ∙ take-at (head ++ middle ++ rows) (drop (start + length rows) under) size long-all ∙ append-assoc head middle rows ∙ sym whole
 
 -- the image of a book stored in the newest version
 stored-image : {c : Book} → Stored (encode newest c) newest c → NewestImage (encode newest c)
@@ -61,17 +90,47 @@ module _ {buffer : List ℕ} {len : ℕ} {words : List ℕ} (w : Standing buffer
         lawful-stored c (made-lawful (bookIn s) (w .image .newest .lawful .lawful) (anyMiddle (bookIn s)) q small says c (h .done z .made))
 
     size-is : size ≡ length (encode newest (h .done z .after))
-    size-is = sym (length-take-le size out (h .done z .fits)) ∙ ap length (h .done z .bytes)
+    size-is = h .done z .laid .long
 
     pub size-most : size ≤ longestImage newest
     size-most = omega (arith, size-is, lawful-length (h .done z .after) (stored .lawful))
 
-    module _ {buffer′ : List ℕ} (e : buffer′ ≡ over buffer 0 (take size out)) where
-      whole : buffer′ ≡ encode newest (h .done z .after) ++ drop (length (encode newest (h .done z .after))) buffer
-      whole = e ∙ ap (over buffer 0) (h .done z .bytes) ∙ over-front buffer (encode newest (h .done z .after))
+    -- the rows of the book and of the one after it start at the same place, inside both images
+    pub starts : {start : ℕ} → start ≡ rowsPlace (take len buffer) → (headerLength ≤ start) × (start ≤ len) × (start ≤ size)
+    starts e =
+        let s : List ℕ = take len buffer in
+        let long = length-take-le len buffer (w .fits) in
+        let inside = stored-length (w .image .newest .lawful) in
+        let l = h .done z .laid in
+        let out-long = length-take-le size out (l .fits) in
+        let middle = length-take-le (rowsPlace s - headerLength) (drop headerLength s) (omega (arith, length-drop headerLength s, inside)) in
+        let parts = ap length (l .whole) in
+        let last : List ℕ = take (rowsPlace s - headerLength) (drop headerLength s) ++ drop (rowsPlace s) (take size out) in (
+          omega (arith, e),
+          omega (arith, e, long, inside),
+          omega (
+            arith,
+            e,
+            parts,
+            size-is,
+            length-append (take headerLength (take size out)) last,
+            length-append (take (rowsPlace s - headerLength) (drop headerLength s)) (drop (rowsPlace s) (take size out)),
+            middle,
+            length-drop (rowsPlace s) (take size out),
+            out-long,
+            inside,
+            length-take headerLength (take size out),
+          ),
+        )
 
+    module _ {buffer′ : List ℕ} {start : ℕ} (at : start ≡ rowsPlace (take len buffer))
+        (e : buffer′ ≡ over (over buffer 0 (take headerLength (take size out))) start (drop start (take size out))) where
       front : take size buffer′ ≡ encode newest (h .done z .after)
-      front = ap (take size) whole ∙ take-at (encode newest (h .done z .after)) _ size (sym size-is)
+      front =
+          let l = h .done z .laid in
+          relaid buffer buffer′ (take size out) (encode newest (h .done z .after)) len start size (w .fits) (starts at) (length-take-le size out (l .fits))
+          (subst (λ (k : ℕ). encode newest (h .done z .after)
+          ≡ take headerLength (take size out) ++ (take (k - headerLength) (drop headerLength (take len buffer)) ++ drop k (take size out))) (sym at) (l .whole)) e
 
       holds : bookAt buffer′ size ≡ h .done z .after
       holds = ap bookIn front ∙ book-back stored
@@ -85,7 +144,7 @@ module _ {buffer : List ℕ} {len : ℕ} {words : List ℕ} (w : Standing buffer
         };
         standing = record {
           room = same ∙ w .room;
-          fits = omega (arith, size-is, ap length whole, length-append (encode newest (h .done z .after)) (drop (length (encode newest (h .done z .after))) buffer));
+          fits = omega (arith, same, w .room, size-most);
           image = record {
             newest = subst NewestImage (sym front) (stored-image stored);
             index = subst (λ (c : Book). IndexOf (c .site .plan .slots) (c .rows) marks) (sym holds)

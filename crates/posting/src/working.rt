@@ -1,5 +1,10 @@
 // One request on the book that is worked on.
+ghost use mathlib.Core.Path.{_≡_};
+ghost use Prim.Native.Nat.{_≤_};
+ghost use lib.ListN.{length, take, drop};
+ghost use Rattle.rules.specs.Image.{headerLength};
 ghost use Rattle.index.specs.Beside.{ImageBeside, Works};
+ghost use Rattle.writer.specs.Over.{over};
 ghost use Rattle.posting.specs.Records.{theRequest};
 ghost use Rattle.posting.specs.Standing.{Standing};
 ghost use Rattle.posting.specs.Posting.{Worked};
@@ -11,7 +16,7 @@ use rules::Asked;
 use rules::Node;
 use rules::Tile;
 
-// Opens or closes a stream on an image and its index, and writes the image after it.
+// Opens or closes a stream on an image and its index, and lays out the image after it, but for the topologies.
 fn serve(
     image: &[u8],
     index: &mut [u64; index::WORDS],
@@ -35,15 +40,25 @@ fn serve(
     }
 }
 
+// Puts an image in the place of the book's, but for the topologies, which end where the rows start.
+fn take_over(book: &mut [u8], start: usize, next: &[u8])
+    requires { ⌜ (headerLength ≤ start) × (start ≤ length (now next)) × (length (now next) ≤ length (now book)) ⌝ }
+    ensures { λ _. ⌜ now (book .exit) ≡ over (over (now (book .entry)) 0 (take headerLength (now (next .entry)))) start (drop start (now (next .entry))) ⌝ }
+{
+    writer::put_part(&next[..image::HEADER], book, 0);
+    writer::put_part(&next[start..], book, start);
+}
+
 // Does what the request asks for, on the image of so many bytes and its index.
 pub fn work(book: &mut [u8], length: usize, index: &mut [u64; index::WORDS], q: Request) -> Outcome
     requires { ⌜ Standing (now book) length (now index) ⌝ }
     ensures { λ r. ⌜ Worked (now (book .entry)) length (theRequest q) r (now (book .exit)) (now (index .exit)) ⌝ }
 {
+    let start = Book::read(&book[..length]).rows_start();
     let mut next = [0u8; Book::LONGEST];
     let answer = serve(&book[..length], index, q, &mut next);
     if answer.number == 0 {
-        writer::put_part(&next[..answer.length], book, 0);
+        take_over(book, start, &next[..answer.length]);
         Outcome {
             answer: 0,
             length: answer.length,

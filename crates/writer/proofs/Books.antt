@@ -8,8 +8,9 @@ use lib.Seq.{take-at, drop-at, drop-drop}
 use Rattle.rules.specs.Words.{total}
 use Rattle.rules.specs.Topology.{nodes}
 use Rattle.rules.specs.Book.{Row, Book, hops, hopsInAll}
-use Rattle.rules.specs.Image.{newest, headerLength, word, inTurn, encodeHeader, encodeTopologies, encodeRow, encode}
-use Rattle.rules.proofs.Reading.{withRows}
+use Rattle.rules.specs.Image.{newest, headerLength, word, inTurn, encodeHeader, encodeTopologies, encodeRow, encode, versionOf, rowsPlace}
+use Rattle.rules.proofs.Reading.{withRows, rowsIn, LawfulImage}
+use Rattle.image.proofs.Stands.{stored-rows, stored-length}
 use Rattle.writer.specs.Over.{headed}
 
 pub in-turn-append : {A : Type 0} (f : A → List ℕ) (xs ys : List A) → inTurn f (xs ++ ys) ≡ inTurn f xs ++ inTurn f ys
@@ -19,6 +20,14 @@ in-turn-append f (x ∷ xs) ys = rw (in-turn-append f xs ys) (sym (append-assoc 
 pub total-append : {A : Type 0} (f : A → ℕ) (xs ys : List A) → total f (xs ++ ys) ≡ total f xs + total f ys
 total-append f [] ys = omega arith
 total-append f (x ∷ xs) ys = let h = total-append f xs ys in omega arith
+
+-- the last rows of an image stand no further in front than all of them
+pub rows-low : {s : List ℕ} {at : ℕ} (xs ys : List Row) → LawfulImage s → rowsIn s ≡ xs ++ ys → at ≤ length s → drop at s ≡ inTurn (encodeRow (versionOf s)) ys → rowsPlace s ≤ at
+rows-low {s} {at} xs ys w split inside bytes =
+    let f = encodeRow (versionOf s) in
+    let all : length (inTurn f (rowsIn s)) ≡ length (inTurn f xs) + length (inTurn f ys) =
+    ap length (ap (inTurn f) split ∙ in-turn-append f xs ys) ∙ length-append (inTurn f xs) (inTurn f ys) in
+    omega (arith, all, ap length (stored-rows w .fill), length-drop (rowsPlace s) s, ap length bytes, length-drop at s, stored-length w)
 
 module _ (b : Book) (xs ys : List Row) (split : b .rows ≡ xs ++ ys) where
   abbrev topologies : List ℕ

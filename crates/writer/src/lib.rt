@@ -1,8 +1,8 @@
 // Writes the parts of an image into a lent buffer, one behind the other.
 ghost use mathlib.Core.Path.{_≡_};
 ghost use mathlib.Core.List.{[], _∷_, _++_};
-ghost use Prim.Native.Nat.{_+_, _*_, _<_, _≤_};
-ghost use lib.ListN.{length, drop};
+ghost use Prim.Native.Nat.{_+_, _-_, _*_, _<_, _≤_};
+ghost use lib.ListN.{length, take, drop};
 ghost use Rattle.rules.specs.Tiles.{PlanInRange};
 ghost use Rattle.rules.specs.Periods.{thePlan};
 ghost use Rattle.rules.specs.Image.{newest, rowLength, headerLength, word, inTurn, encodeHeader, encodeRow};
@@ -78,15 +78,16 @@ pub fn put_row(
     put_words(offsets, out, route_at + route.len());
 }
 
-// The front of an image up to a place, with these counts of streams and hops.
-pub fn put_head(image: &[u8], out: &mut [u8], to: usize, streams: u8, hops: u16)
-    requires { ⌜ (headerLength ≤ to) × (to ≤ length (now image)) × (to ≤ length (now out)) ⌝ }
-    ensures { λ _. ⌜ now (out .exit) ≡ over (now (out .entry)) 0 (headed (now (image .entry)) to streams hops) ⌝ }
+// The header of an image, with these counts of streams and hops, and its rows, which start at a place, up to another.
+pub fn put_head(image: &[u8], out: &mut [u8], start: usize, to: usize, streams: u8, hops: u16)
+    requires { ⌜ (headerLength ≤ start) × (start ≤ to) × (to ≤ length (now image)) × (to ≤ length (now out)) ⌝ }
+    ensures { λ _. ⌜ now (out .exit) ≡ over (over (now (out .entry)) 0 (headed (now (image .entry)) headerLength streams hops)) start (take (to - start) (drop start (now (image .entry)))) ⌝ }
 {
     put_part(&image[..12], out, 0);
     put(out, 12, streams);
     put_word(out, 13, hops);
-    put_part(&image[15..to], out, 15);
+    put_part(&image[15..image::HEADER], out, 15);
+    put_part(&image[start..to], out, start);
 }
 
 // Bytes 3 to 15 of a book without streams.

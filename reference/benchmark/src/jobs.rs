@@ -95,7 +95,7 @@ pub const JOBS: [Job; 18] = [
     Job { name: "open: 32 streams with a second route, one after the other", run: open_doubled },
     Job { name: "post: 64 opens in one list", run: post_opens },
     Job { name: "post: 32 opens with a second route in one list", run: post_doubled },
-    Job { name: "post: the same where nodes hear two steps far", run: post_heard },
+    Job { name: "post: the same where nodes hear across the corners", run: post_heard },
     CHECK,
     Job { name: "rewrite: the full book", run: rewrite },
     Job { name: "expand: every node of the full book", run: expand },

@@ -11,25 +11,24 @@ pub const PLAN: Plan = Plan { s: 32, c: 10, kinds: 0b01_0110_1101, d: 4, u: 2, n
 
 /// The grid's rows: a node is linked to those above, below, left and right of it.
 pub fn topology() -> Vec<u8> {
-    within(1)
+    rows(|across, down| across + down == 1)
 }
 
-/// The rows of who hears whom where nodes hear further than they talk: two steps far.
+/// The rows of who hears whom where nodes hear further than they talk: across the corners too.
 pub fn hearing() -> Vec<u8> {
-    within(2)
+    rows(|across, down| across.max(down) == 1)
 }
 
-/// The rows of the nodes that are at most so many steps from each other.
-fn within(steps: u8) -> Vec<u8> {
-    (0..NODES).flat_map(|node| row(node, steps).to_be_bytes()).collect()
+/// The rows of the nodes that are so far across and so far down from each other.
+fn rows(near: fn(u8, u8) -> bool) -> Vec<u8> {
+    (0..NODES).flat_map(|node| row(node, near).to_be_bytes()).collect()
 }
 
-fn row(node: u8, steps: u8) -> u64 {
+fn row(node: u8, near: fn(u8, u8) -> bool) -> u64 {
     let (x, y) = (node % SIDE, node / SIDE);
     let mut row = 0;
     for other in 0..NODES {
-        let (across, down) = ((other % SIDE).abs_diff(x), (other / SIDE).abs_diff(y));
-        if (1..=steps).contains(&(across + down)) {
+        if near((other % SIDE).abs_diff(x), (other / SIDE).abs_diff(y)) {
             row |= 1 << other;
         }
     }

@@ -8,6 +8,7 @@ use lib.Seq.{take-all}
 use Rattle.rules.specs.Image.{newest, rowLength, longestImage, streamsOf, hopsOf}
 use Rattle.rules.specs.Book.{mostStreams, mostHops}
 use Rattle.rules.proofs.Reading.{NewestImage}
+use Rattle.image.proofs.Walks.{rows-start}
 use Rattle.finding.proofs.Ids.{stored-long}
 use Rattle.adding.proofs.More.{place-low, put-in, put-fits}
 use borrow.Author.Needs.{needs}
@@ -19,46 +20,54 @@ read-requires c κs = stored-long (c .before .before .pre .0 .0 .lawful)
 
 put-head-requires : tie.Need-put-head-requires
 put-head-requires c κs =
-    let start = c .before .before .before .before .before .before in
+    let start = c .before .before .before .before .before .before .before in
     let v = start .pre .0 .1 .1 in
     let room = put-fits _ _ _ (start .pre .0 .0) (start .pre .0 .2) (start .pre .1 .0) (start .pre .1 .1) in
-    (place-low (start .pre .0 .0) v, v .inside, omega (arith, v .inside, room))
+    let first = rows-start (c .before .before .before .before .read .ensures) (c .before .before .rows-start .ensures) in
+    (omega (arith, first), omega (arith, first, place-low (start .pre .0 .0) v), v .inside, omega (arith, v .inside, room))
 
 put-part-requires : tie.Need-put-part-requires
 put-part-requires c κs =
-    let start = c .before .before .before .before .before .before .before .before in
+    let start = c .before .before .before .before .before .before .before .before .before in
     let room = put-fits _ _ _ (start .pre .0 .0) (start .pre .0 .2) (start .pre .1 .0) (start .pre .1 .1) in
     omega (arith, start .pre .0 .1 .1 .inside, room, c .before .put-head .kept)
 
 sub-put-part : tie.Need-sub-put-part
-sub-put-part c = c .before .before .before .before .before .before .before .before .before .pre .0 .1 .1 .inside
+sub-put-part c = c .before .before .before .before .before .before .before .before .before .before .pre .0 .1 .1 .inside
 
 part-put-part-start : tie.Need-part-put-part-start
-part-put-part-start c = c .before .before .before .before .before .before .before .before .before .pre .0 .1 .1 .inside
+part-put-part-start c = c .before .before .before .before .before .before .before .before .before .before .pre .0 .1 .1 .inside
 
 add-put-part : tie.Need-add-put-part
 add-put-part c =
-    let start = c .before .before .before .before .before .before .before .before .before .before .before in
+    let start = c .before .before .before .before .before .before .before .before .before .before .before .before in
     let room = put-fits _ _ _ (start .pre .0 .0) (start .pre .0 .2) (start .pre .1 .0) (start .pre .1 .1) in
     omega (arith, start .pre .0 .1 .1 .inside, room)
 
 put-part-requires-2 : tie.Need-put-part-requires-2
 put-part-requires-2 c κs =
-    let start = c .before .before .before .before .before .before .before .before .before .before .before in
+    let start = c .before .before .before .before .before .before .before .before .before .before .before .before in
     let room = put-fits _ _ _ (start .pre .0 .0) (start .pre .0 .2) (start .pre .1 .0) (start .pre .1 .1) in
     omega
     (arith, start .pre .0 .1 .1 .inside, room, c .before .before .before .before .put-head .kept, c .before .before .put-part .kept, length-drop (start .args .at) (start .args .image .now))
 
+add-result : tie.Need-add-result
+add-result c =
+    let start = c .before .before .before .before .before .before .before .before .before .before .before .before .before in
+    let room = put-fits _ _ _ (start .pre .0 .0) (start .pre .0 .2) (start .pre .1 .0) (start .pre .1 .1) in
+    omega (arith, room)
+
 returns : tie.Need-returns
 returns c =
-    let start = c .before .before .before .before .before .before .before .before .before .before .before .before in
+    let start = c .before .before .before .before .before .before .before .before .before .before .before .before .before in
     let s : List ℕ = start .args .image .now in
-    let read = c .before .before .before .before .before .before .before .before .before .read in
+    let read = c .before .before .before .before .before .before .before .before .before .before .read in
+    let first = rows-start (read .ensures) (c .before .before .before .before .before .before .before .before .rows-start .ensures) in
     let room = put-fits _ _ _ (start .pre .0 .0) (start .pre .0 .2) (start .pre .1 .0) (start .pre .1 .1) in
     let long : length (start .args .out .now) ≡ longestImage newest = search needs in
     λ id new f n k.
     put-in (start .pre .0 .0) f (read .result .streams + start .args .rows) (read .result .hops + start .args .hops) (omega (arith, read .ensures .streams, n)) (omega (arith, read .ensures .hops, k))
-    (start .args .out .now) _ _ _ _ _ _ long room refl (c .before .before .before .before .before .put-head .ensures) (c .before .before .before .put-part .ensures) refl
+    (start .args .out .now) _ _ _ _ _ _ _ first long room refl (c .before .before .before .before .before .put-head .ensures) (c .before .before .before .put-part .ensures) refl
     (take-all (length s - start .args .at) (drop (start .args .at) s) (omega (arith, length-drop (start .args .at) s))) (c .put-part2 .ensures)
 
 pub put-in-spec : {M : Type 1} → statement M
@@ -66,6 +75,7 @@ put-in-spec =
     tie.close
     (tie.spec
     read-requires
+    (λ c κs. search needs)
     (λ c. search needs)
     (λ c. search needs)
     (λ c. search needs)
@@ -77,5 +87,5 @@ put-in-spec =
     (λ c. search needs)
     add-put-part
     put-part-requires-2
-    (λ c. search needs)
+    add-result
     returns)

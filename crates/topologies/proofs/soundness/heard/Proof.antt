@@ -1,4 +1,4 @@
--- `fields::topology::heard` meets its contract.
+-- `topologies::soundness::heard` meets its contract.
 use Prim.Native.Nat.{ℕ, _-_, _<_, _≤_}
 use native.Mathlib.Omega.{arith}
 use borrow.Author.Count.{below-none, below-more}
@@ -6,10 +6,10 @@ use borrow.Author.Needs.{needs}
 use lib.ListN.{length}
 use Rattle.rules.proofs.Tests.{said-yes, said-no}
 use Rattle.bitset.specs.Rows.{topology}
-use Rattle.fields.specs.Rows.{HeardRow}
-use Rattle.fields.proofs.Soundness.{row-heard, row-unheard}
-use Rattle.fields.proofs.topology.heard.Statement.{statement}
-use Rattle.fields.proofs.topology.heard.Tie as tie
+use Rattle.topologies.specs.Rows.{HeardRow}
+use Rattle.topologies.proofs.Testing.{row-heard, row-unheard}
+use Rattle.topologies.proofs.soundness.heard.Statement.{statement}
+use Rattle.topologies.proofs.soundness.heard.Tie as tie
 
 abbrev Inv-loop : tie.InvT-loop
 Inv-loop links hearing node₀ node = (node ≤ length links) × ((a : ℕ) → a < node → HeardRow (topology links) (topology hearing) a)

@@ -2,9 +2,9 @@
 use borrow.Author.Needs.{needs}
 use borrow.Author.Tests.{not-true, not-false}
 use Rattle.rules.proofs.Tests.{fails, said-no}
-use Rattle.fields.proofs.Soundness.{both-tested}
-use Rattle.fields.proofs.topology.both_sound.Statement.{statement}
-use Rattle.fields.proofs.topology.both_sound.Tie as tie
+use Rattle.topologies.proofs.Testing.{both-tested}
+use Rattle.topologies.proofs.soundness.both_sound.Statement.{statement}
+use Rattle.topologies.proofs.soundness.both_sound.Tie as tie
 
 returns : tie.Need-returns
 returns c = said-no (λ w. fails (c .before .sound .ensures) (not-true _ (c .if1 .taken)) (w .links-sound))

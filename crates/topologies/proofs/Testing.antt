@@ -15,7 +15,7 @@ use Rattle.bitset.specs.Sets.{SetOf, Lowest}
 use Rattle.bitset.specs.Rows.{topology}
 use Rattle.bitset.proofs.Bits.{has-or-not, within, zero-none}
 use Rattle.bitset.proofs.Members.{some-member, lowest-or-rest, all-within}
-use Rattle.fields.specs.Rows.{SoundRow, HeardRow, Heard}
+use Rattle.topologies.specs.Rows.{SoundRow, HeardRow, Heard}
 
 -- what the row of a has and is not left are right
 pub record Testing (T : Topology) (a left : ℕ) : Type 0 where

@@ -6,7 +6,7 @@ ghost use Rattle.rules.specs.Words.{Tests};
 ghost use Rattle.rules.specs.Topology.{NodesInRange, SoundTopology, SoundTopologies};
 ghost use Rattle.rules.specs.Calls.{TopologiesGiven};
 ghost use Rattle.bitset.specs.Rows.{topology};
-ghost use Rattle.fields.specs.Rows.{SoundRow, Heard};
+ghost use Rattle.topologies.specs.Rows.{SoundRow, Heard};
 
 // Whether the row of a node is sound.
 fn row_sound(rows: &[u64], node: usize) -> bool
@@ -87,7 +87,7 @@ pub fn given(n: usize, links: &[u8], hearing: &[u8]) -> bool
     if hearing.len() != whole {
         return false;
     }
-    let linked = image::sets(links, 0, n);
-    let heard = image::sets(hearing, 0, n);
+    let linked = crate::sets(links, 0, n);
+    let heard = crate::sets(hearing, 0, n);
     both_sound(&linked[..n], &heard[..n])
 }

@@ -1,13 +1,13 @@
--- `fields::topology::row_sound` meets its contract.
+-- `topologies::soundness::row_sound` meets its contract.
 use mathlib.Core.Path.{_≡_}
 use native.Mathlib.Omega.{arith}
 use borrow.Author.Tests.{not-true, not-false}
 use Rattle.rules.proofs.Tests.{fails, said-yes, said-no}
 use Rattle.bitset.proofs.Members.{rest-less}
 use Rattle.bitset.specs.Rows.{topology}
-use Rattle.fields.proofs.Soundness.{Testing, test-none, test-more, test-done, too-high, one-way}
-use Rattle.fields.proofs.topology.row_sound.Statement.{statement}
-use Rattle.fields.proofs.topology.row_sound.Tie as tie
+use Rattle.topologies.proofs.Testing.{Testing, test-none, test-more, test-done, too-high, one-way}
+use Rattle.topologies.proofs.soundness.row_sound.Statement.{statement}
+use Rattle.topologies.proofs.soundness.row_sound.Tie as tie
 
 abbrev Inv-loop : tie.InvT-loop
 Inv-loop rows node row left₀ left = Testing (topology rows) node left

@@ -8,9 +8,9 @@ use lib.ListN.{length, take}
 use lib.Seq.{length-take-le}
 use Rattle.rules.specs.Topology.{NodesInRange}
 use Rattle.rules.proofs.Tests.{said-no}
-use Rattle.fields.proofs.Soundness.{tests-given}
-use Rattle.fields.proofs.topology.given.Statement.{statement}
-use Rattle.fields.proofs.topology.given.Tie as tie
+use Rattle.topologies.proofs.Testing.{tests-given}
+use Rattle.topologies.proofs.soundness.given.Statement.{statement}
+use Rattle.topologies.proofs.soundness.given.Tie as tie
 
 returns : tie.Need-returns
 returns c = said-no (λ g. c .if1 .taken (g .links-whole))

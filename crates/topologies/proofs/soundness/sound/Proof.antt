@@ -1,4 +1,4 @@
--- `fields::topology::sound` meets its contract.
+-- `topologies::soundness::sound` meets its contract.
 use Prim.Native.Nat.{ℕ, _-_, _<_, _≤_}
 use native.Mathlib.Omega.{arith}
 use borrow.Author.Count.{below-none, below-more}
@@ -7,10 +7,10 @@ use borrow.Author.Tests.{not-true, not-false}
 use lib.ListN.{length}
 use Rattle.rules.proofs.Tests.{fails, said-yes, said-no}
 use Rattle.bitset.specs.Rows.{topology}
-use Rattle.fields.specs.Rows.{SoundRow}
-use Rattle.fields.proofs.Soundness.{rows-sound, sound-row}
-use Rattle.fields.proofs.topology.sound.Statement.{statement}
-use Rattle.fields.proofs.topology.sound.Tie as tie
+use Rattle.topologies.specs.Rows.{SoundRow}
+use Rattle.topologies.proofs.Testing.{rows-sound, sound-row}
+use Rattle.topologies.proofs.soundness.sound.Statement.{statement}
+use Rattle.topologies.proofs.soundness.sound.Tie as tie
 
 abbrev Inv-loop : tie.InvT-loop
 Inv-loop rows node₀ node = (node ≤ length rows) × ((a : ℕ) → a < node → SoundRow (topology rows) a)
