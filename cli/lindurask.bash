@@ -8,19 +8,21 @@ _lindurask() {
         return
     fi
     if [ "$command:$COMP_CWORD" = open:7 ]; then
-        mapfile -t COMPREPLY < <(compgen -W 'second --help' -- "$word")
+        mapfile -t COMPREPLY < <(compgen -W 'second --mains --help' -- "$word")
         return
     fi
     case $command in
-    check | quote | routes | table | balance | diff) choices='--json --help' ;;
+    table | balance | diff) choices='--json --help' ;;
+    check | quote | routes) choices='--mains --json --help' ;;
+    open) choices='--mains --help' ;;
     statement) choices='--raw --help' ;;
-    post) choices='--dry-run --json --help' ;;
+    post) choices='--dry-run --mains --json --help' ;;
     show) choices='--stream --node --no-lists --json --help' ;;
     *) choices=--help ;;
     esac
     case $command:$before:$word in
     help:*) mapfile -t COMPREPLY < <(compgen -W "$commands" -- "$word") ;;
-    *:--stream:* | *:--node:*) ;;
+    *:--stream:* | *:--node:* | *:--mains:*) ;;
     *:*:-*) mapfile -t COMPREPLY < <(compgen -W "$choices" -- "$word") ;;
     *) compopt -o filenames 2>/dev/null; mapfile -t COMPREPLY < <(compgen -f -- "$word") ;;
     esac

@@ -53,7 +53,10 @@ int main(void) {
         {.opens = false, .id = 1},
     };
     size_t count = sizeof requests / sizeof requests[0];
-    number = lindurask_post(book, book_length, requests, count, next, sizeof next, &next_length);
+
+    /* Nodes 1 and 2 are on mains: only they may stand in the middle of a route. On this line that asks no more of any route. */
+    const uint64_t mains = 1u << 1 | 1u << 2;
+    number = lindurask_post(book, book_length, mains, requests, count, next, sizeof next, &next_length);
     if (number != 0) {
         printf("nothing was posted: refused %u\n", number);
         return 1;
@@ -76,14 +79,14 @@ int main(void) {
         {.opens = false, .id = 1},
         {.opens = true, .id = 2, .source = 1, .destination = 0, .period = 5},
     };
-    number = lindurask_post(next, next_length, again, 2, book, sizeof book, &book_length);
+    number = lindurask_post(next, next_length, mains, again, 2, book, sizeof book, &book_length);
     printf("A list of which none is done: %u, and %zu bytes are written\n", number, book_length);
     print_request(&again[0]);
     print_request(&again[1]);
 
     /* A call that is refused as a whole marks no request: a buffer that does not hold the longest book is too short. */
     again[0].answer = 99;
-    number = lindurask_post(next, next_length, again, 1, book, sizeof book - 1, &book_length);
+    number = lindurask_post(next, next_length, mains, again, 1, book, sizeof book - 1, &book_length);
     printf("With a shorter buffer: refused %u, and the answer is still %u\n", number, again[0].answer);
     return 0;
 }

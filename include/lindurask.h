@@ -24,7 +24,7 @@
  *    4  a node number is N or more
  *    5  source is destination
  *    6  period is none of 1, 2, 5, 10, 20, 50, 100
- *    7  no route exists between the nodes, of any number of hops
+ *    7  no route exists between the nodes, of any number of hops, with only nodes of the set in its middle
  *    8  rows would pass 64, or hops would pass 512; a stream has a row for each of its routes
  *    9  no placing exists: no free slots for the stream on its route, or on its second route
  *       beside the first
@@ -37,12 +37,20 @@
  *   14  image: under 16 bytes, or not the length that its header gives
  *   15  image: rows are not lawful, not rising by id and then route, or do not fill it
  *   16  image: two clashing hops of different rows meet
- *   17  routes between the nodes exist, but every one has over 15 hops
- *   18  no second route: none of at most 6 hops that has no middle node in common with the first
+ *   17  such routes exist, but every one has over 15 hops
+ *   18  no second route: no such route of at most 6 hops that has no middle node in common with the first
+ *   25  the set has a bit from N up
  *   26  over LINDURASK_MOST_REQUESTS requests in a list
  *
  * An image is tested in the order 14 (under 16 bytes), 13, 10, 14, 11, 15, 16; then a call has
  * its own refusals, in the order given with it below.
+ *
+ *
+ * The set of nodes that may stand in the middle of a route
+ *
+ * lindurask_post, lindurask_routes and lindurask_keeps_to take a set of 64 bits, bit b for node b: the nodes on
+ * mains. Only these stand in the middle of a route; its source and its destination may be any. A set with all N bits
+ * leaves routes as they are. The set is not part of a book. lindurask_open and lindurask_close have all nodes in it.
  *
  *
  * What is written
@@ -57,8 +65,8 @@
  *
  * - A pointer is to as many bytes as the length beside it says, or to as many requests as the count,
  *   and not null, also where that is 0. The bools of a request are 0 or 1.
- * - The input, the requests, out, *length, *more, *links and the counts of a balance lie apart: none
- *   of them overlaps another. To make the new image the current one, swap the two buffers.
+ * - The input, the requests, out, *length, *more, *links, *keeps and the counts of a balance lie apart:
+ *   none of them overlaps another. To make the new image the current one, swap the two buffers.
  * - No image is longer than LINDURASK_LONGEST_IMAGE bytes; an output buffer of that size is never
  *   too short for a book, and a call that changes the book takes none that is shorter. A table
  *   takes 300 x S bytes, S the slots of a tile: at most LINDURASK_LONGEST_TABLE. A list of routes
@@ -130,21 +138,21 @@ struct lindurask_request {
  * written. A request that is refused leaves the book as it found it, and the list goes on.
  *
  * An open asks for a stream of this id (1 to 65535) from the source to the destination, every `period`
- * tiles. The route is the shortest, the lowest node list among equals; the slots are the lexicographically
+ * tiles. The route is the shortest with only nodes of `mains` in its middle, the lowest node list among equals; the slots are the lexicographically
  * first that are free. Where `second` is true the stream has a second route as well: another than the
- * first, without a middle node in common with it, at most 6 hops, the shortest and then the lowest node
- * list; its slots are the first that are free beside the first route's. Both are opened or neither. Its
+ * first, without a middle node in common with it, its own in `mains` too, at most 6 hops, the shortest and
+ * then the lowest node list; its slots are the first that are free beside the first route's. Both are opened or neither. Its
  * answers: 0, or the first that applies of 1, 4, 5, 6, 2, 7, 17, 18, 8, 9.
  *
  * A close takes the stream of this id with all its routes out. Its answers: 0, or the first of 1, 3.
  *
- * Refusals of the whole call, which leave every request as it is: those of an image, then 26, 12.
+ * Refusals of the whole call, which leave every request as it is: those of an image, then 25, 26, 12.
  */
-uint8_t lindurask_post(const uint8_t *book, size_t book_len, struct lindurask_request *requests, size_t count,
-                       uint8_t *out, size_t out_len, size_t *length);
+uint8_t lindurask_post(const uint8_t *book, size_t book_len, uint64_t mains, struct lindurask_request *requests,
+                       size_t count, uint8_t *out, size_t out_len, size_t *length);
 
 /*
- * Opens a stream: a list of one open. Gives the refusal of the whole call, or the answer of the request.
+ * Opens a stream: a list of one open, with all nodes in the set. Gives the refusal of the whole call, or the answer of the request.
  * Refusals: those of an image, then 12, 1, 4, 5, 6, 2, 7, 17, 18, 8, 9.
  */
 uint8_t lindurask_open(const uint8_t *book, size_t book_len, uint16_t id, uint8_t source, uint8_t destination,
@@ -175,13 +183,19 @@ uint8_t lindurask_balance(const uint8_t *book, size_t book_len, uint8_t node, ui
 uint8_t lindurask_links(const uint8_t *book, size_t book_len, uint8_t node, uint8_t *links);
 
 /*
- * Lists every route of at most 6 hops from the source to the destination, each once, in order of node
- * lists: for each a byte with its hops, and then its nodes, a byte each. The list stops after 32, with
+ * Lists every route of at most 6 hops from the source to the destination with only nodes of `mains` in its
+ * middle, each once, in order of node lists: for each a byte with its hops, and then its nodes, a byte each. The list stops after 32, with
  * *more set to 1 if there are others, and otherwise to 0. No routes is 0 with *length 0. A refusal sets
- * *more to 0. Refusals: those of an image, then 4, 5, 12.
+ * *more to 0. Refusals: those of an image, then 25, 4, 5, 12.
  */
-uint8_t lindurask_routes(const uint8_t *book, size_t book_len, uint8_t source, uint8_t destination,
+uint8_t lindurask_routes(const uint8_t *book, size_t book_len, uint64_t mains, uint8_t source, uint8_t destination,
                          uint8_t *out, size_t out_len, size_t *length, uint8_t *more);
+
+/*
+ * Says whether every route of a book keeps to a set: *keeps is 1 if only nodes of `mains` stand in the middle of any, and
+ * otherwise 0. A refusal sets *keeps to 0. Refusals: those of an image, then 25.
+ */
+uint8_t lindurask_keeps_to(const uint8_t *book, size_t book_len, uint64_t mains, uint8_t *keeps);
 
 #ifdef __cplusplus
 }

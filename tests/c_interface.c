@@ -16,8 +16,8 @@
 
 enum { HEAD = 44, REPLY = 13, MOST_BYTES = 4096, MOST_ROOM = 16384, MARGIN = 64 };
 
-/* The calls that have a name here; those from 9 to 12 are none. */
-enum { NEW = 0, BALANCE = 6, ROUTES = 7, POST = 8, LINKS = 13 };
+/* The calls that have a name here; those from 10 to 12 are none. */
+enum { NEW = 0, BALANCE = 6, ROUTES = 7, POST = 8, KEEPS = 9, LINKS = 13 };
 
 /* A record of a framed posting, the most of them, and how many requests stand on either side of a list. */
 enum { RECORD = 11, MOST_RECORDS = 100, BESIDE = 4 };
@@ -58,6 +58,8 @@ struct reply {
     uint8_t margin6;
     uint8_t links;
     uint8_t margin7;
+    uint8_t keeps;
+    uint8_t margin8;
 };
 
 static uint8_t input[MARGIN + MOST_BYTES + MARGIN], before[MOST_BYTES];
@@ -66,6 +68,13 @@ static uint8_t output[MARGIN + MOST_ROOM + MARGIN];
 static struct lindurask_request list[BESIDE + MOST_RECORDS + BESIDE];
 
 static unsigned be16(const uint8_t *p) { return (unsigned)p[0] << 8 | p[1]; }
+
+static uint64_t be64(const uint8_t *p) {
+    uint64_t x = 0;
+    for (size_t i = 0; i < 8; i++)
+        x = x << 8 | p[i];
+    return x;
+}
 
 static void put16(uint8_t *p, unsigned x) {
     p[0] = (uint8_t)(x >> 8);
@@ -140,6 +149,7 @@ static uint8_t call(const uint8_t *head, const uint8_t *book, size_t len, const 
                     uint8_t *out, size_t room, struct reply *r) {
     uint16_t id = be16(head + 1), period = be16(head + 5), kinds = be16(head + 9);
     uint8_t source = head[3], destination = head[4];
+    uint64_t mains = be64(head + 26);
     bool second = head[19] != 0;
     switch (head[0]) {
     case NEW:
@@ -158,11 +168,13 @@ static uint8_t call(const uint8_t *head, const uint8_t *book, size_t len, const 
     case BALANCE:
         return lindurask_balance(book, len, source, &r->data, &r->used, &r->free_slots);
     case ROUTES:
-        return lindurask_routes(book, len, source, destination, out, room, &r->length, &r->more);
+        return lindurask_routes(book, len, mains, source, destination, out, room, &r->length, &r->more);
+    case KEEPS:
+        return lindurask_keeps_to(book, len, mains, &r->keeps);
     case LINKS:
         return lindurask_links(book, len, source, &r->links);
     default:
-        return lindurask_post(book, len, list + BESIDE, count, out, room, &r->length);
+        return lindurask_post(book, len, mains, list + BESIDE, count, out, room, &r->length);
     }
 }
 
@@ -170,17 +182,17 @@ static uint8_t call(const uint8_t *head, const uint8_t *book, size_t len, const 
 static void answer(const uint8_t *head, uint8_t number, const struct reply *r, uint8_t *reply) {
     memset(reply, 0, REPLY);
     reply[0] = number;
-    int balance = head[0] == BALANCE, routes = head[0] == ROUTES, links = head[0] == LINKS;
+    int balance = head[0] == BALANCE, routes = head[0] == ROUTES, links = head[0] == LINKS, keeps = head[0] == KEEPS;
     if (balance) {
         put32(reply + 1, r->data);
         put32(reply + 5, r->used);
         put32(reply + 9, r->free_slots);
     } else {
-        put32(reply + 1, links ? r->links : r->length);
+        put32(reply + 1, links ? r->links : keeps ? r->keeps : r->length);
     }
     if (routes)
         put32(reply + 5, r->more);
-    if ((balance || links) && r->length != UNSET)
+    if ((balance || links || keeps) && r->length != UNSET)
         fail("sets a length where there is none");
     if (!balance && (r->data != UNSET || r->used != UNSET || r->free_slots != UNSET))
         fail("sets a count where there is none");
@@ -188,7 +200,10 @@ static void answer(const uint8_t *head, uint8_t number, const struct reply *r, u
         fail("sets a mark where there is none");
     if (!links && r->links != (uint8_t)UNSET)
         fail("sets a number of links where there is none");
-    if (r->margin0 | r->margin1 | r->margin2 | r->margin3 | r->margin4 | r->margin5 | r->margin6 | r->margin7)
+    if (!keeps && r->keeps != (uint8_t)UNSET)
+        fail("sets a yes or no where there is none");
+    if (r->margin0 | r->margin1 | r->margin2 | r->margin3 | r->margin4 | r->margin5 | r->margin6 | r->margin7 |
+        r->margin8)
         fail("writes beside what it gives back");
 }
 
@@ -209,8 +224,8 @@ static void serve(const uint8_t *head) {
     size_t count = further / RECORD;
     uint8_t reply[REPLY], records[RECORD * MOST_RECORDS];
     struct reply r = {.length = UNSET, .data = UNSET, .used = UNSET, .free_slots = UNSET};
-    r.more = r.links = (uint8_t)UNSET;
-    if ((head[0] > POST && head[0] != LINKS) || len > MOST_BYTES || room > MOST_ROOM)
+    r.more = r.links = r.keeps = (uint8_t)UNSET;
+    if ((head[0] > KEEPS && head[0] != LINKS) || len > MOST_BYTES || room > MOST_ROOM)
         fail("is given a frame that is none");
     if (heard > MOST_BYTES || (heard != 0 && head[0] != NEW))
         fail("is given a hearing that is none");

@@ -34,10 +34,11 @@
 #elif WRONG == 15 /* a balance: of another node */
 #define lindurask_balance(book, len, node, ...) lindurask_balance(book, len, (node) ^ 1, __VA_ARGS__)
 #elif WRONG == 16 /* a list of routes: source and destination exchanged */
-#define lindurask_routes(book, len, source, destination, ...) lindurask_routes(book, len, destination, source, __VA_ARGS__)
+#define lindurask_routes(book, len, mains, source, destination, ...) \
+    lindurask_routes(book, len, mains, destination, source, __VA_ARGS__)
 #elif WRONG == 17 /* a list of routes: no mark */
-#define lindurask_routes(book, len, source, destination, out, room, length, more) \
-    lindurask_routes(book, len, source, destination, out, room, length, &(uint8_t){0})
+#define lindurask_routes(book, len, mains, source, destination, out, room, length, more) \
+    lindurask_routes(book, len, mains, source, destination, out, room, length, &(uint8_t){0})
 #elif WRONG == 18 /* a check: the length is not set */
 #define lindurask_check(book, len, length) lindurask_check(book, len, &(size_t){0})
 #elif WRONG == 19 /* a rewrite: the buffer taken for a byte longer */
@@ -49,13 +50,17 @@
 #elif WRONG == 22 /* an open: its input changed */
 #define lindurask_open(book, len, ...) ((len) ? ((uint8_t *)(book))[(len) - 1]++ : 0, lindurask_open(book, len, __VA_ARGS__))
 #elif WRONG == 23 /* a posting: a request too few */
-#define lindurask_post(book, len, list, count, ...) lindurask_post(book, len, list, (count) - ((count) > 0), __VA_ARGS__)
+#define lindurask_post(book, len, mains, list, count, ...) \
+    lindurask_post(book, len, mains, list, (count) - ((count) > 0), __VA_ARGS__)
 #elif WRONG == 24 /* a posting: the buffer taken for a byte longer */
-#define lindurask_post(book, len, list, count, out, room, length) lindurask_post(book, len, list, count, out, (room) + 1, length)
+#define lindurask_post(book, len, mains, list, count, out, room, length) \
+    lindurask_post(book, len, mains, list, count, out, (room) + 1, length)
 #elif WRONG == 25 /* a posting: the length is not set */
-#define lindurask_post(book, len, list, count, out, room, length) lindurask_post(book, len, list, count, out, room, &(size_t){0})
+#define lindurask_post(book, len, mains, list, count, out, room, length) \
+    lindurask_post(book, len, mains, list, count, out, room, &(size_t){0})
 #elif WRONG == 26 /* a posting: a request behind the list marked */
-#define lindurask_post(book, len, list, count, ...) ((list)[count].answer = 0, lindurask_post(book, len, list, count, __VA_ARGS__))
+#define lindurask_post(book, len, mains, list, count, ...) \
+    ((list)[count].answer = 0, lindurask_post(book, len, mains, list, count, __VA_ARGS__))
 #elif WRONG == 27 /* a posting: its input changed */
 #define lindurask_post(book, len, ...) ((len) ? ((uint8_t *)(book))[(len) - 1]++ : 0, lindurask_post(book, len, __VA_ARGS__))
 #elif WRONG == 28 /* a request: source and destination exchanged */
@@ -90,6 +95,17 @@
 #elif WRONG == 41 /* a new book: the hearing taken for as long as the links */
 #define lindurask_new(s, c, kinds, d, u, n, links, links_len, hearing, hearing_len, ...) \
     lindurask_new(s, c, kinds, d, u, n, links, links_len, hearing, (hearing_len) ? links_len : 0, __VA_ARGS__)
+#elif WRONG == 42 /* a posting: the set in 32 bits */
+#define lindurask_post(book, len, mains, ...) lindurask_post(book, len, (uint32_t)(mains), __VA_ARGS__)
+#elif WRONG == 43 /* a list of routes: the set in 32 bits */
+#define lindurask_routes(book, len, mains, ...) lindurask_routes(book, len, (uint32_t)(mains), __VA_ARGS__)
+#elif WRONG == 44 /* keeps to: the set in 32 bits */
+#define lindurask_keeps_to(book, len, mains, keeps) lindurask_keeps_to(book, len, (uint32_t)(mains), keeps)
+#elif WRONG == 45 /* keeps to: yes or no not set where the image is refused */
+#define lindurask_keeps_to(book, len, mains, keeps) \
+    lindurask_keeps_to(book, len, mains, lindurask_check(book, len, &(size_t){0}) ? &(uint8_t){0} : (keeps))
+#elif WRONG == 46 /* keeps to: the set the other way round */
+#define lindurask_keeps_to(book, len, mains, keeps) lindurask_keeps_to(book, len, ~(mains), keeps)
 #else
 #error "there is no such wrong interface"
 #endif
@@ -103,11 +119,11 @@ static inline void exchange(void *one, void *two, size_t size) {
 }
 
 /* Every request is amiss for the call, and put right again behind it. */
-static uint8_t amiss_post(const uint8_t *book, size_t len, struct lindurask_request *list, size_t count, uint8_t *out,
-                          size_t room, size_t *length) {
+static uint8_t amiss_post(const uint8_t *book, size_t len, uint64_t mains, struct lindurask_request *list, size_t count,
+                          uint8_t *out, size_t room, size_t *length) {
     for (size_t i = 0; i < count; i++)
         AMISS(&list[i]);
-    uint8_t number = lindurask_post(book, len, list, count, out, room, length);
+    uint8_t number = lindurask_post(book, len, mains, list, count, out, room, length);
     for (size_t i = 0; i < count; i++)
         AMISS(&list[i]);
     return number;

@@ -10,8 +10,9 @@ pub const MOST_ROUTES: usize = 64;
 pub const MOST_HOPS: usize = 512;
 /// The most nodes of a site.
 pub const MOST_NODES: usize = 64;
-/// Bytes of the head.
+/// Bytes of the head, and the place of the one that states how many nodes there are.
 const HEAD: usize = 16;
+const NODES_AT: usize = 11;
 
 /// How a version writes what follows the head.
 struct Layout {
@@ -133,6 +134,11 @@ impl Bytes<'_> {
         let offsets = (0..hops).map(|_| self.word()).collect::<Option<_>>()?;
         Some(Way { id, number, period, nodes, offsets })
     }
+}
+
+/// How many nodes an image states, be it lawful or not; none where it ends before.
+pub fn stated_nodes(image: &[u8]) -> u8 {
+    image.get(NODES_AT).copied().unwrap_or(0)
 }
 
 /// Every pair of nodes that these rows join once, the lower node first.

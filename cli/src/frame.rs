@@ -33,6 +33,7 @@ enum Call {
     Balance = 6,
     Routes = 7,
     Post = 8,
+    KeepsTo = 9,
     Links = 13,
     End = 255,
 }
@@ -81,12 +82,23 @@ pub struct Request {
 pub struct Answer {
     /// 0, or why it was refused.
     pub number: u8,
-    /// A length and two zeros, a list's length, 1 where more exist and a zero, data, used and free, or links and two zeros.
+    /// A length and two zeros, a list's length, 1 where more exist and a zero, data, used and free, links and two zeros,
+    /// or 1 where a book keeps to a set and two zeros.
     pub counts: [u32; 3],
     /// What was written.
     pub bytes: Vec<u8>,
     /// The answer to each request of a list.
     pub answers: Vec<u8>,
+}
+
+impl Answer {
+    /// The answer to the only request of a list, or to a call that is none.
+    pub fn of_one(self) -> Answer {
+        match self.answers[..] {
+            [number] => Answer { number, ..self },
+            _ => self,
+        }
+    }
 }
 
 /// A call with all its fields 0 and these bytes behind them.
@@ -168,15 +180,27 @@ pub fn links(book: &[u8], node: u8) -> Request {
     request
 }
 
-pub fn routes(book: &[u8], source: u8, destination: u8) -> Request {
-    let mut request = blank(Call::Routes, book, LIST_ROOM);
+/// A call with the set of nodes that may stand in the middle of a route.
+fn with_set(call: Call, book: &[u8], mains: u64, room: u16) -> Request {
+    let mut request = blank(call, book, room);
+    request.bytes[26..34].copy_from_slice(&mains.to_be_bytes());
+    request
+}
+
+pub fn routes(book: &[u8], mains: u64, source: u8, destination: u8) -> Request {
+    let mut request = with_set(Call::Routes, book, mains, LIST_ROOM);
     request.bytes[3..5].copy_from_slice(&[source, destination]);
     request
 }
 
+/// Asks whether every route of the book keeps to the set.
+pub fn keeps_to(book: &[u8], mains: u64) -> Request {
+    with_set(Call::KeepsTo, book, mains, 0)
+}
+
 /// Posts a list. One that is too long is cut behind the first request too many, and refused for that one.
-pub fn post(book: &[u8], list: &[Record]) -> Request {
-    let mut request = blank(Call::Post, book, BOOK_ROOM);
+pub fn post(book: &[u8], mains: u64, list: &[Record]) -> Request {
+    let mut request = with_set(Call::Post, book, mains, BOOK_ROOM);
     let list = &list[..list.len().min(MOST_REQUESTS + 1)];
     request.lent = RECORD * list.len();
     request.bytes[40..42].copy_from_slice(&(request.lent as u16).to_be_bytes());
@@ -207,7 +231,8 @@ impl Request {
         let counts = [count(1), count(5), count(9)];
         let answers = self.read_records(head[0], records)?;
         let answer = Answer { number: head[0], counts, bytes: vec![], answers };
-        let counted = self.is(Call::Balance) || self.is(Call::Links);
+        let judged = self.is(Call::KeepsTo);
+        let counted = self.is(Call::Balance) || self.is(Call::Links) || judged;
         let length = if counted { 0 } else { answer.counts[0] as usize };
         let told = answer.number == 0 || answer.counts == [0; 3];
         let marked = self.is(Call::Routes) && answer.counts[1..] == [1, 0];
@@ -219,6 +244,7 @@ impl Request {
             || !others
             || !known
             || !written
+            || judged && 1 < answer.counts[0]
             || out.len() < length
             || out[length..].iter().any(|&b| b != FILL)
         {

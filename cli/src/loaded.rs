@@ -4,6 +4,7 @@ use crate::book::{Balance, Book, Stream, CYCLE};
 use crate::engine::Engine;
 use crate::files;
 use crate::frame::{self, Answer, Request, Wish};
+use crate::mains::Mains;
 use crate::table::{self, Entry};
 use crate::text::plain;
 use crate::trouble::Trouble;
@@ -33,10 +34,12 @@ pub fn decode(bytes: &[u8]) -> Result<Book, Trouble> {
     Book::decode(bytes).ok_or_else(unreadable)
 }
 
-/// The stream that an open gave, with a second route exactly if one was asked for.
-pub fn opened(book: &Book, wish: Wish) -> Result<Stream<'_>, Trouble> {
+/// The stream that an open gave, with a second route exactly if one was asked for, and over no other nodes than it may.
+pub fn opened(book: &Book, mains: Mains, wish: Wish) -> Result<Stream<'_>, Trouble> {
     let stream = book.stream(wish.id).filter(|stream| stream.second().is_some() == wish.second);
-    stream.ok_or_else(|| Trouble::Failed("the engine opened another stream".into()))
+    stream
+        .filter(|&stream| mains.keeps(stream))
+        .ok_or_else(|| Trouble::Failed("the engine opened another stream".into()))
 }
 
 /// A refusal is about the book itself and not about what was asked of it.

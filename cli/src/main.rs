@@ -13,6 +13,7 @@ mod leftovers;
 mod lines;
 mod list;
 mod loaded;
+mod mains;
 mod page;
 mod pairs;
 mod picture;

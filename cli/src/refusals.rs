@@ -1,7 +1,7 @@
 //! The answers by number, in words.
 
 /// What each number says; document 01 has the numbers, and document 02 those from 17 on.
-const WORDS: [(u8, &str); 20] = [
+const WORDS: [(u8, &str); 21] = [
     (0, "done"),
     (1, "a stream's id is never 0"),
     (2, "a stream of this id is in the book already"),
@@ -21,6 +21,7 @@ const WORDS: [(u8, &str); 20] = [
     (16, "hops of two routes clash and meet in a slot"),
     (17, "every route has over 15 hops"),
     (18, "no second route of at most 6 hops by other relays"),
+    (25, "the mains set names a node that the site has not"),
     (26, "a list has at most 64 requests"),
 ];
 

@@ -1,6 +1,7 @@
 //! What a clerk asks of a book, as it was typed: to open a stream, or to close one.
 
 use crate::frame::{Record, Wish};
+use crate::mains::Mains;
 use crate::words::Number;
 
 /// The word that asks for a second route.
@@ -33,7 +34,7 @@ impl Asked {
     }
 
     /// What of the wish a refusal is about.
-    pub fn about(&self, number: u8, nodes: u8) -> String {
+    pub fn about(&self, number: u8, nodes: u8, mains: Mains) -> String {
         let (from, to) = (self.source.0, self.destination.0);
         let missing = if u64::from(nodes) <= from { from } else { to };
         match number {
@@ -41,9 +42,14 @@ impl Asked {
             4 => format!("node {missing}"),
             5 => format!("node {from}"),
             6 => format!("period {}", self.period.0),
-            _ => format!("from node {from} to node {to}, period {}", self.period.0),
+            _ => format!("{}, period {}", about_ends(from, to, mains), self.period.0),
         }
     }
+}
+
+/// The ends that a refusal is about.
+pub fn about_ends(from: u64, to: u64, mains: Mains) -> String {
+    format!("from node {from} to node {to}{}", mains.between())
 }
 
 /// An id that a refusal is about.
@@ -68,9 +74,9 @@ impl Request {
     }
 
     /// What of the request a refusal is about.
-    pub fn about(&self, number: u8, nodes: u8) -> String {
+    pub fn about(&self, number: u8, nodes: u8, mains: Mains) -> String {
         match self {
-            Request::Open(asked) => asked.about(number, nodes),
+            Request::Open(asked) => asked.about(number, nodes, mains),
             Request::Close(id) => about_id(*id),
         }
     }

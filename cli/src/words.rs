@@ -1,6 +1,7 @@
 //! The words of the command line: operands, options, and what they are as numbers.
 
 use crate::lines;
+use crate::mains::Mains;
 use crate::trouble::Trouble;
 use std::ffi::{OsStr, OsString};
 use std::os::unix::ffi::OsStrExt;
@@ -17,6 +18,7 @@ pub const STREAM: Choice = Choice { name: "--stream", value: Some("ID") };
 pub const NODE: Choice = Choice { name: "--node", value: Some("NODE") };
 pub const DRY_RUN: Choice = Choice { name: "--dry-run", value: None };
 pub const NO_LISTS: Choice = Choice { name: "--no-lists", value: None };
+pub const MAINS: Choice = Choice { name: "--mains", value: Some("NODES") };
 pub const RAW: Choice = Choice { name: "--raw", value: None };
 
 /// The options that every command has.
@@ -122,6 +124,12 @@ impl Words {
     /// The stream that an option names.
     pub fn chosen_stream(&self) -> Result<Option<u16>, Trouble> {
         self.value(&STREAM).map(as_id).transpose()
+    }
+
+    /// The nodes on mains that an option names; all where it is not there.
+    pub fn mains(&self) -> Result<Mains, Trouble> {
+        let set = self.value(&MAINS).map(|word| Mains::read(word.as_bytes()));
+        set.unwrap_or(Ok(Mains::All)).map_err(|said| misused(&said))
     }
 
     /// The node that an option names.

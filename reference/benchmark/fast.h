@@ -17,15 +17,15 @@ struct fast_request {
     uint8_t answer;
 };
 
-uint8_t fast_post(const uint8_t *book, size_t book_len, struct fast_request *requests, size_t count, uint8_t *out,
-                  size_t out_len, size_t *length);
+uint8_t fast_post(const uint8_t *book, size_t book_len, uint64_t mains, struct fast_request *requests, size_t count,
+                  uint8_t *out, size_t out_len, size_t *length);
 uint8_t fast_open(const uint8_t *book, size_t book_len, uint16_t id, uint8_t source, uint8_t destination, uint16_t period,
                   bool second, uint8_t *out, size_t out_len, size_t *length);
 uint8_t fast_close(const uint8_t *book, size_t book_len, uint16_t id, uint8_t *out, size_t out_len, size_t *length);
 uint8_t fast_expand(const uint8_t *book, size_t book_len, uint8_t node, uint8_t *out, size_t out_len, size_t *length);
 uint8_t fast_balance(const uint8_t *book, size_t book_len, uint8_t node, uint32_t *data, uint32_t *used, uint32_t *free_slots);
-uint8_t fast_routes(const uint8_t *book, size_t book_len, uint8_t source, uint8_t destination, uint8_t *out, size_t out_len,
-                    size_t *length, uint8_t *more);
+uint8_t fast_routes(const uint8_t *book, size_t book_len, uint64_t mains, uint8_t source, uint8_t destination, uint8_t *out,
+                    size_t out_len, size_t *length, uint8_t *more);
 
 /* Of an accepted image: each node's free slots, the fewest of them, the sum of used, the longest latency. */
 struct fast_figures {

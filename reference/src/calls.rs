@@ -7,10 +7,12 @@
 use crate::book::Book;
 use crate::change::Open;
 use crate::image;
+use crate::node_set::NodeSet;
 use crate::plan::Plan;
 use crate::record::Record;
 use crate::refusal::{DONE, Refusal, refuse_if};
-use crate::route::short_routes;
+use crate::route::{self, short_routes};
+use crate::row::Row;
 use crate::table;
 use crate::topology::{NODES, Topology};
 use crate::version::Version;
@@ -51,13 +53,20 @@ pub fn rewrite(book: &[u8], out: &mut [u8]) -> (u8, usize) {
 
 /// Works through a list of opens and closes in its order. Each record receives
 /// its answer, and the book is written at the end if one was done.
-pub fn post(book: &[u8], records: &mut [Record], out: &mut [u8]) -> (u8, usize) {
-    let mut book = match read_for_posting(book, records.len(), out.len()) {
-        Ok(book) => book,
-        Err(refusal) => return (refusal as u8, 0),
-    };
+pub fn post(book: &[u8], mains: u64, records: &mut [Record], out: &mut [u8]) -> (u8, usize) {
+    match read_with_mains(book, mains) {
+        Ok(book) => post_on(book, NodeSet(mains), records, out),
+        Err(refusal) => (refusal as u8, 0),
+    }
+}
+
+fn post_on(book: Book, mains: NodeSet, records: &mut [Record], out: &mut [u8]) -> (u8, usize) {
+    if let Err(refusal) = is_ready_for(records.len(), out.len()) {
+        return (refusal as u8, 0);
+    }
+    let mut book = book;
     for record in records.iter_mut() {
-        record.answer = match record.change(&book) {
+        record.answer = match record.change(&book, mains) {
             Ok(changed) => {
                 book = changed;
                 DONE
@@ -105,18 +114,41 @@ pub fn links(book: &[u8], node: u8) -> (u8, u8) {
 
 /// Lists the routes of at most 6 hops: number, length, and whether more exist
 /// than are listed.
-pub fn routes(book: &[u8], source: u8, destination: u8, out: &mut [u8]) -> (u8, usize, bool) {
-    let found = routes_found(book, source, destination);
+pub fn routes(
+    book: &[u8],
+    mains: u64,
+    source: u8,
+    destination: u8,
+    out: &mut [u8],
+) -> (u8, usize, bool) {
+    let found = routes_found(book, mains, source, destination);
     let more = found.as_ref().is_ok_and(|routes| routes.len() > MAX_LISTED);
     let listed = |routes: Vec<Vec<u8>>| routes.into_iter().take(MAX_LISTED).flat_map(listed_route);
     let (number, length) = deliver(found.map(|routes| listed(routes).collect()), out);
     (number, length, more && number == DONE)
 }
 
-/// A list of one: the whole call's refusal, or the record's answer.
+/// Says whether every row of a book keeps to the set: number, yes or no.
+pub fn keeps_to(book: &[u8], mains: u64) -> (u8, bool) {
+    match read_with_mains(book, mains) {
+        Ok(book) => {
+            let keeps = |row: &Row| route::keeps_to(&row.nodes, NodeSet(mains));
+            (DONE, book.rows.iter().all(keeps))
+        }
+        Err(refusal) => (refusal as u8, false),
+    }
+}
+
+/// A list of one, all nodes on mains: the whole call's refusal, or the record's
+/// answer.
 fn post_one(book: &[u8], record: Record, out: &mut [u8]) -> (u8, usize) {
+    let book = match read(book) {
+        Ok(book) => book,
+        Err(refusal) => return (refusal as u8, 0),
+    };
+    let mains = NodeSet::all(book.topology.nodes());
     let mut list = [record];
-    let (number, length) = post(book, &mut list, out);
+    let (number, length) = post_on(book, mains, &mut list, out);
     if number == DONE { (list[0].answer, length) } else { (number, length) }
 }
 
@@ -150,11 +182,16 @@ fn read(book: &[u8]) -> Result<Book, Refusal> {
     image::read(book).map(|(_, book)| book)
 }
 
-/// Reads a book for a posting of so many records into so long a buffer.
-fn read_for_posting(book: &[u8], records: usize, room: usize) -> Result<Book, Refusal> {
-    let book = read(book)?;
+/// A posting may have so many records and so long a buffer.
+fn is_ready_for(records: usize, room: usize) -> Result<(), Refusal> {
     refuse_if(records > MAX_RECORDS, Refusal::TooManyRecords)?;
-    refuse_if(room < Version::NEWEST.longest_image(), Refusal::BufferTooShort)?;
+    refuse_if(room < Version::NEWEST.longest_image(), Refusal::BufferTooShort)
+}
+
+/// Reads a book for a call with a set of its nodes.
+fn read_with_mains(book: &[u8], mains: u64) -> Result<Book, Refusal> {
+    let book = read(book)?;
+    refuse_if(NodeSet(mains).passes(book.topology.nodes()), Refusal::MainsOutOfRange)?;
     Ok(book)
 }
 
@@ -166,10 +203,16 @@ fn read_with_node(book: &[u8], node: u8) -> Result<Book, Refusal> {
 }
 
 /// The routes to list, and one more if there are more.
-fn routes_found(book: &[u8], source: u8, destination: u8) -> Result<Vec<Vec<u8>>, Refusal> {
-    let book = read_with_node(book, source.max(destination))?;
+fn routes_found(
+    book: &[u8],
+    mains: u64,
+    source: u8,
+    destination: u8,
+) -> Result<Vec<Vec<u8>>, Refusal> {
+    let book = read_with_mains(book, mains)?;
+    refuse_if(source.max(destination) >= book.topology.nodes(), Refusal::NoSuchNode)?;
     refuse_if(source == destination, Refusal::SourceIsDestination)?;
-    Ok(short_routes(&book.topology, source, destination, MAX_LISTED + 1))
+    Ok(short_routes(&book.topology, NodeSet(mains), source, destination, MAX_LISTED + 1))
 }
 
 /// A route as a hop byte and the nodes.

@@ -1,6 +1,7 @@
 //! Changes of a book: a stream opened, a stream closed.
 
 use crate::book::{Book, MAX_HOPS, MAX_ROWS};
+use crate::node_set::NodeSet;
 use crate::placing::first_placing;
 use crate::plan::period_of;
 use crate::refusal::{Refusal, refuse_if};
@@ -18,18 +19,19 @@ pub struct Open {
     pub second: bool,
 }
 
-/// The book with the stream.
-pub fn open(book: &Book, asked: Open) -> Result<Book, Refusal> {
+/// The book with the stream; only nodes on mains stand in the middle of its
+/// routes.
+pub fn open(book: &Book, mains: NodeSet, asked: Open) -> Result<Book, Refusal> {
     let Open { id, source, destination, period, second } = asked;
     refuse_if(id == 0, Refusal::IdIsZero)?;
     refuse_if(source.max(destination) >= book.topology.nodes(), Refusal::NoSuchNode)?;
     refuse_if(source == destination, Refusal::SourceIsDestination)?;
     let period = period_of(period).ok_or(Refusal::NoSuchPeriod)?;
     refuse_if(book.holds(id), Refusal::IdInBook)?;
-    let first = planners_route(&book.topology, source, destination)?;
+    let first = planners_route(&book.topology, mains, source, destination)?;
     let mut routes = vec![(FIRST_ROUTE, first.clone())];
     if second {
-        let second = second_route(&book.topology, &first).ok_or(Refusal::NoSecondRoute)?;
+        let second = second_route(&book.topology, mains, &first).ok_or(Refusal::NoSecondRoute)?;
         routes.push((SECOND_ROUTE, second));
     }
     refuse_if(is_full_for(book, &routes), Refusal::BookIsFull)?;

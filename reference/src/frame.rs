@@ -10,7 +10,7 @@
 //! | Bytes | Field                                                          |
 //! |-------|----------------------------------------------------------------|
 //! | 0     | call: 0 new, 1 check, 2 rewrite, 3 open, 4 close, 5 expand,    |
-//! |       | 6 balance, 7 routes, 8 post, 13 links, 255 end                 |
+//! |       | 6 balance, 7 routes, 8 post, 9 keeps to, 13 links, 255 end     |
 //! | 1–2   | id (open, close)                                               |
 //! | 3     | source (open, routes) or node (expand, balance, links)         |
 //! | 4     | destination (open, routes)                                     |
@@ -21,10 +21,12 @@
 //! | 14–15 | length of the links (new), at most 1,024, or of the book (all  |
 //! |       | others), at most 4,096                                         |
 //! | 16–17 | length of the output buffer, at most 16,384; 0 for check,      |
-//! |       | balance and links, which have none                             |
+//! |       | balance, keeps to and links, which have none                   |
 //! | 18    | fill byte of the output buffer                                 |
 //! | 19    | 1 to ask for a second route, otherwise 0 (open)                |
-//! | 20–37 | 0                                                              |
+//! | 20–25 | 0                                                              |
+//! | 26–33 | mains set (routes, post, keeps to)                             |
+//! | 34–37 | 0                                                              |
 //! | 38–39 | length of the hearing (new), at most 1,024                     |
 //! | 40–41 | length of the further bytes, which are the records (post)      |
 //! | 42–43 | 0                                                              |
@@ -49,21 +51,21 @@
 //! | Bytes | Field                                                          |
 //! |-------|----------------------------------------------------------------|
 //! | 0     | number                                                         |
-//! | 1–4   | length, or data (balance), or the number of links (links)      |
+//! | 1–4   | length, data (balance), the number of links (links), or 1 if   |
+//! |       | every row keeps to the set (keeps to)                          |
 //! | 5–8   | used (balance); 1 if more routes exist than are listed         |
 //! |       | (routes); otherwise 0                                          |
 //! | 9–12  | free (balance), otherwise 0                                    |
 //! | then  | the output buffer, as long as the request says                 |
 //! | then  | the records (post)                                             |
 //!
-//! What is 0 is for document 02's other requests, and so are calls 9 to 12:
-//! 20–21 account (W11); 22–23 first tile and 24–25 tiles (W10); 26–33 mains
-//! set (W13); 34–37 amount (W11); further bytes that are the accounts (W11) or the tables (W9); 42–43 length of a
-//! second output buffer, which is the index, in words (W12), or the report
-//! (W7); bytes 8–9 of a record, its account (W11). Call 9 is keeps to (W13), 10
-//! purchase (W11), 11 salvage (W7), 12 book of (W9). In an answer the second
-//! buffer is last; bytes 1–4 say whether a book keeps to the set, 5–8 and 9–12
-//! are salvage's rows and bytes lost.
+//! What is 0 is for document 02's other requests, and so are calls 10 to 12:
+//! 20–21 account (W11); 22–23 first tile and 24–25 tiles (W10); 34–37 amount
+//! (W11); further bytes that are the accounts (W11) or the tables (W9); 42–43
+//! length of a second output buffer, which is the index, in words (W12), or the
+//! report (W7); bytes 8–9 of a record, its account (W11). Call 10 is purchase
+//! (W11), 11 salvage (W7), 12 book of (W9). In an answer the second buffer is
+//! last; bytes 5–8 and 9–12 are salvage's rows and bytes lost.
 //!
 //! A request with call 255 is a header only, has no answer and ends the
 //! stream, as does the end of the input between two frames. Answers may be
@@ -95,11 +97,12 @@ pub enum Call {
     Balance = 6,
     Routes = 7,
     Post = 8,
+    KeepsTo = 9,
     Links = 13,
 }
 
 impl Call {
-    pub const ALL: [Call; 10] = [
+    pub const ALL: [Call; 11] = [
         Call::New,
         Call::Check,
         Call::Rewrite,
@@ -109,12 +112,13 @@ impl Call {
         Call::Balance,
         Call::Routes,
         Call::Post,
+        Call::KeepsTo,
         Call::Links,
     ];
 
     /// The call has an output buffer.
     pub fn has_output(self) -> bool {
-        !matches!(self, Call::Check | Call::Balance | Call::Links)
+        !matches!(self, Call::Check | Call::Balance | Call::KeepsTo | Call::Links)
     }
 
     pub fn of_number(number: u8) -> io::Result<Call> {
@@ -135,7 +139,7 @@ pub fn write_end(output: &mut impl Write) -> io::Result<()> {
 pub struct Answer {
     pub number: u8,
     /// The length, the mark that more exist and a zero, or data, used and free,
-    /// or the number of links and two zeros.
+    /// or the number of links, or a yes, and two zeros.
     pub counts: [u32; 3],
     pub out: Vec<u8>,
     /// The records of a posting.

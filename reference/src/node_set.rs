@@ -7,8 +7,15 @@ pub struct NodeSet(pub u64);
 impl NodeSet {
     pub const EMPTY: NodeSet = NodeSet(0);
 
-    /// Every node a site can have.
-    pub const ALL: NodeSet = NodeSet(u64::MAX);
+    /// All nodes of a site with so many.
+    pub fn all(nodes: u8) -> NodeSet {
+        (0..nodes).fold(NodeSet::EMPTY, NodeSet::with)
+    }
+
+    /// Some bit from `nodes` up is set.
+    pub fn passes(self, nodes: u8) -> bool {
+        (nodes..64).any(|node| self.contains(node))
+    }
 
     pub fn contains(self, node: u8) -> bool {
         self.0 >> node & 1 == 1

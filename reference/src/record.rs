@@ -2,6 +2,7 @@
 
 use crate::book::Book;
 use crate::change::{self, Open};
+use crate::node_set::NodeSet;
 use crate::refusal::{DONE, Refusal};
 
 /// Bytes of a record in a frame.
@@ -30,11 +31,12 @@ impl Record {
         Record { opens: false, ..Record::open(nothing) }
     }
 
-    /// The book after this request.
-    pub fn change(&self, book: &Book) -> Result<Book, Refusal> {
+    /// The book after this request; only nodes on mains stand in the middle of
+    /// the routes it opens.
+    pub fn change(&self, book: &Book, mains: NodeSet) -> Result<Book, Refusal> {
         let Record { opens, second, source, destination, id, period, .. } = *self;
         if opens {
-            change::open(book, Open { id, source, destination, period, second })
+            change::open(book, mains, Open { id, source, destination, period, second })
         } else {
             change::close(book, id)
         }

@@ -19,7 +19,7 @@ pub enum Refusal {
     SourceIsDestination = 5,
     /// The period is none of the seven.
     NoSuchPeriod = 6,
-    /// No route exists.
+    /// No allowed route exists.
     NoRoute = 7,
     /// The rows would pass 64, or the hops 512.
     BookIsFull = 8,
@@ -42,10 +42,12 @@ pub enum Refusal {
     UnlawfulRows = 15,
     /// Two clashing hops of different rows meet.
     ClashingHopsMeet = 16,
-    /// Routes exist, and every one has over 15 hops.
+    /// Allowed routes exist, and every one has over 15 hops.
     TooFar = 17,
     /// No such second route.
     NoSecondRoute = 18,
+    /// A mains set with a bit from N up.
+    MainsOutOfRange = 25,
     /// Over 64 records.
     TooManyRecords = 26,
 }

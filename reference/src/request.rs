@@ -19,6 +19,7 @@ pub struct Request {
     pub period: u16,
     /// An open asks for a second route.
     pub second: bool,
+    pub mains: u64,
     pub s: u8,
     pub c: u8,
     pub kinds: u16,
@@ -47,6 +48,7 @@ impl Request {
             destination: 0,
             period: 0,
             second: false,
+            mains: 0,
             s: 0,
             c: 0,
             kinds: 0,
@@ -76,6 +78,7 @@ impl Request {
         put(14, &(self.bytes.len() as u16).to_be_bytes());
         put(16, &self.room.to_be_bytes());
         put(18, &[self.fill, u8::from(self.second)]);
+        put(26, &self.mains.to_be_bytes());
         put(38, &(self.hearing.len() as u16).to_be_bytes());
         put(40, &(self.further.len() as u16).to_be_bytes());
         output.write_all(&header)?;
@@ -101,6 +104,7 @@ impl Request {
             destination: header[4],
             period: number(5),
             second: header[19] != 0,
+            mains: u64::from_be_bytes(header[26..34].try_into().expect("eight bytes")),
             s: header[7],
             c: header[8],
             kinds: number(9),
@@ -145,10 +149,15 @@ impl Request {
                 return (number, [data, used, free]);
             }
             Call::Routes => {
-                let (number, length, more) = calls::routes(book, self.node, self.destination, out);
+                let (number, length, more) =
+                    calls::routes(book, self.mains, self.node, self.destination, out);
                 return (number, [length as u32, u32::from(more), 0]);
             }
-            Call::Post => calls::post(book, records, out),
+            Call::Post => calls::post(book, self.mains, records, out),
+            Call::KeepsTo => {
+                let (number, keeps) = calls::keeps_to(book, self.mains);
+                return (number, [u32::from(keeps), 0, 0]);
+            }
             Call::Links => {
                 let (number, links) = calls::links(book, self.node);
                 return (number, [u32::from(links), 0, 0]);

@@ -8,14 +8,15 @@ use crate::topology::Topology;
 
 /// The planner's route from `source` to `destination`, two different nodes:
 /// the shortest, and of several the one whose node list comes first
-/// lexicographically. Refused if no route exists, or if all that exist have
-/// over 15 hops.
+/// lexicographically. Only nodes on mains may stand in its middle. Refused if
+/// no such route exists, or if all that exist have over 15 hops.
 pub fn planners_route(
     topology: &Topology,
+    mains: NodeSet,
     source: u8,
     destination: u8,
 ) -> Result<Vec<u8>, Refusal> {
-    let hops_left = distances(topology, destination);
+    let hops_left = distances(topology, mains, destination);
     let hops = hops_left[usize::from(source)].ok_or(Refusal::NoRoute)?;
     refuse_if(hops > MAX_ROUTE_HOPS, Refusal::TooFar)?;
     // A shortest route is exactly one that comes one hop nearer at each step.
@@ -25,6 +26,7 @@ pub fn planners_route(
     for left in (0..hops).rev() {
         node = topology
             .neighbours(node)
+            .filter(|&next| next == destination || mains.contains(next))
             .find(|&next| hops_left[usize::from(next)] == Some(left))
             .expect("a node at distance d has a neighbour at distance d - 1");
         route.push(node);
@@ -32,8 +34,9 @@ pub fn planners_route(
     Ok(route)
 }
 
-/// For each node the fewest hops to `destination`, none where there is no way.
-fn distances(topology: &Topology, destination: u8) -> Vec<Option<usize>> {
+/// For each node the fewest hops to `destination` by nodes on mains, none where
+/// there is no way.
+fn distances(topology: &Topology, mains: NodeSet, destination: u8) -> Vec<Option<usize>> {
     let mut found = vec![None; usize::from(topology.nodes())];
     found[usize::from(destination)] = Some(0);
     let mut ring = vec![destination];
@@ -45,7 +48,8 @@ fn distances(topology: &Topology, destination: u8) -> Vec<Option<usize>> {
             for neighbour in topology.neighbours(node) {
                 if found[usize::from(neighbour)].is_none() {
                     found[usize::from(neighbour)] = Some(hops);
-                    next_ring.push(neighbour);
+                    // A node that is not on mains leads nobody on.
+                    next_ring.extend(Some(neighbour).filter(|&node| mains.contains(node)));
                 }
             }
         }
@@ -59,26 +63,38 @@ fn middle(route: &[u8]) -> &[u8] {
     &route[1..route.len() - 1]
 }
 
+/// Every node in the middle of the route is on mains.
+pub fn keeps_to(route: &[u8], mains: NodeSet) -> bool {
+    middle(route).iter().all(|&node| mains.contains(node))
+}
+
 /// Some node is in the middle of both routes.
 pub fn have_common_middle(one: &[u8], two: &[u8]) -> bool {
     middle(one).iter().any(|node| middle(two).contains(node))
 }
 
 /// The second route beside this first one: another node list, no middle node
-/// in common, at most 6 hops, the shortest and then the lowest node list.
-pub fn second_route(topology: &Topology, first: &[u8]) -> Option<Vec<u8>> {
+/// in common, only nodes on mains in the middle, at most 6 hops, the shortest
+/// and then the lowest node list.
+pub fn second_route(topology: &Topology, mains: NodeSet, first: &[u8]) -> Option<Vec<u8>> {
     let (source, destination) = (first[0], first[first.len() - 1]);
-    let search = Search { topology, destination, middles: NodeSet::ALL.without(middle(first)) };
+    let search = Search { topology, destination, middles: mains.without(middle(first)) };
     // As no fewer hops gave another route, those it gives now are the shortest.
     // Only one route is not another, so two of them are enough.
     (1..=MAX_SHORT_HOPS)
         .find_map(|hops| search.routes(source, hops, 2).into_iter().find(|route| route != first))
 }
 
-/// The first `most` routes of at most 6 hops between two different nodes, in
-/// order of node lists.
-pub fn short_routes(topology: &Topology, source: u8, destination: u8, most: usize) -> Vec<Vec<u8>> {
-    Search { topology, destination, middles: NodeSet::ALL }.routes(source, MAX_SHORT_HOPS, most)
+/// The first `most` routes of at most 6 hops between two different nodes, with
+/// only nodes on mains in the middle, in order of node lists.
+pub fn short_routes(
+    topology: &Topology,
+    mains: NodeSet,
+    source: u8,
+    destination: u8,
+    most: usize,
+) -> Vec<Vec<u8>> {
+    Search { topology, destination, middles: mains }.routes(source, MAX_SHORT_HOPS, most)
 }
 
 /// A search for routes to one node.

@@ -9,10 +9,11 @@ use reference::calls;
 use reference::change::Open;
 use reference::hop::{Hop, clash, hops_of};
 use reference::image;
+use reference::node_set::NodeSet;
 use reference::placing::{first_placing, serving_offsets};
 use reference::plan::{PERIODS, PLAN_TILES, Plan};
 use reference::refusal::Refusal;
-use reference::route::{have_common_middle, planners_route, second_route, short_routes};
+use reference::route::{have_common_middle, keeps_to, planners_route, second_route, short_routes};
 use reference::table::{Operation, balance, table};
 use reference::topology::Topology;
 use reference::version::Version;
@@ -102,7 +103,7 @@ fn the_route_is_the_first_of_the_shortest() {
         let mut found = Vec::new();
         all_routes(&book.topology, &mut vec![0], 5, &mut found);
         let first = found.into_iter().min_by_key(|route| (route.len(), route.clone()));
-        assert_eq!(planners_route(&book.topology, 0, 5), first.ok_or(Refusal::NoRoute));
+        assert_eq!(planners_route(&book.topology, all(6), 0, 5), first.ok_or(Refusal::NoRoute));
     }
 }
 
@@ -122,7 +123,7 @@ fn a_route_is_too_far_exactly_if_all_have_over_15_hops() {
         let mut found = Vec::new();
         all_routes(&topology, &mut vec![0], 18, &mut found);
         let short = found.iter().any(|route| route.len() - 1 <= MAX_ROUTE_HOPS);
-        let answer = planners_route(&topology, 0, 18);
+        let answer = planners_route(&topology, all(19), 0, 18);
         assert_eq!(answer == Err(Refusal::NoRoute), found.is_empty());
         assert_eq!(answer == Err(Refusal::TooFar), !found.is_empty() && !short);
         too_far += usize::from(answer == Err(Refusal::TooFar));
@@ -130,11 +131,12 @@ fn a_route_is_too_far_exactly_if_all_have_over_15_hops() {
     assert!((10..50).contains(&too_far));
 }
 
-/// The routes of at most 6 hops from node 0 to node 5, in order of node lists.
-fn short_by_search(topology: &Topology) -> Vec<Vec<u8>> {
+/// The routes of at most 6 hops from node 0 to node 5 with only nodes of the
+/// set in the middle, in order of node lists.
+fn short_by_search(topology: &Topology, mains: NodeSet) -> Vec<Vec<u8>> {
     let mut found = Vec::new();
     all_routes(topology, &mut vec![0], 5, &mut found);
-    found.retain(|route| route.len() - 1 <= MAX_SHORT_HOPS);
+    found.retain(|route| route.len() - 1 <= MAX_SHORT_HOPS && keeps_to(route, mains));
     found.sort();
     found
 }
@@ -146,14 +148,32 @@ fn ten_nodes(dice: &mut Dice) -> Topology {
     hearing_links(10, &links)
 }
 
+/// Some of ten nodes, or all.
+fn any_set(dice: &mut Dice) -> NodeSet {
+    if dice.below(2) == 0 { all(10) } else { NodeSet(dice.below(1 << 10)) }
+}
+
+#[test]
+fn a_route_under_a_set_is_the_first_of_the_shortest_that_keep_to_it() {
+    let mut dice = Dice(9);
+    for _ in 0..60 {
+        let (topology, mains) = (ten_nodes(&mut dice), any_set(&mut dice));
+        let mut found = Vec::new();
+        all_routes(&topology, &mut vec![0], 5, &mut found);
+        found.retain(|route| keeps_to(route, mains));
+        let first = found.into_iter().min_by_key(|route| (route.len(), route.clone()));
+        assert_eq!(planners_route(&topology, mains, 0, 5), first.ok_or(Refusal::NoRoute));
+    }
+}
+
 #[test]
 fn the_list_has_the_first_of_all_short_routes() {
     let mut dice = Dice(7);
     for _ in 0..60 {
-        let topology = ten_nodes(&mut dice);
-        let mut found = short_by_search(&topology);
+        let (topology, mains) = (ten_nodes(&mut dice), any_set(&mut dice));
+        let mut found = short_by_search(&topology, mains);
         found.truncate(33);
-        assert_eq!(short_routes(&topology, 0, 5, 33), found);
+        assert_eq!(short_routes(&topology, mains, 0, 5, 33), found);
     }
 }
 
@@ -162,9 +182,9 @@ fn the_second_route_is_the_first_of_the_shortest_beside_the_first() {
     let mut dice = Dice(8);
     let (mut found, mut missed) = (0, 0);
     while found < 60 || missed < 20 {
-        let topology = ten_nodes(&mut dice);
-        let Ok(first) = planners_route(&topology, 0, 5) else { continue };
-        let mut others = short_by_search(&topology);
+        let (topology, mains) = (ten_nodes(&mut dice), any_set(&mut dice));
+        let Ok(first) = planners_route(&topology, mains, 0, 5) else { continue };
+        let mut others = short_by_search(&topology, mains);
         others.retain(|route| *route != first && !have_common_middle(route, &first));
         let second = others.into_iter().min_by_key(|route| (route.len(), route.clone()));
         if second.is_some() {
@@ -172,7 +192,7 @@ fn the_second_route_is_the_first_of_the_shortest_beside_the_first() {
         } else {
             missed += 1
         }
-        assert_eq!(second_route(&topology, &first), second);
+        assert_eq!(second_route(&topology, mains, &first), second);
     }
 }
 
@@ -198,7 +218,7 @@ fn the_placing_is_the_first_of_all() {
     let (mut placed, mut unplaced) = (0, 0);
     while placed < 150 || unplaced < 30 {
         let book = small_book(&mut dice);
-        let Ok(route) = planners_route(&book.topology, 0, 5) else { continue };
+        let Ok(route) = planners_route(&book.topology, all(6), 0, 5) else { continue };
         let period = PERIODS[dice.below(4) as usize];
         let serving =
             hops_of(&route).map(|hop| serving_offsets(&book, hop, period).collect()).collect();
@@ -332,9 +352,9 @@ fn hops_asked(topology: &Topology, open: Open) -> Vec<Hop> {
     if open.source == open.destination {
         return Vec::new();
     }
-    let Ok(first) = planners_route(topology, open.source, open.destination) else {
+    let Ok(first) = planners_route(topology, all(6), open.source, open.destination) else {
         return Vec::new();
     };
-    let second = if open.second { second_route(topology, &first) } else { None };
+    let second = if open.second { second_route(topology, all(6), &first) } else { None };
     hops_of(&first).chain(hops_of(&second.unwrap_or_default())).collect()
 }

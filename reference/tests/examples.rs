@@ -67,7 +67,7 @@ fn p6_meet_first_in_slot_27() {
 fn p7_lowest_node_list() {
     let links = topology(4, &[(0, 1), (0, 2), (1, 3), (2, 3)]);
     let topology = Topology::read(4, &links, &links).unwrap();
-    assert_eq!(planners_route(&topology, 0, 3), Ok(vec![0, 1, 3]));
+    assert_eq!(planners_route(&topology, all(4), 0, 3), Ok(vec![0, 1, 3]));
 }
 
 #[test]

@@ -31,12 +31,14 @@ fn a_request_has_every_field_in_its_place() {
         room: 0x1011,
         fill: 0x12,
         second: true,
+        mains: 0x2021222324252627,
         ..Request::blank(Call::Open)
     };
     let fields = [3, 1, 2, 3, 4, 5, 6, 7, 8, 9, 10, 11, 12, 13, 0, 3, 0x10, 0x11, 0x12, 1];
     let lengths = [0, 1, 0, 2, 0, 0];
     let bytes = [0xEE, 0xEE, 0xEE, 0xCC, 0xDD, 0xDD];
-    let expected = [&fields[..], &[0; 18], &lengths, &bytes].concat();
+    let mains = [0x20, 0x21, 0x22, 0x23, 0x24, 0x25, 0x26, 0x27];
+    let expected = [&fields[..], &[0; 6], &mains, &[0; 4], &lengths, &bytes].concat();
     assert_eq!(bytes_of(&request), expected);
     assert_eq!(Request::read(&mut &expected[..]).unwrap(), Some(request));
 }
@@ -87,10 +89,11 @@ fn check_balance_and_links_are_answered_without_a_buffer() {
 }
 
 #[test]
-fn calls_9_to_12_are_reserved() {
-    for number in [9, 10, 11, 12, 14, 254] {
+fn calls_10_to_12_are_reserved() {
+    for number in [10, 11, 12, 14, 254] {
         assert!(Call::of_number(number).is_err());
     }
+    assert_eq!(Call::of_number(9).unwrap(), Call::KeepsTo);
     assert_eq!(Call::of_number(13).unwrap(), Call::Links);
 }
 
@@ -111,6 +114,7 @@ fn a_list_of_routes_is_answered_with_its_mark() {
     let book = new_book(PLAN_A, &topology(35, &links));
     let list = |room| Request {
         destination: 1,
+        mains: all_of(&book),
         bytes: book.clone(),
         room,
         ..Request::blank(Call::Routes)
@@ -128,7 +132,8 @@ fn a_posting_is_answered_with_its_records() {
     ];
     let room = Version::NEWEST.longest_image() as u16;
     let further = records.concat();
-    let post = Request { bytes: line_a(4), further, room, ..Request::blank(Call::Post) };
+    let bytes = line_a(4);
+    let post = Request { mains: 0b1111, bytes, further, room, ..Request::blank(Call::Post) };
     let bytes = served(std::slice::from_ref(&post));
     let answer = Answer::read(&mut &bytes[..], &post).unwrap();
     assert_eq!((answer.number, answer.written()), (0, &p2()[..]));

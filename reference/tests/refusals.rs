@@ -104,7 +104,7 @@ fn every_call_gives_the_image_numbers_first() {
         assert_eq!(calls::balance(&book, 255), (number, 0, 0, 0));
         assert_eq!(calls::links(&book, 255), (number, 0));
         let list = |out: &mut [u8]| {
-            let (number, length, more) = calls::routes(&book, 255, 255, out);
+            let (number, length, more) = calls::routes(&book, all_of(&book), 255, 255, out);
             assert!(!more);
             (number, length)
         };

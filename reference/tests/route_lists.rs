@@ -12,7 +12,7 @@ const OPEN_PLAN: (u8, u8, u16, u8, u8) = (4, 1, 0, 0, 0);
 fn listed(book: &[u8], source: u8, destination: u8) -> (Vec<u8>, bool) {
     let mut marked = false;
     let list = written(|out| {
-        let (number, length, more) = calls::routes(book, source, destination, out);
+        let (number, length, more) = calls::routes(book, all_of(book), source, destination, out);
         marked = more;
         (number, length)
     });
@@ -21,7 +21,7 @@ fn listed(book: &[u8], source: u8, destination: u8) -> (Vec<u8>, bool) {
 
 fn list_refused(room: usize, book: &[u8], source: u8, destination: u8) -> u8 {
     refused(room, |out| {
-        let (number, length, more) = calls::routes(book, source, destination, out);
+        let (number, length, more) = calls::routes(book, all_of(book), source, destination, out);
         assert!(!more);
         (number, length)
     })
@@ -47,7 +47,7 @@ fn no_routes_is_0() {
     assert_eq!(listed(&fan(0), 0, 1), (Vec::new(), false));
     assert_eq!(listed(&new_book(OPEN_PLAN, &line(8)), 0, 7), (Vec::new(), false));
     // An empty list has room in an empty buffer.
-    assert_eq!(calls::routes(&fan(0), 0, 1, &mut []), (0, 0, false));
+    assert_eq!(calls::routes(&fan(0), 0b11, 0, 1, &mut []), (0, 0, false));
 }
 
 #[test]
@@ -84,5 +84,5 @@ fn the_list_gives_4_5_12() {
     assert_eq!(list_refused(0, &book, 0, 0), 5);
     // 12 goes by the 32 routes listed.
     assert_eq!(list_refused(127, &book, 0, 1), 12);
-    assert_eq!(calls::routes(&book, 0, 1, &mut [0; 128]), (0, 128, true));
+    assert_eq!(calls::routes(&book, all_of(&book), 0, 1, &mut [0; 128]), (0, 128, true));
 }

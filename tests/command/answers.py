@@ -5,13 +5,13 @@ from tool import ROOT, check, refusal, work_out
 
 USAGE = {
     "new": "BOOK PLAN",
-    "check": "BOOK [--json]",
+    "check": "BOOK [--mains NODES] [--json]",
     "show": "BOOK [TILE] [--stream ID] [--node NODE] [--no-lists] [--json]",
-    "open": "BOOK ID SOURCE DESTINATION PERIOD [second]",
+    "open": "BOOK ID SOURCE DESTINATION PERIOD [second] [--mains NODES]",
     "close": "BOOK ID",
-    "post": "BOOK FILE [--dry-run] [--json]",
-    "quote": "BOOK SOURCE DESTINATION [--json]",
-    "routes": "BOOK SOURCE DESTINATION [--json]",
+    "post": "BOOK FILE [--dry-run] [--mains NODES] [--json]",
+    "quote": "BOOK SOURCE DESTINATION [--mains NODES] [--json]",
+    "routes": "BOOK SOURCE DESTINATION [--mains NODES] [--json]",
     "table": "BOOK [NODE] [--json]",
     "balance": "BOOK [NODE] [--json]",
     "diff": "BOOK BOOK [--json]",

@@ -54,7 +54,7 @@ def json_fields(room):
     document = text("docs/json.md").split("| Field |")[1]
     room.put("a.list", b"open 9 6 4 50\nclose 9\nclose 9\n")
     used = set()
-    for words in [["check"], ["show"], ["table"], ["balance"], ["quote", "3", "0"], ["quote", "3", "9"], ["routes", "3", "0"], ["diff", "pond.book"], ["balance", "99"], ["post", "a.list"]]:
+    for words in [["check"], ["show"], ["table"], ["balance"], ["quote", "3", "0"], ["quote", "3", "9"], ["routes", "3", "0"], ["diff", "pond.book"], ["balance", "99"], ["post", "a.list"], ["check", "--mains", "0"]]:
         out = room.run(words[0], "kiln.book", *words[1:], "--json").out
         check(out.count("\n") == 1 and out.endswith("\n"), "%s --json is not one line" % words)
         used |= fields(json.loads(out))
@@ -76,7 +76,7 @@ def documents(room, usages, refusals):
     room.put("my.book", room.get("pond.book"))
     os.symlink(".", room.at("books"))
     dialogues = re.findall(r"```\n(\$ ./lindurask .*?)```", readme, re.S)
-    check(len(dialogues) == 6, "README.md has %d dialogues" % len(dialogues))
+    check(len(dialogues) == 7, "README.md has %d dialogues" % len(dialogues))
     for part in "".join(dialogues).split("$ ./lindurask ")[1:]:
         words, said = part.split("\n", 1)
         got = room.run(*words.split()).all
@@ -125,7 +125,7 @@ def test(room):
     names = [words.split()[1] for words in everything.split("\n") if words.startswith("  lindurask ")]
     usages = {name: room.run(name, "--help").out.split("\n")[0].replace("lindurask ", "", 1) for name in names}
     refusals = re.findall(r"^ +(\d+)  (.*)$", everything, re.M)
-    check(len(usages) == 15 and len(refusals) == 19, "help lists %d commands and %d refusals" % (len(usages), len(refusals)))
+    check(len(usages) == 15 and len(refusals) == 20, "help lists %d commands and %d refusals" % (len(usages), len(refusals)))
     check(all(len(line) <= 80 for line in everything.split("\n")), "help is wider than 80 columns")
     man_page(room, usages, refusals)
     completion(usages)

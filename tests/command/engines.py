@@ -21,6 +21,7 @@ while True:
     records = read(int.from_bytes(head[40:42], "big"))
     room = int.from_bytes(head[16:18], "big")
     number, counts, out = 0, [0, 0, 0], bytes([head[18]]) * room
+    sent = records
     def marked(answer): return b"".join(records[at:at + 10] + bytes([answer]) for at in range(0, len(records), 11))
     if mode == "number": number = 99
     if mode == "length": counts[0] = room + 1
@@ -47,11 +48,15 @@ while True:
         forwards = bytes(3 if place % 3 == 0 and byte == 1 else byte for place, byte in enumerate(table))
         counts[0], out = length, (forwards if data[4] == 1 else table) + out[length:]
     if mode.startswith("list") and head[0] == 7:
-        said = {"listnode": b"\2\3\x0c\0", "listhops": b"\7\3\2\1\4\5\6\7\0", "listnone": b"\0\3", "listcut": b"\3\3\2\1", "listends": b"\3\3\2\1\4"}.get(mode, b"")
+        said = {"listnode": b"\2\3\x0c\0", "listhops": b"\7\3\2\1\4\5\6\7\0", "listnone": b"\0\3", "listcut": b"\3\3\2\1", "listends": b"\3\3\2\1\4", "listfar": b"\3\3\2\1\0"}.get(mode, b"")
         counts, out = [len(said), 2 if mode == "listmark" else 0, 0], said + out[len(said):]
     if mode.startswith("links") and head[0] == 13:
         number, counts = {"linksnodes": (0, [data[11], 0, 0]), "linksmost": (0, [64, 0, 0]), "linkshuge": (0, [256, 0, 0]), "linksmore": (0, [1, 1, 0]),
                           "linksbeside": (4, [1, 0, 0]), "linksrefused": (4, [0, 0, 0])}.get(mode, (0, [data[11] - 1, 0, 0]))
+    if mode.startswith("keeps") and head[0] == 9:
+        number, counts = {"keepsyes": (0, [1, 0, 0]), "keepsno": (0, [0, 0, 0]), "keepsodd": (0, [2, 0, 0]), "keepsmore": (0, [1, 1, 0]), "keepslast": (0, [0, 0, 1]),
+                          "keepsbeside": (25, [1, 0, 0])}.get(mode, (25, [0, 0, 0]))
+    if mode == "stranger" and head[0] in (3, 7, 8): number, counts, out, records = 25, [0, 0, 0], bytes([head[18]]) * room, sent
     if mode == "same" and room: counts[0], out = len(data), data + out[len(data):]
     answer = bytes([number]) + b"".join(n.to_bytes(4, "big") for n in counts) + out + records
     if mode == "half" or mode == "linkshalf" and head[0] == 13:
@@ -118,6 +123,7 @@ def nonsense(room, engines):
     for mode in ["listnode", "listhops", "listnone", "listcut", "listends", "listmark"]:
         hold(room, program(engines, "engine-" + mode, FAKE.encode()), COMMANDS[10], "says what is no answer")
     links(room, engines)
+    mains(room, engines)
     # Tables that are not those of the streams in the book make no page, and are not compared.
     for words in [COMMANDS[9], COMMANDS[11]]:
         hold(room, fake["sleepy"], words, "says what is no answer")
@@ -128,6 +134,33 @@ def nonsense(room, engines):
     got = room.run("diff", "kiln.book", "kiln.book", env={"LINDURASK_ENGINE": os.fsdecode(engines.at("engine-unlike"))})
     check(got.status == 0 and got.all == "the books are the same\n", "diff with the tables of the book: %s" % got.all)
     os.remove(room.at("old.book"))
+
+
+def mains(room, engines):
+    """A yes or no that the streams belie, that is none, or with a further count or a refusal beside it; a set refused without cause; a set
+    that is not kept to."""
+    right, old = engines.get("new.image"), tool.work_out.Book.read(room.get("kiln.book"))
+    wrong = "says what is no answer; nothing is changed"
+    # The relays of the kilns are 1 to 6.
+    for mode, nodes in [("keepsyes", "1-5"), ("keepsyes", "none"), ("keepsno", "1-6"), ("keepsodd", "1-6"), ("keepsodd", "1-5"), ("keepsmore", "1-6"), ("keepslast", "1-5"), ("keepsbeside", "1-6"), ("keepsset", "1-6")]:
+        for more in [[], ["--json"]]:
+            hold(room, program(engines, "engine-" + mode, FAKE.encode()), ["check", "kiln.book", "--mains", nodes, *more], wrong)
+    for mode, nodes in [("keepsyes", "1-6"), ("keepsno", "1-5")]:
+        got = room.run("check", "kiln.book", "--mains", nodes, env={"LINDURASK_ENGINE": os.fsdecode(engines.at("engine-" + mode))})
+        check((got.status, got.all) == (int(mode == "keepsno"), tool.work_out.checked(old.but(mains=set(range(1, int(nodes[-1]) + 1))))), "check with engine %s: %s" % (mode, got.all))
+    for words in COMMANDS[6:7] + COMMANDS[10:11] + COMMANDS[12:] + [COMMANDS[2]]:
+        for more in [[], ["--mains", "1-7"]]:
+            if more or words[0] in ("routes", "post"):
+                hold(room, program(engines, "engine-stranger", FAKE.encode()), [*words, *more], wrong)
+    # Stream 8 from 1 to 3 by 2, opened whatever the set is.
+    engines.put("new.image", old.with_ways(old.opened(8, 1, 3, 5)).image())
+    for words in [["open", "kiln.book", "8", "1", "3", "5"], ["post", "kiln.book", "-"]]:
+        got = room.run(*words, "--mains", "1,3-7", data=b"open 8 1 3 5\n", env={"LINDURASK_ENGINE": os.fsdecode(program(engines, "engine-good", FAKE.encode()))})
+        check((got.status, got.all) == (2, "lindurask: the engine opened another stream\n"), "%s with an engine that knows no set: %s" % (words, got.all))
+    hold(room, program(engines, "engine-listfar", FAKE.encode()), ["routes", "kiln.book", "3", "0", "--mains", "0,1,3"], wrong)
+    got = room.run("routes", "kiln.book", "3", "0", "--mains", "1,2", env={"LINDURASK_ENGINE": os.fsdecode(engines.at("engine-listfar"))})
+    check(got.status == 0 and "\n   3 3 2 1 0\n" in got.out, "routes with the right list: %s" % got.all)
+    engines.put("new.image", right)
 
 
 def links(room, engines):

@@ -4,18 +4,17 @@ use super::{Command, Report};
 use crate::describe;
 use crate::engine::Engine;
 use crate::files::Held;
-use crate::frame;
 use crate::loaded::{accepted, decode, is_of_book, opened};
 use crate::request::{Asked, SECOND};
 use crate::text::plain;
 use crate::trouble::Trouble;
-use crate::words::Words;
+use crate::words::{Words, MAINS};
 
 pub const OPEN: Command = Command {
     name: "open",
     operands: "BOOK ID SOURCE DESTINATION PERIOD [second]",
     takes: [5, 6],
-    choices: &[],
+    choices: &[MAINS],
     summary: "open a stream",
     explains: "\
 Opens a stream from node SOURCE to node DESTINATION that sends every PERIOD
@@ -23,7 +22,8 @@ tiles: 1, 2, 5, 10, 20, 50 or 100. It takes the shortest route and the first
 free slots on it. ID is a number from 1 to 65535 that no stream has yet.
 With the word second it takes a second route too, of at most 6 hops and with no
 relay of the first: whichever relay is lost, one of the two is left. It takes
-both or none.",
+both or none. With --mains only NODES may stand in the middle of its routes, be
+its ends among them or not: numbers with commas, as in 0,3,5 or 0-3,5, or none.",
     example: "lindurask open pond.book 7 4 9 20 second",
     run,
 };
@@ -45,18 +45,20 @@ fn run(words: &Words) -> Result<Report, Trouble> {
         period: words.period(4)?,
         second: second(words)?,
     };
+    let mains = words.mains()?;
     let mut engine = Engine::start()?;
     let held = Held::open(&words.operands[0])?;
-    let answer = engine.ask(frame::open(&held.bytes, asked.wish()))?;
+    let answer = engine.ask(mains.open(&held.bytes, asked.wish()))?;
+    let answer = mains.taken(answer.of_one(), &held.bytes)?;
     let about = match answer.number {
         number if is_of_book(number) => plain(words.path(0)),
         0 => String::new(),
-        number => asked.about(number, decode(&held.bytes)?.nodes()),
+        number => asked.about(number, decode(&held.bytes)?.nodes(), mains),
     };
     let bytes = accepted(answer, about)?.bytes;
     let book = decode(&bytes)?;
     engine.finish()?;
-    let text = describe::stream("opened ", opened(&book, asked.wish())?);
+    let text = describe::stream("opened ", opened(&book, mains, asked.wish())?);
     held.replace(&bytes)?;
     Ok(Report { text, changed: true, ..Report::default() })
 }

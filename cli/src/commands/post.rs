@@ -10,17 +10,18 @@ use crate::frame::{self, Record, Wish};
 use crate::json;
 use crate::list::{self, Line};
 use crate::loaded::{accepted, decode, is_of_book, opened, unreadable};
+use crate::mains::Mains;
 use crate::request::Request;
 use crate::text::{count, plain};
 use crate::trouble::{Refusal, Trouble};
-use crate::words::{Words, DRY_RUN, JSON};
+use crate::words::{Words, DRY_RUN, JSON, MAINS};
 use std::mem;
 
 pub const POST: Command = Command {
     name: "post",
     operands: "BOOK FILE",
     takes: [2, 2],
-    choices: &[DRY_RUN, JSON],
+    choices: &[DRY_RUN, MAINS, JSON],
     summary: "do a list of opens and closes at once",
     explains: "\
 Does a list of at most 64 requests in one change of the book. FILE has a line
@@ -34,7 +35,9 @@ They are done in turn, each on the book as those above it left it; one that is
 refused leaves the book as it was, and the others are done all the same. Prints
 what each line got, or why it was refused, and how many were done. Where a line
 cannot be read, nothing is done. With --dry-run the book is not changed, and
-what is printed is what would be done. The exit status is 0 where all are done,
+what is printed is what would be done. With --mains only NODES may stand in the
+middle of a route that is opened, be its ends among them or not: numbers with
+commas, as in 0,3,5 or 0-3,5, or none. The exit status is 0 where all are done,
 and 1 where one is refused.",
     example: "lindurask post kiln.book month.list",
     run,
@@ -48,9 +51,15 @@ struct Posting<'a> {
     engine: &'a mut Engine,
     /// The book before.
     image: &'a [u8],
+    mains: Mains,
     records: &'a [Record],
     /// The answer to each.
     answers: Vec<u8>,
+}
+
+/// The list as it is put to the engine, with the set of nodes on mains.
+fn posting(image: &[u8], mains: Mains, records: &[Record]) -> frame::Request {
+    frame::post(image, mains.set(image), records)
 }
 
 impl Posting<'_> {
@@ -65,13 +74,14 @@ impl Posting<'_> {
     /// The routes that an open got. Where the book after the list has them no more, the list up to it says which.
     fn opened(&mut self, place: usize, wish: Wish, after: &Book) -> Result<Vec<Way>, Trouble> {
         if !self.closes_later(place, wish.id) {
-            return Ok(opened(after, wish)?.ways.to_vec());
+            return Ok(opened(after, self.mains, wish)?.ways.to_vec());
         }
-        let answer = self.engine.ask(frame::post(self.image, &self.records[..=place]))?;
+        let records = &self.records[..=place];
+        let answer = self.engine.ask(posting(self.image, self.mains, records))?;
         if answer.answers != self.answers[..=place] {
             return Err(unreadable());
         }
-        Ok(opened(&decode(&answer.bytes)?, wish)?.ways.to_vec())
+        Ok(opened(&decode(&answer.bytes)?, self.mains, wish)?.ways.to_vec())
     }
 
     /// What each request got: the book after the list is the one before with this, and with nothing else.
@@ -106,6 +116,7 @@ struct Told<'a> {
     got: Vec<Got>,
     /// The book after it.
     book: Book,
+    mains: Mains,
     /// The book's file is left as it is.
     dry: bool,
 }
@@ -121,7 +132,8 @@ impl Told<'_> {
 
     /// Why a request was refused.
     fn refusal(&self, request: &Request, number: u8) -> Refusal {
-        Refusal { number, about: request.about(number, self.book.nodes()), words: None }
+        let about = request.about(number, self.book.nodes(), self.mains);
+        Refusal { number, about, words: None }
     }
 
     /// What a line got.
@@ -205,23 +217,24 @@ fn run(words: &Words) -> Result<Report, Trouble> {
     let list = list::read(&files::read_text(words.path(1), "list")?);
     let lines = list.map_err(|fault| Trouble::Misused(fault.said_of(words.path(1))))?;
     let records: Vec<_> = lines.iter().map(|line| line.request.record()).collect();
-    let dry = words.has(&DRY_RUN);
+    let (dry, mains) = (words.has(&DRY_RUN), words.mains()?);
     let mut engine = Engine::start()?;
     let held = if dry { None } else { Some(Held::open(&words.operands[0])?) };
     let image = match &held {
         Some(held) => held.bytes.clone(),
         None => files::read_book(words.path(0))?,
     };
-    let answer = engine.ask(frame::post(&image, &records))?;
+    let answer = mains.taken(engine.ask(posting(&image, mains, &records))?, &image)?;
     let about = about(answer.number, words, lines.len());
     let answer = accepted(answer, about)?;
     let before = decode(&image)?;
     let book = if answer.bytes.is_empty() { before.clone() } else { decode(&answer.bytes)? };
     let answers = answer.answers;
-    let mut posting = Posting { engine: &mut engine, image: &image, records: &records, answers };
+    let records = &records;
+    let mut posting = Posting { engine: &mut engine, image: &image, mains, records, answers };
     let got = posting.got(&before, &book)?;
     engine.finish()?;
-    let told = Told { lines: &lines, got, book, dry };
+    let told = Told { lines: &lines, got, book, mains, dry };
     let text = if words.has(&JSON) { told.in_json() } else { told.text() };
     if let Some(held) = held.filter(|_| told.changed()) {
         held.replace(&answer.bytes)?;

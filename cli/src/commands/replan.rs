@@ -8,6 +8,7 @@ use crate::engine::Engine;
 use crate::files;
 use crate::frame::{self, Wish};
 use crate::loaded::{decode, opened, Loaded};
+use crate::mains::Mains;
 use crate::text::count;
 use crate::trouble::{meaning, Trouble};
 use crate::words::Words;
@@ -65,7 +66,7 @@ fn reopen(
         }
         bytes = answer.bytes;
         let book = decode(&bytes)?;
-        said += &describe::stream("opened ", opened(&book, wish)?);
+        said += &describe::stream("opened ", opened(&book, Mains::All, wish)?);
     }
     Ok((bytes, said))
 }

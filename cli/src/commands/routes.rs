@@ -4,21 +4,25 @@ use super::{Command, Report};
 use crate::frame;
 use crate::json;
 use crate::loaded::{accepted, unreadable, Loaded};
+use crate::mains::Mains;
+use crate::request::about_ends;
 use crate::text::count;
 use crate::trouble::Trouble;
-use crate::words::{Number, Words, JSON};
+use crate::words::{Number, Words, JSON, MAINS};
 
 pub const ROUTES: Command = Command {
     name: "routes",
     operands: "BOOK SOURCE DESTINATION",
     takes: [3, 3],
-    choices: &[JSON],
+    choices: &[MAINS, JSON],
     summary: "list the short routes between two nodes",
     explains: "\
 Lists every route of at most 6 hops from node SOURCE to node DESTINATION, in
 order of their nodes, and says where there are more than the 32 that it lists.
 A stream takes the shortest route there is, of at most 15 hops; quote says
-which. The book is not changed.",
+which. With --mains it lists the routes with no other than these NODES in the
+middle: numbers with commas, as in 0,3,5 or 0-3,5, or none. The book is not
+changed.",
     example: "lindurask routes yard.book 0 5",
     run,
 };
@@ -29,14 +33,32 @@ const MOST_HOPS: usize = 6;
 /// The line above routes.
 const HEAD: &str = "hops route\n";
 
+/// What a list of routes was asked for.
+struct Wanted {
+    source: u8,
+    destination: u8,
+    /// How many nodes the site has.
+    nodes: u8,
+    mains: Mains,
+}
+
+impl Wanted {
+    /// The nodes can be those of a route that is listed.
+    fn fits(&self, route: &[u8]) -> bool {
+        let [source, middle @ .., destination] = route else { return false };
+        [source, destination] == [&self.source, &self.destination]
+            && route.iter().all(|&node| node < self.nodes)
+            && middle.iter().all(|&node| self.mains.has(node))
+            && middle.len() < MOST_HOPS
+    }
+}
+
 /// Reads a list: for each route a byte with its hops and then its nodes. None where it cannot be one.
-fn decode(mut list: &[u8], source: u8, destination: u8, nodes: u8) -> Option<Vec<Vec<u8>>> {
+fn decode(mut list: &[u8], wanted: &Wanted) -> Option<Vec<Vec<u8>>> {
     let mut routes = Vec::new();
     while let Some((&hops, rest)) = list.split_first() {
         let (route, rest) = rest.split_at_checked(usize::from(hops) + 1)?;
-        let ends = route.first() == Some(&source) && route.last() == Some(&destination);
-        let lower = route.iter().all(|&node| node < nodes);
-        if !ends || !lower || !(1..=MOST_HOPS).contains(&usize::from(hops)) {
+        if !wanted.fits(route) {
             return None;
         }
         routes.push(route.to_vec());
@@ -62,25 +84,26 @@ fn foot(routes: &[Vec<u8>], more: bool) -> String {
 }
 
 /// What of the words a refusal is about.
-fn about(number: u8, source: Number, destination: Number, nodes: u8) -> String {
-    let missing = if u64::from(nodes) <= source.0 { source } else { destination };
+fn about(number: u8, source: Number, destination: Number, wanted: &Wanted) -> String {
+    let missing = if u64::from(wanted.nodes) <= source.0 { source } else { destination };
     match number {
         4 => format!("node {}", missing.0),
         5 => format!("node {}", source.0),
-        _ => format!("from node {} to node {}", source.0, destination.0),
+        _ => about_ends(source.0, destination.0, wanted.mains),
     }
 }
 
 fn run(words: &Words) -> Result<Report, Trouble> {
-    let (source, destination) = (words.node(1)?, words.node(2)?);
+    let (source, destination, mains) = (words.node(1)?, words.node(2)?, words.mains()?);
     let mut loaded = Loaded::read(words.path(0))?;
     let (from, to, nodes) = (source.node(), destination.node(), loaded.book.nodes());
-    let answer = loaded.engine.ask(frame::routes(&loaded.bytes, from, to))?;
-    let answer = match answer.number {
-        0 => answer,
-        number => accepted(answer, about(number, source, destination, nodes))?,
-    };
-    let routes = decode(&answer.bytes, from, to, nodes).ok_or_else(unreadable)?;
+    let set = mains.set(&loaded.bytes);
+    let answer = loaded.engine.ask(frame::routes(&loaded.bytes, set, from, to))?;
+    let answer = mains.taken(answer, &loaded.bytes)?;
+    let wanted = Wanted { source: from, destination: to, nodes, mains };
+    let about = about(answer.number, source, destination, &wanted);
+    let answer = accepted(answer, about)?;
+    let routes = decode(&answer.bytes, &wanted).ok_or_else(unreadable)?;
     let more = answer.counts[1] == 1;
     loaded.engine.finish()?;
     if words.has(&JSON) {
@@ -92,7 +115,7 @@ fn run(words: &Words) -> Result<Report, Trouble> {
         ])
         .into());
     }
-    let head = format!("from node {from} to node {to}\n");
+    let head = about_ends(source.0, destination.0, mains) + "\n";
     let list = if routes.is_empty() { String::new() } else { HEAD.to_string() };
     Ok((head + &list + &routes.iter().map(line).collect::<String>() + &foot(&routes, more)).into())
 }

@@ -1,12 +1,28 @@
 // Sets of numbers below 64 in a 64-bit number: b is a member where bit b is set.
 ghost use mathlib.Core.Path.{_≡_};
 ghost use mathlib.Core.Logic.{_⊎_};
-ghost use Prim.Native.Nat.{ℕ, _<_};
-ghost use Rattle.rules.specs.Words.{Has, Count, Tests};
+ghost use Prim.Native.Nat.{ℕ, _<_, _≤_, min};
+ghost use Rattle.rules.specs.Words.{Has, NoBitFrom, Count, Tests};
+ghost use Rattle.rules.specs.Topology.{allNodes};
 ghost use Rattle.bitset.specs.Sets.{SetOf, Lowest};
 
 // Every number below 64.
 pub const ALL: u64 = 0xffff_ffff_ffff_ffff;
+
+// Every number below n, and below 64.
+pub fn below(n: usize) -> u64
+    ensures { λ r. ⌜ r ≡ allNodes (min n 64) ⌝ }
+{
+    if 64 <= n { ALL } else { (1 << n) - 1 }
+}
+
+// Whether every member is below n.
+pub fn within(set: u64, n: usize) -> bool
+    requires { ⌜ n ≤ 64 ⌝ }
+    ensures { λ r. ⌜ Tests r (NoBitFrom n set) ⌝ }
+{
+    set <= below(n)
+}
 
 // Whether b is a member.
 pub fn has(set: u64, b: usize) -> bool

@@ -9,7 +9,10 @@ use rules::Plan;
 use rules::Slot;
 use rules::Tile;
 
-// The call that gives a node's links.
+// The call that says whether a book keeps to a set,
+const KEEPS: u8 = frames::KEEPS;
+
+// and the one that gives a node's links.
 const LINKS: u8 = frames::LINKS;
 
 fn wide(x: u8) -> u16 {
@@ -74,11 +77,30 @@ fn links(frame: &[u8], book: &[u8]) -> Reply
 fn routes_between(frame: &[u8], book: &[u8], out: &mut [u8]) -> Reply
     requires { ⌜ headLength ≤ length (now frame) ⌝ }
 {
-    let list = planner::routes_between(book, Node(frame[3]), Node(frame[4]), out);
+    let list = planner::routes_between(
+        book,
+        frames::mains(frame),
+        Node(frame[3]),
+        Node(frame[4]),
+        out,
+    );
     Reply {
         number: list.number,
         first: list.length,
         second: list.more as usize,
+        third: 0,
+    }
+}
+
+// Says whether a book keeps to a set.
+fn keeps_to(frame: &[u8], book: &[u8]) -> Reply
+    requires { ⌜ headLength ≤ length (now frame) ⌝ }
+{
+    let kept = planner::keeps_to(book, frames::mains(frame));
+    Reply {
+        number: kept.number,
+        first: kept.keeps as usize,
+        second: 0,
         third: 0,
     }
 }
@@ -96,6 +118,7 @@ pub fn call(frame: &[u8], book: &[u8], out: &mut [u8]) -> Reply
         4 => frames::answered(planner::close_stream(book, image::word_at(frame, 1), out)),
         5 => frames::answered(planner::expand(book, Node(frame[3]), out)),
         7 => routes_between(frame, book, out),
+        KEEPS => keeps_to(frame, book),
         LINKS => links(frame, book),
         _ => balance(frame, book),
     }

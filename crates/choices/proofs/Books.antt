@@ -7,10 +7,9 @@ use Prim.Native.Nat.{ℕ, _+_, _*_, _<_, _≤_}
 use native.Mathlib.Omega.{arith}
 use lib.ListN.{length, take}
 use Rattle.rules.specs.Says.{Refusal, _when_}
-use Rattle.rules.specs.Topology.{Topology, nodes, allNodes}
+use Rattle.rules.specs.Words.{NoBitFrom}
+use Rattle.rules.specs.Topology.{Topology, nodes}
 use Rattle.rules.specs.Image.{linksStart, versionOf, nodesOf, setsAt, linksOf}
-use Rattle.rules.specs.Calls.{ListTooLong}
-use Rattle.rules.proofs.Listing.{listed-any}
 use Rattle.rules.proofs.Written.{length-sets-at}
 use Rattle.rules.proofs.Reading.{LawfulImage}
 use Rattle.image.specs.Header.{HeaderOf}
@@ -38,22 +37,6 @@ module _ {T : Topology} {middle source destination : ℕ} {out : List ℕ} {r : 
       → Lists ((k when A) ∷ rs) T middle source destination out r out′
   lists-next f w = record { says = inr (f, w .says); refused = w .refused; done = w .done }
 
--- whichever set has all nodes, the list says the same
-lists-any : {source destination : ℕ} {out out′ : List ℕ} {r : Choices} (N M : ℕ) (T : Topology) → nodes T ≤ N → nodes T ≤ M
-    → ListSays T (allNodes N) source destination out r out′ → ListSays T (allNodes M) source destination out r out′
-lists-any {source} {destination} {out} {out′} {r} N M T few few′ w = record {
-  says = go (w .says);
-  refused = w .refused;
-  done = λ z. let d = w .done z in (d .0, listed-any N M T few few′ (d .1), d .2);
-}
-  where
-    Long : ℕ → Type 0
-    Long N = ListTooLong T (allNodes N) source destination (length out)
-
-    go : (Long N × (r .number ≡ 12)) ⊎ ((Long N → ⊥) × (r .number ≡ 0)) → (Long M × (r .number ≡ 12)) ⊎ ((Long M → ⊥) × (r .number ≡ 0))
-    go (inl ((routes, more, l, k), n)) = inl ((routes, more, listed-any N M T few few′ l, k), n)
-    go (inr (f, n)) = inr (λ l. f (l .0, l .1, listed-any M N T few′ few (l .2), l .3), n)
-
 -- THE BOOK OF A LAWFUL IMAGE
 module _ {s : List ℕ} (h : LawfulImage s) {book : head.Book} (read : HeaderOf s book) where
   known : nodes (linksOf s) ≡ book .nodes
@@ -68,37 +51,47 @@ module _ {s : List ℕ} (h : LawfulImage s) {book : head.Book} (read : HeaderOf 
   pub links-inside : linksStart (versionOf s) + 8 * book .nodes ≤ length s
   links-inside = omega (arith, read .nodes, stored-length h)
 
-  module _ (source destination : ℕ) where
-    pub unknown-end : {out : List ℕ} {r : Choices} → (book .nodes ≤ source) ⊎ (book .nodes ≤ destination) → r .number ≡ 4 → r .length ≡ 0 → r .more ≡ false
-        → BookSays s source destination out r out
-    unknown-end w n l m =
-        lists-refused (⊎-elim (λ (k : book .nodes ≤ source). inl (omega (arith, known))) (λ (k : book .nodes ≤ destination). inr (omega (arith, known))) w)
-        (λ z. omega arith) n l m
+  module _ (mains source destination : ℕ) where
+    -- what is within the nodes that were read has no bit from N up
+    below : NoBitFrom (book .nodes) mains → NoBitFrom (nodes (linksOf s)) mains
+    below l = subst (λ (N : ℕ). NoBitFrom N mains) (sym known) l
 
-    module _ (from : source < book .nodes) (to : destination < book .nodes) where
-      both-known : (nodes (linksOf s) ≤ source) ⊎ (nodes (linksOf s) ≤ destination) → ⊥
-      both-known w = ⊎-elim (λ (k : nodes (linksOf s) ≤ source). omega (arith, known)) (λ (k : nodes (linksOf s) ≤ destination). omega (arith, known)) w
+    pub beyond : {out : List ℕ} {r : Choices} → (NoBitFrom (book .nodes) mains → ⊥) → r .number ≡ 25 → r .length ≡ 0 → r .more ≡ false
+        → BookSays s mains source destination out r out
+    beyond f n l m = lists-refused (λ g. f (subst (λ (N : ℕ). NoBitFrom N mains) known g)) (λ z. omega arith) n l m
 
-      pub one-node : {out : List ℕ} {r : Choices} → source ≡ destination → r .number ≡ 5 → r .length ≡ 0 → r .more ≡ false → BookSays s source destination out r out
-      one-node e n l m = lists-next both-known (lists-refused e (λ z. omega arith) n l m)
+    module _ (low : NoBitFrom (book .nodes) mains) where
+      pub unknown-end : {out : List ℕ} {r : Choices} → (book .nodes ≤ source) ⊎ (book .nodes ≤ destination) → r .number ≡ 4 → r .length ≡ 0 → r .more ≡ false
+          → BookSays s mains source destination out r out
+      unknown-end w n l m =
+          lists-next (λ f. f (below low))
+          (lists-refused (⊎-elim (λ (k : book .nodes ≤ source). inl (omega (arith, known))) (λ (k : book .nodes ≤ destination). inr (omega (arith, known))) w)
+          (λ z. omega arith) n l m)
 
-      module _ (apart : source ≡ destination → ⊥) {rows : List ℕ} (l : Sets s (linksStart (versionOf s)) (book .nodes) rows) where
-        same : topology (take (book .nodes) rows) ≡ linksOf s
-        same = ap topology (l .rows ∙ ap (setsAt s (linksStart (versionOf s))) (read .nodes))
+      module _ (from : source < book .nodes) (to : destination < book .nodes) where
+        both-known : (nodes (linksOf s) ≤ source) ⊎ (nodes (linksOf s) ≤ destination) → ⊥
+        both-known w = ⊎-elim (λ (k : nodes (linksOf s) ≤ source). omega (arith, known)) (λ (k : nodes (linksOf s) ≤ destination). omega (arith, known)) w
 
-        pub asked : Asked (topology (take (book .nodes) rows)) source destination
-        asked =
-            subst (λ (T : Topology). Asked T source destination) (sym same)
-            record {
-              range = h .lawful .site .nodes;
-              sound = h .lawful .site .topologies .links-sound;
-              source-known = omega (arith, known);
-              destination-known = omega (arith, known);
-              apart = apart;
-            }
+        pub one-node : {out : List ℕ} {r : Choices} → source ≡ destination → r .number ≡ 5 → r .length ≡ 0 → r .more ≡ false → BookSays s mains source destination out r out
+        one-node e n l m = lists-next (λ f. f (below low)) (lists-next both-known (lists-refused e (λ z. omega arith) n l m))
 
-        pub listed : {out out′ : List ℕ} {r : Choices} → ListSays (topology (take (book .nodes) rows)) (allNodes 64) source destination out r out′
-            → BookSays s source destination out r out′
-        listed {out} {out′} {r} w =
-            lists-next both-known (lists-next apart
-            (lists-any 64 (nodes (linksOf s)) (linksOf s) few (omega arith) (subst (λ (T : Topology). ListSays T (allNodes 64) source destination out r out′) same w)))
+        module _ (apart : source ≡ destination → ⊥) {rows : List ℕ} (l : Sets s (linksStart (versionOf s)) (book .nodes) rows) where
+          same : topology (take (book .nodes) rows) ≡ linksOf s
+          same = ap topology (l .rows ∙ ap (setsAt s (linksStart (versionOf s))) (read .nodes))
+
+          pub asked : Asked (topology (take (book .nodes) rows)) source destination
+          asked =
+              subst (λ (T : Topology). Asked T source destination) (sym same)
+              record {
+                range = h .lawful .site .nodes;
+                sound = h .lawful .site .topologies .links-sound;
+                source-known = omega (arith, known);
+                destination-known = omega (arith, known);
+                apart = apart;
+              }
+
+          pub listed : {out out′ : List ℕ} {r : Choices} → ListSays (topology (take (book .nodes) rows)) mains source destination out r out′
+              → BookSays s mains source destination out r out′
+          listed {out} {out′} {r} w =
+              lists-next (λ f. f (below low)) (lists-next both-known (lists-next apart
+              (subst (λ (T : Topology). ListSays T mains source destination out r out′) same w)))

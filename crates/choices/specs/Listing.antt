@@ -7,7 +7,7 @@ use lib.ListN.{length}
 use Rattle.rules.specs.Says.{Refusal, _when_, Says}
 use Rattle.rules.specs.Topology.{Topology}
 use Rattle.rules.specs.Image.{versionOf, linksOf}
-use Rattle.rules.specs.Calls.{Unchanged, anyMiddle, ListTooLong, routesRefusals, ListWritten}
+use Rattle.rules.specs.Calls.{Unchanged, ListTooLong, routesRefusals, ListWritten}
 use Rattle.rules.proofs.Reading.{bookIn}
 use Rattle.choices.specs.declared.Choices.{Choices}
 
@@ -21,7 +21,7 @@ pub record Lists (refusals : List Refusal) (T : Topology) (middle source destina
 abbrev pub ListSays : Topology → ℕ → ℕ → ℕ → List ℕ → Choices → List ℕ → Type 0
 ListSays T middle source destination out = Lists ((12 when ListTooLong T middle source destination (length out)) ∷ []) T middle source destination out
 
--- 4, 5, 12, or the list over all nodes of the image's book
-abbrev pub BookSays : List ℕ → ℕ → ℕ → List ℕ → Choices → List ℕ → Type 0
-BookSays s source destination out =
-    Lists (routesRefusals (anyMiddle (bookIn s)) source destination (length out) (versionOf s) (bookIn s)) (linksOf s) (anyMiddle (bookIn s)) source destination out
+-- 25, 4, 5, 12, or the list over the links of the image's book
+abbrev pub BookSays : List ℕ → ℕ → ℕ → ℕ → List ℕ → Choices → List ℕ → Type 0
+BookSays s mains source destination out =
+    Lists (routesRefusals mains source destination (length out) (versionOf s) (bookIn s)) (linksOf s) mains source destination out

@@ -1,17 +1,20 @@
-// The list for two nodes of a book.
+// The list for two nodes of a book, and a set of nodes that may stand in the middle.
 ghost use Rattle.rules.proofs.Reading.{LawfulImage};
 ghost use Rattle.choices.specs.Listing.{BookSays};
 use crate::Choices;
 use image::Book;
 use rules::Node;
 
-// Writes the list over all nodes of the book that the image holds.
-pub fn list_on(image: &[u8], source: Node, destination: Node, out: &mut [u8]) -> Choices
+// Writes the list over the links of the book that the image holds, with only members of the set in the middle.
+pub fn list_on(image: &[u8], mains: u64, source: Node, destination: Node, out: &mut [u8]) -> Choices
     requires { ⌜ LawfulImage (now image) ⌝ }
-    ensures { λ r. ⌜ BookSays (now (image .entry)) (source .0) (destination .0) (now (out .entry)) r (now (out .exit)) ⌝ }
+    ensures { λ r. ⌜ BookSays (now (image .entry)) mains (source .0) (destination .0) (now (out .entry)) r (now (out .exit)) ⌝ }
 {
     let book = Book::read(image);
     let n = book.nodes;
+    if !bitset::within(mains, n) {
+        return crate::refused(25);
+    }
     if n <= source.0 as usize {
         return crate::refused(4);
     }
@@ -22,5 +25,5 @@ pub fn list_on(image: &[u8], source: Node, destination: Node, out: &mut [u8]) ->
         return crate::refused(5);
     }
     let links = topologies::sets(image, image::HEADER, n);
-    crate::list(&links[..n], bitset::ALL, source, destination, out)
+    crate::list(&links[..n], mains, source, destination, out)
 }

@@ -103,9 +103,9 @@ module _ {s : List ℕ} {id at : ℕ} {words : List ℕ} {g : Gone} (h : NewestI
         (arith, ap length parts, length-append (headed s at n k) (drop (g .next) s), length-headed s at n k (omega (arith, place-low)) (t .inside), length-drop (g .next) s)
 
     -- the image without the rows was laid out, and the words are its index
-    pub out-done : {len : ℕ} (d o₁ o₂ tail : List ℕ) (start : ℕ) → start ≡ rowsPlace s → len ≡ at + (length s - g .next) → length d ≡ longestImage newest
+    pub out-done : {len mains : ℕ} (d o₁ o₂ tail : List ℕ) (start : ℕ) → start ≡ rowsPlace s → len ≡ at + (length s - g .next) → length d ≡ longestImage newest
         → o₁ ≡ over (over d 0 (headed s headerLength n k)) start (take (at - start) (drop start s)) → tail ≡ drop (g .next) s → o₂ ≡ over o₁ at tail
-        → Done s (Close id) len o₂ words
+        → Done mains s (Close id) len o₂ words
     out-done {len} d o₁ o₂ tail start z e size p q r =
         let front : List ℕ = take (at - start) (drop start s) in
         let under : List ℕ = over d 0 (headed s headerLength n k) in

@@ -1,5 +1,6 @@
 // Closes a stream on the image of a lawful book in the newest version, and in the index of its rows.
 ghost use mathlib.Core.Path.{_≡_};
+ghost use Prim.Native.Nat.{ℕ};
 ghost use lib.ListN.{length};
 ghost use Rattle.rules.specs.Image.{planOf};
 ghost use Rattle.rules.specs.Calls.Request.{Close};
@@ -81,7 +82,7 @@ fn take_out(
     out: &mut [u8; Book::LONGEST],
 ) -> Answer
     requires { ⌜ ImageBeside (now image) (now index) × Taken (now image) id at ⌝ }
-    ensures { λ r. ⌜ (r .number ≡ 0) × Done (now (image .entry)) (Close id) (r .length) (now (out .exit)) (now (index .exit)) ⌝ }
+    ensures { λ r. ⌜ (r .number ≡ 0) × ((mains : ℕ) → Done mains (now (image .entry)) (Close id) (r .length) (now (out .exit)) (now (index .exit))) ⌝ }
 {
     let book = Book::read(image);
     let gone = rows_of(image, index, id, at, book.plan.slots);
@@ -98,7 +99,7 @@ fn take_out(
     answers::done(at + (image.len() - next))
 }
 
-// Closes the stream of the id.
+// Closes the stream of the id, whichever nodes may stand in the middle of a route.
 pub fn close_on(
     image: &[u8],
     index: &mut [u64; index::WORDS],
@@ -106,7 +107,7 @@ pub fn close_on(
     out: &mut [u8; Book::LONGEST],
 ) -> Answer
     requires { ⌜ ImageBeside (now image) (now index) ⌝ }
-    ensures { λ r. ⌜ Works (now (image .entry)) (Close id) (r .number) (r .length) (now (out .exit)) (now (index .exit)) ⌝ }
+    ensures { λ r. ⌜ ((mains : ℕ) → Works mains (now (image .entry)) (Close id) (r .number) (r .length) (now (out .exit)) (now (index .exit))) ⌝ }
 {
     if id == 0 {
         return answers::refused(1);

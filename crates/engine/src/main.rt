@@ -37,7 +37,13 @@ fn answer_posting(frame: &[u8], answers: &mut [u8], held: usize) -> usize
     let end = at + room;
     let last = end + list.len();
     frames::fill(frame, &mut answers[at..end]);
-    let answer = records::post(frames::book(frame), list, room, &mut answers[at..last]);
+    let answer = records::post(
+        frames::book(frame),
+        frames::mains(frame),
+        list,
+        room,
+        &mut answers[at..last],
+    );
     frames::put_reply(&mut answers[start..at], frames::answered(answer));
     last
 }

@@ -13,6 +13,9 @@ pub const REPLY: usize = 13;
 // The call that posts a list of requests,
 pub const POST: u8 = 8;
 
+// the one that says whether a book keeps to a set,
+pub const KEEPS: u8 = 9;
+
 // and the one that gives a node's links; the numbers between are for later calls.
 pub const LINKS: u8 = 13;
 
@@ -28,7 +31,7 @@ pub const RECORD: usize = 11;
 // and of the longest list, a hundred records.
 const MOST_RECORDS: usize = 1100;
 
-// What a call says back: its number, and a length and two zeros, a list's length and its mark, data, used and free slots, or links and two zeros.
+// What a call says back: its number, and a length and two zeros, a list's length and its mark, data, used and free slots, links and two zeros, or 1 where a book keeps to a set and two zeros.
 pub struct Reply {
     pub number: u8,
     pub first: usize,
@@ -56,7 +59,7 @@ pub fn room(frame: &[u8]) -> usize
 
 // Whether a number is that of a call; any other ends the stream.
 fn is_call(number: u8) -> bool {
-    number <= POST || number == LINKS
+    number <= KEEPS || number == LINKS
 }
 
 // The length of the frame, 0 if it ends the stream.
@@ -133,6 +136,13 @@ pub fn list(frame: &[u8]) -> &[u8]
         return &frame[start..];
     }
     &frame[start..end]
+}
+
+// The set of nodes that may stand in the middle of a route.
+pub fn mains(frame: &[u8]) -> u64
+    requires { ⌜ headLength ≤ length (now frame) ⌝ }
+{
+    image::word64_at(frame, 26)
 }
 
 // Fills the output buffer before the call.

@@ -5,7 +5,7 @@ use Prim.Native.Nat.{ℕ}
 use Rattle.rules.specs.Says.{Says}
 use Rattle.rules.specs.Book.{Book}
 use Rattle.rules.specs.Image.{newest, encode, planOf}
-use Rattle.rules.specs.Calls.{Request, anyMiddle, requestRefusals, Made}
+use Rattle.rules.specs.Calls.{Request, requestRefusals, Made}
 use Rattle.rules.proofs.Reading.{rowsIn, bookIn, NewestImage}
 use Rattle.image.specs.Places.{Laid}
 use Rattle.index.specs.Index.{IndexOf}
@@ -16,14 +16,14 @@ pub record ImageBeside (s words : List ℕ) : Type 0 where
   pub index : IndexOf (planOf s .slots) (rowsIn s) words
 
 -- the image of the book after the request was laid out but for the topologies, and the words are the index of its rows
-pub record Done (s : List ℕ) (q : Request) (len : ℕ) (out words : List ℕ) : Type 0 where
+pub record Done (mains : ℕ) (s : List ℕ) (q : Request) (len : ℕ) (out words : List ℕ) : Type 0 where
   pub after : Book
-  pub made : Made (anyMiddle (bookIn s)) (bookIn s) q after
+  pub made : Made mains (bookIn s) q after
   pub laid : Laid s (encode newest after) len out
   pub index : IndexOf (planOf s .slots) (after .rows) words
 
--- the number that the request's refusals say; where it is refused the words are still the index of the rows
-pub record Works (s : List ℕ) (q : Request) (number len : ℕ) (out words : List ℕ) : Type 0 where
-  pub says : Says (requestRefusals (anyMiddle (bookIn s)) (bookIn s) q) number
+-- the number that the request's refusals say, with the set of nodes that may stand in the middle; where it is refused the words are still the index of the rows
+pub record Works (mains : ℕ) (s : List ℕ) (q : Request) (number len : ℕ) (out words : List ℕ) : Type 0 where
+  pub says : Says (requestRefusals mains (bookIn s) q) number
   pub refused : (number ≡ 0 → ⊥) → IndexOf (planOf s .slots) (rowsIn s) words
-  pub done : number ≡ 0 → Done s q len out words
+  pub done : number ≡ 0 → Done mains s q len out words

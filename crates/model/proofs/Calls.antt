@@ -3,35 +3,35 @@ use mathlib.Core.Path.{_≡_, refl, sym, subst}
 use mathlib.Core.Logic.{inl, inr, _↔_}
 use mathlib.Core.Bool.{Bool, true, false, cond, _&&_}
 use mathlib.Core.List.{List, [], _∷_}
-use Prim.Native.Nat.{ℕ, zero, suc, _*_}
+use Prim.Native.Nat.{ℕ, zero, suc, _*_, _^_}
 use native.Mathlib.Omega.{arith}
 use lib.Dec.{eqb}
 use lib.ListN.{length, getD}
 use Rattle.rules.specs.Words.{_∈_, Tests}
 use Rattle.rules.specs.Says.{Refusal, Says}
 use Rattle.rules.specs.Tiles.{Plan, PlanInRange}
-use Rattle.rules.specs.Topology.{nodes, NodesInRange}
-use Rattle.rules.specs.Book.{Book}
-use Rattle.rules.specs.Image.{newest, longestImage, encode, topologyAt, versionOf, linksOf, imageRefusals, Stored}
+use Rattle.rules.specs.Topology.{nodes, NodesInRange, middles, allNodes}
+use Rattle.rules.specs.Book.{Row, Book}
+use Rattle.rules.specs.Image.{newest, longestImage, encode, topologyAt, versionOf, nodesOf, linksOf, imageRefusals, Stored}
 use Rattle.rules.specs.Table.{tableLength, used, BalanceOf}
 use Rattle.rules.specs.Calls.{Wrote, Unchanged, Reply, SaysOf, CallOf, ReplyOf, TopologiesGiven, newBook, newRefusals, checkRefusals, rewriteRefusals}
-use Rattle.rules.specs.Calls.{Request, anyMiddle, Work, InOrder, mostRequests, postRefusals, Posted, expandRefusals, balanceRefusals}
-use Rattle.rules.specs.Calls.{New, Check, Rewrite, Post, Serve, Expand, Balance, LinksOf, Links}
-use Rattle.rules.proofs.Tests.{never, alike, tests-and, tests-not, tests-eq, tests-le, tests-lt}
+use Rattle.rules.specs.Calls.{Request, Work, InOrder, mostRequests, Beyond, postRefusals, Posted, expandRefusals, balanceRefusals, keepsRefusals, BookKeepsTo}
+use Rattle.rules.specs.Calls.{New, Check, Rewrite, Post, Serve, Expand, Balance, LinksOf, Links, Keeps}
+use Rattle.rules.proofs.Tests.{never, alike, tests-and, tests-not, tests-eq, tests-le, tests-lt, allOf, tests-every}
 use Rattle.rules.proofs.Counts.{counted}
 use Rattle.rules.proofs.Says.{None, says-none, says-unique}
 use Rattle.rules.proofs.Encoding.{stored-says}
 use Rattle.rules.proofs.Written.{Bytes, length-sets-at}
 use Rattle.rules.proofs.Reading.{bookIn, LawfulImage, lawful-stored}
-use Rattle.model.specs.Test.{joined}
-use Rattle.model.specs.Answer.{Tested, firstNumber, whenDone, lastBook}
+use Rattle.model.specs.Test.{has, joined}
+use Rattle.model.specs.Answer.{Tested, firstNumber, whenDone, answersOf, lastBook}
 use Rattle.model.specs.Table.{tableOf, dataCount, freeCount}
 use Rattle.model.specs.Reading.{areSound, imageNumber}
 use Rattle.model.specs.Calls.{Output, put, kept, writes, numberOf, replies, newTests, new, rewriteTests, rewrite, expandTests, expand}
-use Rattle.model.specs.Calls.{postTests, postNumber, answersOn, imageAfter, someDone, postOutput, post, postOne, serve}
-use Rattle.model.specs.Calls.{balanceTests, balanceNumber, balance, linkCount, links}
+use Rattle.model.specs.Calls.{isBeyond, postTests, postNumber, imageAfter, someDone, postOutput, post, postOne, serve}
+use Rattle.model.specs.Calls.{balanceTests, balanceNumber, balance, linkCount, links, keepsTests, bookKeeps, keepsNumber, keeps}
 use Rattle.model.proofs.Firsts.{Agree, first-says}
-use Rattle.model.proofs.Tests.{tests-in, tests-joined}
+use Rattle.model.proofs.Tests.{tests-in, tests-has, tests-joined}
 use Rattle.model.proofs.Answers.{workable, in-order-computed}
 use Rattle.model.proofs.Tables.{table-computed, balance-computed}
 use Rattle.model.proofs.Reading.{stable, tests-plan, tests-nodes, tests-topologies, image-says, stored-in}
@@ -128,6 +128,9 @@ new-lawful plan N links hearing room h = lawful-stored (newBook plan N links hea
     fits : PlanInRange plan × NodesInRange N
     fits = stable (tests-and (tests-plan plan) (tests-nodes N)) (n .0)
 
+tests-beyond : (b : Book) (mains : ℕ) → Tests (isBeyond b mains) (Beyond b mains)
+tests-beyond b mains = tests-not (tests-lt mains (2 ^ nodes (b .site .links)))
+
 -- THE CALLS ON AN IMAGE
 module _ (image : List ℕ) (bytes : Bytes image) where
   pub check-computed : Check image (imageNumber image) 0
@@ -144,35 +147,35 @@ module _ (image : List ℕ) (bytes : Bytes image) where
       encode (λ v b w e. refl) out
 
   module _ (out : List ℕ) where
-    pub post-computed : (qs : List Request) (before : List ℕ)
-        → Post image qs out before (post image qs out before .whole .number) (post image qs out before .whole .len) (post image qs out before .whole .out) (post image qs out before .answers)
-    post-computed qs before =
-        call-of image bytes (postRefusals (length qs) (length out)) (postTests (length qs) (length out))
-        (λ v b w. (refl, tests-lt mostRequests (length qs), λ n26. (refl, tests-lt (length out) (longestImage newest), λ n12. tt)))
-        (refused (postNumber image qs out))
-        (λ e w. done (postNumber image qs out) e (in-order-computed (anyMiddle (bookIn image)) (bookIn image) (workable (w .lawful)) qs))
+    pub post-computed : (mains : ℕ) (qs : List Request) (before : List ℕ) → let r = post image mains qs out before in
+        Post image mains qs out before (r .whole .number) (r .whole .len) (r .whole .out) (r .answers)
+    post-computed mains qs before =
+        call-of image bytes (postRefusals mains (length qs) (length out)) (postTests mains (length qs) (length out))
+        (λ v b w. (refl, tests-beyond b mains, λ n25. (refl, tests-lt mostRequests (length qs), λ n26. (refl, tests-lt (length out) (longestImage newest), λ n12. tt))))
+        (refused (postNumber image mains qs out))
+        (λ e w. done (postNumber image mains qs out) e (in-order-computed mains (bookIn image) (workable (w .lawful)) qs))
       where
         b : Book
         b = bookIn image
 
         last : Book
-        last = lastBook (anyMiddle b) b qs
+        last = lastBook mains b qs
 
         output : ℕ → Output
-        output n = whenDone n (postOutput b qs out) (kept out)
+        output n = whenDone n (postOutput mains b qs out) (kept out)
 
-        refused : (n : ℕ) → (n ≡ 0 → ⊥) → Unchanged out (output n .len) (output n .out) × (whenDone n (answersOn b qs) before ≡ before)
+        refused : (n : ℕ) → (n ≡ 0 → ⊥) → Unchanged out (output n .len) (output n .out) × (whenDone n (answersOf mains b qs) before ≡ before)
         refused zero f = absurd (f refl)
         refused (suc n) f = (record { length-is = refl; buffer = refl }, refl)
 
         posted : (t : Bool) (answers : List ℕ) → Tests t (0 ∈ answers)
-            → Posted answers last out (cond t (put (imageAfter b qs) out) (kept out) .len) (cond t (put (imageAfter b qs) out) (kept out) .out)
+            → Posted answers last out (cond t (put (imageAfter mains b qs) out) (kept out) .len) (cond t (put (imageAfter mains b qs) out) (kept out) .out)
         posted true answers h = record { some = λ m. record { length-is = refl; buffer = refl }; none = λ f. absurd (f (h .yes refl)) }
         posted false answers h = record { some = λ m. never (h .back m); none = λ f. record { length-is = refl; buffer = refl } }
 
-        done : (n : ℕ) → n ≡ 0 → InOrder (Work (anyMiddle b)) b qs (answersOn b qs) last
-            → (c : Book) × InOrder (Work (anyMiddle b)) b qs (whenDone n (answersOn b qs) before) c × Posted (whenDone n (answersOn b qs) before) c out (output n .len) (output n .out)
-        done zero e h = (last, h, posted (someDone (answersOn b qs)) (answersOn b qs) (tests-in 0 (answersOn b qs)))
+        done : (n : ℕ) → n ≡ 0 → InOrder (Work mains) b qs (answersOf mains b qs) last
+            → (c : Book) × InOrder (Work mains) b qs (whenDone n (answersOf mains b qs) before) c × Posted (whenDone n (answersOf mains b qs) before) c out (output n .len) (output n .out)
+        done zero e h = (last, h, posted (someDone (answersOf mains b qs)) (answersOf mains b qs) (tests-in 0 (answersOf mains b qs)))
         done (suc n) e h = absurd (omega arith)
 
     -- a list of one
@@ -180,13 +183,16 @@ module _ (image : List ℕ) (bytes : Bytes image) where
     serve-computed q = record {
       whole = postOne image q out .whole .number;
       answer = getD (postOne image q out .answers) 0 0;
-      posted = subst (Post image (q ∷ []) out (0 ∷ []) (postOne image q out .whole .number) (postOne image q out .whole .len) (postOne image q out .whole .out))
-          (alone (postNumber image (q ∷ []) out)) (post-computed (q ∷ []) (0 ∷ []));
+      posted = subst (Post image (allNodes (nodesOf image)) (q ∷ []) out (0 ∷ []) (postOne image q out .whole .number) (postOne image q out .whole .len) (postOne image q out .whole .out))
+          (alone (postNumber image (allNodes (nodesOf image)) (q ∷ []) out)) (post-computed (allNodes (nodesOf image)) (q ∷ []) (0 ∷ []));
       refused = refused (postOne image q out .whole .number) (getD (postOne image q out .answers) 0 0);
       done = done (postOne image q out .whole .number) (getD (postOne image q out .answers) 0 0);
     }
       where
-        alone : (n : ℕ) → whenDone n (answersOn (bookIn image) (q ∷ [])) (0 ∷ []) ≡ getD (whenDone n (answersOn (bookIn image) (q ∷ [])) (0 ∷ [])) 0 0 ∷ []
+        answers : List ℕ
+        answers = answersOf (allNodes (nodesOf image)) (bookIn image) (q ∷ [])
+
+        alone : (n : ℕ) → whenDone n answers (0 ∷ []) ≡ getD (whenDone n answers (0 ∷ [])) 0 0 ∷ []
         alone zero = refl
         alone (suc n) = refl
 
@@ -229,6 +235,21 @@ module _ (image : List ℕ) (bytes : Bytes image) where
         given : (n : ℕ) → n ≡ 0 → LinksOf (bookIn image) node (linkCount (bookIn image) node) → LinksOf (bookIn image) node (whenDone n (linkCount (bookIn image) node) 0)
         given zero e w = w
         given (suc n) e w = absurd (omega arith)
+
+  pub keeps-computed : (mains : ℕ) → Keeps image mains (keeps image mains .number) (keeps image mains .keeps)
+  keeps-computed mains =
+      call-of image bytes (keepsRefusals mains) (keepsTests mains) (λ v b w. (refl, tests-beyond b mains, λ n25. tt)) (refused (keepsNumber image mains))
+      (λ e w. given (keepsNumber image mains) e (tests-every (λ r. allOf (has mains) (middles (r .route)))
+      (λ (r : Row). tests-every (has mains) (tests-has mains) (middles (r .route))) (bookIn image .rows)))
+    where
+      refused : (n : ℕ) → (n ≡ 0 → ⊥) → whenDone n (bookKeeps mains (bookIn image)) false ≡ false
+      refused zero f = absurd (f refl)
+      refused (suc n) f = refl
+
+      given : (n : ℕ) → n ≡ 0 → Tests (bookKeeps mains (bookIn image)) (BookKeepsTo mains (bookIn image))
+          → Tests (whenDone n (bookKeeps mains (bookIn image)) false) (BookKeepsTo mains (bookIn image))
+      given zero e w = w
+      given (suc n) e w = absurd (omega arith)
 
 -- an image is lawful exactly if none of its refusals applies
 pub lawful-image : (s : List ℕ) → Bytes s → Says (imageRefusals s) 0 ↔ ((v : ℕ) × (b : Book) × Stored s v b)

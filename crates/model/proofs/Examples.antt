@@ -12,7 +12,7 @@ use Rattle.rules.specs.Book.{Row, Book}
 use Rattle.rules.specs.Placing.{Asked, Planned, NewRows}
 use Rattle.rules.specs.Image.{newest, encode, Stored}
 use Rattle.rules.specs.Table.{Entry}
-use Rattle.rules.specs.Calls.{Request, anyMiddle, Work}
+use Rattle.rules.specs.Calls.{Request, Work}
 use Rattle.rules.specs.Calls.Request.{Open, Close}
 use Rattle.rules.proofs.Choice.{best-unique, planned-unique, rows-unique}
 use Rattle.rules.proofs.Tests.{tests-and, tests-or, tests-not, tests-eq, allOf, tests-all, tests-every}
@@ -23,7 +23,7 @@ use Rattle.model.specs.Answer.{passes, routesOf, newRows}
 use Rattle.model.specs.Table.{cellOf}
 use Rattle.model.specs.Reading.{rowFits, isLawfulBook}
 use Rattle.model.specs.Examples.{planA, lineA, heardA, square, pair, empty, asked, askedTwo, opening, openingTwo, numberOn, SaysOn, after, rowsOn, opensWith, isStored}
-use Rattle.model.specs.Examples.{after2, after3, after7, hop, operationsP9, imageP10, imageP11, olderP10, olderP11, oldP10, oldP11, examples, Leaves, OpensWith, ExamplesHold}
+use Rattle.model.specs.Examples.{anyMiddle, after2, after3, after7, hop, operationsP9, imageP10, imageP11, olderP10, olderP11, oldP10, oldP11, examples, Leaves, OpensWith, ExamplesHold}
 use Rattle.model.proofs.Tests.{tests-same-by, tests-same, tests-same-row, tests-on-data, tests-meets, tests-clashes}
 use Rattle.model.proofs.Routes.{route-found, route-only}
 use Rattle.model.proofs.Firsts.{tests-passes}

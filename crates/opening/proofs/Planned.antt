@@ -4,14 +4,12 @@ use mathlib.Core.List.{List, []}
 use Prim.Native.Nat.{ℕ, _+_, _*_, _≤_}
 use native.Mathlib.Omega.{arith}
 use lib.ListN.{length, take}
-use Rattle.rules.specs.Topology.{Topology, nodes, allNodes, Route, SecondPath, SecondRoute}
+use Rattle.rules.specs.Topology.{Topology, nodes, Route}
 use Rattle.rules.specs.Topology as topologies
 use Rattle.rules.specs.Image.{linksStart, versionOf, nodesOf, setsAt, linksOf}
-use Rattle.rules.specs.Calls.{anyMiddle}
 use Rattle.rules.specs.Placing as placing
-use Rattle.rules.proofs.Middles.{route-any, no-route-any, too-far-any, second-path-any, second-any}
 use Rattle.rules.proofs.Written.{length-sets-at}
-use Rattle.rules.proofs.Reading.{bookIn, LawfulImage}
+use Rattle.rules.proofs.Reading.{LawfulImage}
 use Rattle.image.specs.Header.{HeaderOf}
 use Rattle.image.specs.Places.{Sets}
 use Rattle.image.specs.declared.Book as head
@@ -38,18 +36,6 @@ module _ {s : List ℕ} (h : LawfulImage s) where
 
   pub nodes-few : nodes (linksOf s) ≤ 64
   nodes-few = h .lawful .site .nodes .1
-
--- over all 64 nodes, and over those of the book
-module _ {s : List ℕ} (h : LawfulImage s) {source destination : ℕ} where
-  pub any-route : (p : List ℕ) → Route (linksOf s) (allNodes 64) source destination p → Route (linksOf s) (anyMiddle (bookIn s)) source destination p
-  any-route p r = route-any 64 (nodes (linksOf s)) (linksOf s) (nodes-few h) (omega arith) p r
-
-  pub any-second : (first p : List ℕ) → SecondRoute (linksOf s) (allNodes 64) source destination first p
-      → SecondRoute (linksOf s) (anyMiddle (bookIn s)) source destination first p
-  any-second first p r = second-any 64 (nodes (linksOf s)) (linksOf s) (nodes-few h) (omega arith) first p r
-
-  pub any-path : (first p : List ℕ) → SecondPath (linksOf s) (anyMiddle (bookIn s)) source destination first p → SecondPath (linksOf s) (allNodes 64) source destination first p
-  any-path first p r = second-path-any (nodes (linksOf s)) 64 (linksOf s) (omega arith) (nodes-few h) first p r
 
 module _ {s words : List ℕ} {book : head.Book} {q : placing.Asked} {place : ℕ} (w : AskedBeside s words book q place) where
   lawful : LawfulImage s
@@ -80,23 +66,21 @@ module _ {s words : List ℕ} {book : head.Book} {q : placing.Asked} {place : �
     pub asked : Asked (topology (take (book .nodes) rows)) (q .source) (q .destination)
     asked = subst (λ (T : Topology). Asked T (q .source) (q .destination)) (sym same-topology) asked-book
 
-    module _ (r : Planned) (p : PlannerSays (topology (take (book .nodes) rows)) (allNodes 64) (q .source) (q .destination) r) where
-      pub planned-route : r .reach ≡ Found → Route (linksOf s) (allNodes 64) (q .source) (q .destination) (take (r .hops + 1) (r .nodes))
+    module _ {mains : ℕ} (r : Planned) (p : PlannerSays (topology (take (book .nodes) rows)) mains (q .source) (q .destination) r) where
+      pub planned-route : r .reach ≡ Found → Route (linksOf s) mains (q .source) (q .destination) (take (r .hops + 1) (r .nodes))
       planned-route e =
-          subst (λ (T : Topology). Route T (allNodes 64) (q .source) (q .destination) (take (r .hops + 1) (r .nodes))) same-topology
-          (subst (λ (reach : Reach). Says (topology (take (book .nodes) rows)) (allNodes 64) (q .source) (q .destination) reach (r .hops) (r .nodes)) e p .route)
+          subst (λ (T : Topology). Route T mains (q .source) (q .destination) (take (r .hops + 1) (r .nodes))) same-topology
+          (subst (λ (reach : Reach). Says (topology (take (book .nodes) rows)) mains (q .source) (q .destination) reach (r .hops) (r .nodes)) e p .route)
 
-      pub planned-none : r .reach ≡ NoRoute → topologies.NoRoute (linksOf s) (anyMiddle (bookIn s)) (q .source) (q .destination)
+      pub planned-none : r .reach ≡ NoRoute → topologies.NoRoute (linksOf s) mains (q .source) (q .destination)
       planned-none e =
-          no-route-any 64 (nodes (linksOf s)) (linksOf s) (nodes-few lawful) (omega arith)
-          (subst (λ (T : Topology). topologies.NoRoute T (allNodes 64) (q .source) (q .destination)) same-topology
-          (subst (λ (reach : Reach). Says (topology (take (book .nodes) rows)) (allNodes 64) (q .source) (q .destination) reach (r .hops) (r .nodes)) e p .0))
+          subst (λ (T : Topology). topologies.NoRoute T mains (q .source) (q .destination)) same-topology
+          (subst (λ (reach : Reach). Says (topology (take (book .nodes) rows)) mains (q .source) (q .destination) reach (r .hops) (r .nodes)) e p .0)
 
-      pub planned-far : r .reach ≡ TooFar → topologies.TooFar (linksOf s) (anyMiddle (bookIn s)) (q .source) (q .destination)
+      pub planned-far : r .reach ≡ TooFar → topologies.TooFar (linksOf s) mains (q .source) (q .destination)
       planned-far e =
-          too-far-any 64 (nodes (linksOf s)) (linksOf s) (nodes-few lawful) (omega arith)
-          (subst (λ (T : Topology). topologies.TooFar T (allNodes 64) (q .source) (q .destination)) same-topology
-          (subst (λ (reach : Reach). Says (topology (take (book .nodes) rows)) (allNodes 64) (q .source) (q .destination) reach (r .hops) (r .nodes)) e p .0))
+          subst (λ (T : Topology). topologies.TooFar T mains (q .source) (q .destination)) same-topology
+          (subst (λ (reach : Reach). Says (topology (take (book .nodes) rows)) mains (q .source) (q .destination) reach (r .hops) (r .nodes)) e p .0)
 
   -- the same, asked of the links by themselves
   pub asked-links : {links : List ℕ} → links ≡ linksOf s .rows → Asked (topology links) (q .source) (q .destination)

@@ -14,7 +14,7 @@ use Rattle.rules.specs.Book.{Row, Book, mostStreams, mostHops, hopsInAll}
 use Rattle.rules.specs.Placing.{Asked, Planned, NoSecond, FirstPlacing, NoPlacings, Full, NewRow, beside, NewRows}
 use Rattle.rules.specs.Placing.Planned.{one, two}
 use Rattle.rules.specs.Image.{planOf, streamsOf, hopsOf}
-use Rattle.rules.specs.Calls.{anyMiddle, OfRoutes, Opened}
+use Rattle.rules.specs.Calls.{OfRoutes, Opened}
 use Rattle.rules.proofs.Choice.{best-unique, planned-unique, new-unique, rows-unique}
 use Rattle.rules.proofs.Cases.{route-near, route-some}
 use Rattle.rules.proofs.Tests.{never, alike}
@@ -66,22 +66,21 @@ module _ (b : Book) (middle : ℕ) (q : Asked) (routes : List (List ℕ)) (plann
   opened-on : (c : Book) → OpenedOn b q routes c → Opened middle b q c
   opened-on c o = record { routes = routes; planned = planned; new = o .new; placed = o .placed; plus = o .plus }
 
-pub routed-new : (s : List ℕ) {out words : List ℕ} {number len : ℕ} (q : Asked) (routes : List (List ℕ)) → Planned (bookIn s .site .links) (anyMiddle (bookIn s)) q routes
-    → Routed s q routes number len out words → OpensNew s q number len out words
-routed-new s q routes planned w =
+pub routed-new : (s : List ℕ) {out words : List ℕ} {number len : ℕ} (mains : ℕ) (q : Asked) (routes : List (List ℕ)) → Planned (bookIn s .site .links) mains q routes
+    → Routed s q routes number len out words → OpensNew s mains q number len out words
+routed-new s mains q routes planned w =
     let b : Book = bookIn s in
-    let m : ℕ = anyMiddle (bookIn s) in
     out-next (some-route planned) (out-next (near-route planned) (out-next (some-second planned)
-    (out-alike (routedRefusals q routes b) ((8 when OfRoutes m q b (Full b)) ∷ (9 when OfRoutes m q b (NoPlacings b q 1)) ∷ [])
-    (refl, of-routes b m q routes planned (Full b), λ a8 b8. (refl, of-routes b m q routes planned (NoPlacings b q 1), λ a b. tt))
-    (opened-on b m q routes planned) w)))
+    (out-alike (routedRefusals q routes b) ((8 when OfRoutes mains q b (Full b)) ∷ (9 when OfRoutes mains q b (NoPlacings b q 1)) ∷ [])
+    (refl, of-routes b mains q routes planned (Full b), λ a8 b8. (refl, of-routes b mains q routes planned (NoPlacings b q 1), λ a b. tt))
+    (opened-on b mains q routes planned) w)))
 
 -- where a route is missing
-pub second-refused : (s : List ℕ) {out words : List ℕ} {number len : ℕ} (q : Asked) (first : List ℕ) → q .second ≡ true
-    → Route (bookIn s .site .links) (anyMiddle (bookIn s)) (q .source) (q .destination) first
-    → ((p : List ℕ) → SecondPath (bookIn s .site .links) (anyMiddle (bookIn s)) (q .source) (q .destination) first p → ⊥)
-    → number ≡ 18 → IndexOf (planOf s .slots) (rowsIn s) words → OpensNew s q number len out words
-second-refused s q first y r none e i =
+pub second-refused : (s : List ℕ) {out words : List ℕ} {number len : ℕ} (mains : ℕ) (q : Asked) (first : List ℕ) → q .second ≡ true
+    → Route (bookIn s .site .links) mains (q .source) (q .destination) first
+    → ((p : List ℕ) → SecondPath (bookIn s .site .links) mains (q .source) (q .destination) first p → ⊥)
+    → number ≡ 18 → IndexOf (planOf s .slots) (rowsIn s) words → OpensNew s mains q number len out words
+second-refused s mains q first y r none e i =
     out-next (route-some r) (out-next (route-near r) (out-refused (record { asked = y; first = first; planned = r; none = none }) (λ z. omega arith) e i))
 
 -- THE ROWS

@@ -5,33 +5,28 @@ use mathlib.Core.List.{List, [], _∷_}
 use Prim.Native.Nat.{ℕ, _+_, _≤_}
 use native.Mathlib.Omega.{arith}
 use lib.ListN.{take}
-use Rattle.rules.specs.Topology.{Topology, hopCount, mostRouteHops, allNodes, Path, Route, SecondPath, SecondRoute, mostShortHops}
+use Rattle.rules.specs.Topology.{Topology, hopCount, mostRouteHops, Path, Route, SecondPath, SecondRoute, mostShortHops}
 use Rattle.rules.specs.Placing.{Asked, Planned}
 use Rattle.rules.specs.Placing.Planned.{two}
 use Rattle.rules.specs.Image.{linksOf}
-use Rattle.rules.specs.Calls.{anyMiddle}
-use Rattle.rules.proofs.Reading.{bookIn, LawfulImage}
 use Rattle.image.specs.declared.Book.{Book}
 use Rattle.bitset.specs.Rows.{topology}
 use Rattle.routes.specs.Planner as routes
 use Rattle.routes.specs.declared.second.Sought.{Sought}
 use Rattle.routes.specs.Second.{SecondSays}
 use Rattle.opening.specs.Beside.{NewBeside, RouteBeside, RoutesBeside, SecondBeside}
-use Rattle.opening.proofs.Planned.{asked-links, any-route, any-second, any-path}
+use Rattle.opening.proofs.Planned.{asked-links}
 
-module _ {s words : List ℕ} {book : Book} {q : Asked} {place at : ℕ} {links hearing first : List ℕ} (w : SecondBeside s words book q place at links hearing first) where
-  lawful : LawfulImage s
-  lawful = w .planned .new .asked .image .newest .lawful
-
-  pub second-asked : routes.Asked (topology links) (q .source) (q .destination) × Route (topology links) (allNodes 64) (q .source) (q .destination) first
+module _ {s words : List ℕ} {mains : ℕ} {book : Book} {q : Asked} {place at : ℕ} {links hearing first : List ℕ} (w : SecondBeside s words mains book q place at links hearing first) where
+  pub second-asked : routes.Asked (topology links) (q .source) (q .destination) × Route (topology links) mains (q .source) (q .destination) first
   second-asked = (
     asked-links (w .planned .new .asked) (w .planned .linked),
-    subst (λ (rows : List ℕ). Route (topology rows) (allNodes 64) (q .source) (q .destination) first) (sym (w .planned .linked)) (w .planned .planned),
+    subst (λ (rows : List ℕ). Route (topology rows) mains (q .source) (q .destination) first) (sym (w .planned .linked)) (w .planned .planned),
   )
 
-  module _ {r : Sought} (h : SecondSays (topology links) (allNodes 64) (q .source) (q .destination) first r) where
-    says : SecondSays (linksOf s) (allNodes 64) (q .source) (q .destination) first r
-    says = subst (λ (rows : List ℕ). SecondSays (topology rows) (allNodes 64) (q .source) (q .destination) first r) (w .planned .linked) h
+  module _ {r : Sought} (h : SecondSays (topology links) mains (q .source) (q .destination) first r) where
+    says : SecondSays (linksOf s) mains (q .source) (q .destination) first r
+    says = subst (λ (rows : List ℕ). SecondSays (topology rows) mains (q .source) (q .destination) first r) (w .planned .linked) h
 
     pub second-few : r .hops ≤ mostShortHops
     second-few = go (r .found) refl
@@ -40,15 +35,15 @@ module _ {s words : List ℕ} {book : Book} {q : Asked} {place at : ℕ} {links 
         go true e = says .found e .most
         go false e = omega (arith, says .not-found e .zeros .no-hops)
 
-    pub second-missing : r .found ≡ false → (p : List ℕ) → SecondPath (linksOf s) (anyMiddle (bookIn s)) (q .source) (q .destination) first p → ⊥
-    second-missing e p k = says .not-found e .none p (any-path lawful first p k)
+    pub second-missing : r .found ≡ false → (p : List ℕ) → SecondPath (linksOf s) mains (q .source) (q .destination) first p → ⊥
+    second-missing e p k = says .not-found e .none p k
 
     module _ (e : r .found ≡ true) where
-      second : SecondRoute (linksOf s) (allNodes 64) (q .source) (q .destination) first (take (r .hops + 1) (r .nodes))
+      second : SecondRoute (linksOf s) mains (q .source) (q .destination) first (take (r .hops + 1) (r .nodes))
       second = says .found e .route
 
-      pub second-planned : Planned (linksOf s) (anyMiddle (bookIn s)) q (first ∷ take (r .hops + 1) (r .nodes) ∷ [])
-      second-planned = two (w .asked-two) (any-route lawful first (w .planned .planned)) (any-second lawful first _ second)
+      pub second-planned : Planned (linksOf s) mains q (first ∷ take (r .hops + 1) (r .nodes) ∷ [])
+      second-planned = two (w .asked-two) (w .planned .planned) second
 
       pub second-routes : RoutesBeside s words book q place at hearing first (take (r .hops + 1) (r .nodes))
       second-routes = record {

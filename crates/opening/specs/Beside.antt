@@ -4,7 +4,7 @@ use mathlib.Core.Bool.{true}
 use mathlib.Core.List.{List, [], _∷_}
 use Prim.Native.Nat.{ℕ, _<_, _≤_}
 use Rattle.rules.specs.Tiles.{periodAt}
-use Rattle.rules.specs.Topology.{Path, hopCount, mostRouteHops, allNodes, Route}
+use Rattle.rules.specs.Topology.{Path, hopCount, mostRouteHops, Route}
 use Rattle.rules.specs.Periods.{InList}
 use Rattle.rules.specs.Placing.{Asked, FirstPlacing, Full}
 use Rattle.rules.specs.Image.{planOf, nodesOf, linksOf, hearingOf}
@@ -55,14 +55,14 @@ pub record MarkedBeside (s words : List ℕ) (book : Book) (q : Asked) (place at
   pub placed : PlacedBeside s before book q place at hearing first offsets second
   pub index : IndexOf (planOf s .slots) (rowOn q 1 first offsets ∷ rowsIn s) words
 
--- where the first is the planner's: with the links
-pub record PlannedBeside (s words : List ℕ) (book : Book) (q : Asked) (place at : ℕ) (links first : List ℕ) : Type 0 where
+-- where the first is the planner's, with the set of nodes that may stand in the middle: with the links
+pub record PlannedBeside (s words : List ℕ) (mains : ℕ) (book : Book) (q : Asked) (place at : ℕ) (links first : List ℕ) : Type 0 where
   pub new : NewBeside s words book q place at
   pub linked : links ≡ linksOf s .rows
-  pub planned : Route (linksOf s) (allNodes 64) (q .source) (q .destination) first
+  pub planned : Route (linksOf s) mains (q .source) (q .destination) first
 
 -- and a second one is asked for, with the hearing
-pub record SecondBeside (s words : List ℕ) (book : Book) (q : Asked) (place at : ℕ) (links hearing first : List ℕ) : Type 0 where
-  pub planned : PlannedBeside s words book q place at links first
+pub record SecondBeside (s words : List ℕ) (mains : ℕ) (book : Book) (q : Asked) (place at : ℕ) (links hearing first : List ℕ) : Type 0 where
+  pub planned : PlannedBeside s words mains book q place at links first
   pub heard : hearing ≡ hearingOf s .rows
   pub asked-two : q .second ≡ true

@@ -9,7 +9,7 @@ use Rattle.rules.specs.Topology.{NoRoute, TooFar}
 use Rattle.rules.specs.Book.{Row, Book, Known, Plus}
 use Rattle.rules.specs.Placing.{Asked, NoSecond, Full, NewRows, NoPlacings}
 use Rattle.rules.specs.Image.{newest, encode, planOf}
-use Rattle.rules.specs.Calls.{anyMiddle, OfRoutes, Opened, askedRefusals}
+use Rattle.rules.specs.Calls.{OfRoutes, Opened, askedRefusals}
 use Rattle.rules.proofs.Says.{None}
 use Rattle.rules.proofs.Reading.{rowsIn, bookIn}
 use Rattle.image.specs.Places.{Laid}
@@ -51,19 +51,19 @@ routedRefusals q routes b = (8 when Full b routes) ∷ (9 when NoPlacings b q 1 
 abbrev pub Routed : List ℕ → Asked → List (List ℕ) → ℕ → ℕ → List ℕ → List ℕ → Type 0
 Routed s q routes = Outcome (routedRefusals q routes (bookIn s)) (OpenedOn (bookIn s) q routes) s
 
--- where the request is in order and its id is new
-abbrev pub newRefusals : Asked → Book → List Refusal
-newRefusals q b =
-    (7 when NoRoute (b .site .links) (anyMiddle b) (q .source) (q .destination))
-    ∷ (17 when TooFar (b .site .links) (anyMiddle b) (q .source) (q .destination))
-    ∷ (18 when NoSecond (b .site .links) (anyMiddle b) q)
-    ∷ (8 when OfRoutes (anyMiddle b) q b (Full b))
-    ∷ (9 when OfRoutes (anyMiddle b) q b (NoPlacings b q 1))
+-- where the request is in order and its id is new, with the set of nodes that may stand in the middle
+abbrev pub newRefusals : ℕ → Asked → Book → List Refusal
+newRefusals mains q b =
+    (7 when NoRoute (b .site .links) mains (q .source) (q .destination))
+    ∷ (17 when TooFar (b .site .links) mains (q .source) (q .destination))
+    ∷ (18 when NoSecond (b .site .links) mains q)
+    ∷ (8 when OfRoutes mains q b (Full b))
+    ∷ (9 when OfRoutes mains q b (NoPlacings b q 1))
     ∷ []
 
-abbrev pub OpensNew : List ℕ → Asked → ℕ → ℕ → List ℕ → List ℕ → Type 0
-OpensNew s q = Outcome (newRefusals q (bookIn s)) (Opened (anyMiddle (bookIn s)) (bookIn s) q) s
+abbrev pub OpensNew : List ℕ → ℕ → Asked → ℕ → ℕ → List ℕ → List ℕ → Type 0
+OpensNew s mains q = Outcome (newRefusals mains q (bookIn s)) (Opened mains (bookIn s) q) s
 
 -- where the request is in order
-abbrev pub OpensAsked : List ℕ → Asked → ℕ → ℕ → List ℕ → List ℕ → Type 0
-OpensAsked s q = Outcome ((2 when Known (bookIn s) (q .id)) ∷ newRefusals q (bookIn s)) (Opened (anyMiddle (bookIn s)) (bookIn s) q) s
+abbrev pub OpensAsked : List ℕ → ℕ → Asked → ℕ → ℕ → List ℕ → List ℕ → Type 0
+OpensAsked s mains q = Outcome ((2 when Known (bookIn s) (q .id)) ∷ newRefusals mains q (bookIn s)) (Opened mains (bookIn s) q) s

@@ -20,10 +20,11 @@ pub enum Judged {
     InOrder(usize),
 }
 
-// Seeks the route of a request that is in order, and opens the stream on it.
+// Seeks the route of a request that is in order, with only members of the set in the middle, and opens the stream on it.
 fn open_new(
     image: &[u8],
     index: &mut [u64; index::WORDS],
+    mains: u64,
     book: Book,
     q: Asked,
     place: usize,
@@ -31,11 +32,11 @@ fn open_new(
     out: &mut [u8; Book::LONGEST],
 ) -> Answer
     requires { ⌜ NewBeside (now image) (now index) book (theAsked q) place at ⌝ }
-    ensures { λ r. ⌜ OpensNew (now (image .entry)) (theAsked q) (r .number) (r .length) (now (out .exit)) (now (index .exit)) ⌝ }
+    ensures { λ r. ⌜ OpensNew (now (image .entry)) mains (theAsked q) (r .number) (r .length) (now (out .exit)) (now (index .exit)) ⌝ }
 {
     let n = book.nodes;
     let rows = topologies::sets(image, image::HEADER, n);
-    let planned = routes::plan(&rows[..n], bitset::ALL, q.source, q.destination);
+    let planned = routes::plan(&rows[..n], mains, q.source, q.destination);
     let reach = planned.reach;
     let end = planned.hops + 1;
     let nodes = planned.nodes;
@@ -45,6 +46,7 @@ fn open_new(
         Reach::Found => ways::open_routed(
             image,
             index,
+            mains,
             book,
             q,
             place,
@@ -60,17 +62,18 @@ fn open_new(
 fn open_asked(
     image: &[u8],
     index: &mut [u64; index::WORDS],
+    mains: u64,
     book: Book,
     q: Asked,
     place: usize,
     out: &mut [u8; Book::LONGEST],
 ) -> Answer
     requires { ⌜ AskedBeside (now image) (now index) book (theAsked q) place ⌝ }
-    ensures { λ r. ⌜ OpensAsked (now (image .entry)) (theAsked q) (r .number) (r .length) (now (out .exit)) (now (index .exit)) ⌝ }
+    ensures { λ r. ⌜ OpensAsked (now (image .entry)) mains (theAsked q) (r .number) (r .length) (now (out .exit)) (now (index .exit)) ⌝ }
 {
     match finding::find(image, q.id) {
         Spot::Here(_) => answers::refused(2),
-        Spot::Between(at) => open_new(image, index, book, q, place, at, out),
+        Spot::Between(at) => open_new(image, index, mains, book, q, place, at, out),
     }
 }
 
@@ -96,19 +99,20 @@ fn judge(q: Asked, nodes: usize) -> Judged
     }
 }
 
-// Opens the stream that is asked for.
+// Opens the stream that is asked for, with only members of the set in the middle of its routes.
 pub fn open_on(
     image: &[u8],
     index: &mut [u64; index::WORDS],
+    mains: u64,
     q: Asked,
     out: &mut [u8; Book::LONGEST],
 ) -> Answer
     requires { ⌜ ImageBeside (now image) (now index) ⌝ }
-    ensures { λ r. ⌜ Works (now (image .entry)) (Open (theAsked q)) (r .number) (r .length) (now (out .exit)) (now (index .exit)) ⌝ }
+    ensures { λ r. ⌜ Works mains (now (image .entry)) (Open (theAsked q)) (r .number) (r .length) (now (out .exit)) (now (index .exit)) ⌝ }
 {
     let book = Book::read(image);
     match judge(q, book.nodes) {
         Judged::Refused(number) => answers::refused(number),
-        Judged::InOrder(place) => open_asked(image, index, book, q, place, out),
+        Judged::InOrder(place) => open_asked(image, index, mains, book, q, place, out),
     }
 }

@@ -245,6 +245,7 @@ fn open_both(
 fn open_beside(
     image: &[u8],
     index: &mut [u64; index::WORDS],
+    mains: u64,
     book: Book,
     q: Asked,
     place: usize,
@@ -254,10 +255,10 @@ fn open_beside(
     first: &[u8],
     out: &mut [u8; Book::LONGEST],
 ) -> Answer
-    requires { ⌜ SecondBeside (now image) (now index) book (theAsked q) place at (now links) (now hearing) (now first) ⌝ }
-    ensures { λ r. ⌜ OpensNew (now (image .entry)) (theAsked q) (r .number) (r .length) (now (out .exit)) (now (index .exit)) ⌝ }
+    requires { ⌜ SecondBeside (now image) (now index) mains book (theAsked q) place at (now links) (now hearing) (now first) ⌝ }
+    ensures { λ r. ⌜ OpensNew (now (image .entry)) mains (theAsked q) (r .number) (r .length) (now (out .exit)) (now (index .exit)) ⌝ }
 {
-    let sought = routes::second::second(links, bitset::ALL, q.source, q.destination, first);
+    let sought = routes::second::second(links, mains, q.source, q.destination, first);
     let found = sought.found;
     let end = sought.hops + 1;
     let nodes = sought.nodes;
@@ -282,6 +283,7 @@ fn open_beside(
 pub fn open_routed(
     image: &[u8],
     index: &mut [u64; index::WORDS],
+    mains: u64,
     book: Book,
     q: Asked,
     place: usize,
@@ -290,14 +292,26 @@ pub fn open_routed(
     first: &[u8],
     out: &mut [u8; Book::LONGEST],
 ) -> Answer
-    requires { ⌜ PlannedBeside (now image) (now index) book (theAsked q) place at (now links) (now first) ⌝ }
-    ensures { λ r. ⌜ OpensNew (now (image .entry)) (theAsked q) (r .number) (r .length) (now (out .exit)) (now (index .exit)) ⌝ }
+    requires { ⌜ PlannedBeside (now image) (now index) mains book (theAsked q) place at (now links) (now first) ⌝ }
+    ensures { λ r. ⌜ OpensNew (now (image .entry)) mains (theAsked q) (r .number) (r .length) (now (out .exit)) (now (index .exit)) ⌝ }
 {
     let n = book.nodes;
     let heard = topologies::sets(image, book.hearing_place(), n);
     let hearing = &heard[..n];
     if q.second {
-        open_beside(image, index, book, q, place, at, links, hearing, first, out)
+        open_beside(
+            image,
+            index,
+            mains,
+            book,
+            q,
+            place,
+            at,
+            links,
+            hearing,
+            first,
+            out,
+        )
     } else {
         open_one(image, index, book, q, place, at, hearing, first, out)
     }

@@ -17,17 +17,17 @@ use Rattle.order.proofs.Same.{agree-turned, answers-same, adds-same}
 use Rattle.rules.proofs.Lawful.{same-site}
 use Rattle.order.proofs.Calls.{Alone, alone}
 
-module _ (site : Site) where
+module _ (mains : ℕ) (site : Site) where
   -- a done request leaves of its id what it puts in, and nothing else
-  only-added : (b : Rows) (q : Request) (x : Row) → Answers site b q 0 → x .id ≡ idOf q → After site b q x → Adds site b q x
+  only-added : (b : Rows) (q : Request) (x : Row) → Answers mains site b q 0 → x .id ≡ idOf q → After mains site b q x → Adds mains site b q x
   only-added b q x a e (inr h) = h
-  only-added b (Open r) x a e (inl h) = absurd (says-none (refusals site b (Open r)) (omega arith) a .1 .1 .1 .1 .0 record { row = x; there = h .0; named = e })
+  only-added b (Open r) x a e (inl h) = absurd (says-none (refusals mains site b (Open r)) (omega arith) a .1 .1 .1 .1 .0 record { row = x; there = h .0; named = e })
   only-added b (Close id) x a e (inl h) = absurd (h .1 (a, h .0, e))
 
-  module _ (b c : Rows) (q : Request) (a : Agree (on site b) (on site c) q) {answers answers′ last last′ : List ℕ}
-      (d : Alone (on site b) q answers last) (e : Alone (on site c) q answers′ last′) where
+  module _ (b c : Rows) (q : Request) (a : Agree mains (on site b) (on site c) q) {answers answers′ last last′ : List ℕ}
+      (d : Alone mains (on site b) q answers last) (e : Alone mains (on site c) q answers′ last′) where
     same-answer : d .answer ≡ e .answer
-    same-answer = says-unique (refusals site c q) (d .answer) (e .answer) (answers-same site b c q a (d .answer) (d .step .says)) (e .step .says)
+    same-answer = says-unique (refusals mains site c q) (d .answer) (e .answer) (answers-same mains site b c q a (d .answer) (d .step .says)) (e .step .says)
 
     same-stream : d .answer ≡ 0 → SameStream (idOf q) last last′
     same-stream done = (
@@ -38,11 +38,11 @@ module _ (site : Site) where
       d .holds,
       e .holds,
       λ x i. (
-        λ h. after site c q (e .answer) (e .rows) (e .step) x .1
-            (inr (adds-same site b c q a x (only-added b q x (subst (Answers site b q) done (d .step .says)) i (after site b q (d .answer) (d .rows) (d .step) x .0 h)))),
-        λ h. after site b q (d .answer) (d .rows) (d .step) x .1
-            (inr (adds-same site c b q (agree-turned site b c q a) x
-            (only-added c q x (subst (Answers site c q) (sym same-answer ∙ done) (e .step .says)) i (after site c q (e .answer) (e .rows) (e .step) x .0 h)))),
+        λ h. after mains site c q (e .answer) (e .rows) (e .step) x .1
+            (inr (adds-same mains site b c q a x (only-added b q x (subst (Answers mains site b q) done (d .step .says)) i (after mains site b q (d .answer) (d .rows) (d .step) x .0 h)))),
+        λ h. after mains site b q (d .answer) (d .rows) (d .step) x .1
+            (inr (adds-same mains site c b q (agree-turned mains site b c q a) x
+            (only-added c q x (subst (Answers mains site c q) (sym same-answer ∙ done) (e .step .says)) i (after mains site c q (e .answer) (e .rows) (e .step) x .0 h)))),
       ),
     )
 
@@ -53,7 +53,7 @@ module _ (site : Site) where
     )
 
 pub depends : Depends
-depends image image′ v w b c q s t small a n n′ answers answers′ last last′ p p′ =
+depends image image′ v w b c mains q s t low small a n n′ answers answers′ last last′ p p′ =
     let e : c ≡ on (b .site) (c .rows) = sym (same-site b c (sym (a .site))) in
-    answer (b .site) (b .rows) (c .rows) q (subst (λ (x : Book). Agree b x q) e a) (alone s q small n answers last p)
-    (alone (subst (Stored image′ w) e t) q small n′ answers′ last′ p′)
+    answer mains (b .site) (b .rows) (c .rows) q (subst (λ (x : Book). Agree mains b x q) e a) (alone s low q small n answers last p)
+    (alone (subst (Stored image′ w) e t) low q small n′ answers′ last′ p′)

@@ -7,20 +7,23 @@ use Prim.Native.Nat.{ℕ, _-_}
 use native.Mathlib.Omega.{arith}
 use lib.Dec.{T}
 use lib.ListN.{length, getD, replicate}
-use Rattle.rules.specs.Words.{_∈_, With}
+use Rattle.rules.specs.Words.{NoBitFrom, _∈_, With}
 use Rattle.rules.specs.Words.With.{here, there}
 use Rattle.rules.specs.Words.Reordered.{none, put}
+use Rattle.rules.specs.Topology.{nodes}
 use Rattle.rules.specs.Book.{Book}
 use Rattle.rules.specs.Image.{newest, longestImage, FullSize, encode, Stored}
 use Rattle.rules.specs.Calls.{Request}
 use Rattle.rules.specs.Calls.Request.{Close}
-use Rattle.rules.specs.Order.{Posting, InAnyOrder}
+use Rattle.rules.specs.Order.{Room, Posting, InAnyOrder}
 use Rattle.rules.proofs.Tests.{tests-not, tests-eq, tests-le}
 use Rattle.rules.proofs.Lists.{reordered-same}
+use Rattle.rules.proofs.Mains.{all-below}
 use Rattle.model.specs.Test.{same}
-use Rattle.model.specs.Examples.{lineA, pair, empty, opening, openingTwo}
+use Rattle.model.specs.Examples.{planA, lineA, square, pair, bookOn, empty, opening, openingTwo, anyMiddle}
 use Rattle.model.proofs.Tests.{tests-same}
 use Rattle.order.specs.Examples.{image, JustFull, before, after, requests, backwards, beforeBoth, afterBoth, onBoth, onBothBack, Met, Kept}
+use Rattle.order.specs.Examples.{twoSquares, mainsBoth, onMains, onMainsBack, acrossMains, overSquare}
 use Rattle.order.specs.Examples.{nearlyFull, fullWith, closes, threes, longOnes, shortAfter, onLong, onLongBack, BothOrders, ring, goneRound, goneAcross, oneMore, Decides}
 use Rattle.order.specs.Needed.{RoomForDone, Needed}
 use Rattle.order.proofs.Same.{agree-same}
@@ -36,14 +39,18 @@ zeros n = replicate n 0
 just-full : JustFull (zeros (longestImage newest))
 just-full = tests-eq (length (zeros (longestImage newest))) (longestImage newest) .yes (so tt)
 
+-- no node of a book is from N up
+below : (b : Book) → NoBitFrom (nodes (b .site .links)) (anyMiddle b)
+below b = all-below (nodes (b .site .links))
+
 full : FullSize (zeros (longestImage newest))
 full = omega (arith, just-full)
 
 -- ALL PREMISES KEPT
 
 -- computed with a full-size buffer and no byte more
-justly : (image : List ℕ) (qs : List Request) (ns last : List ℕ) → T (posts (zeros (longestImage newest)) image qs 0 ns last) → Posting JustFull image qs 0 ns last
-justly image qs = posted JustFull (zeros (longestImage newest)) just-full image qs 0
+justly : (image : List ℕ) (mains : ℕ) (qs : List Request) (ns last : List ℕ) → T (posts (zeros (longestImage newest)) image mains qs 0 ns last) → Posting JustFull image mains qs 0 ns last
+justly image mains qs = posted JustFull (zeros (longestImage newest)) just-full image mains qs 0
 
 with-end : {A : Type 0} (x : A) (xs : List A) → With x xs (xs ++ (x ∷ []))
 with-end x [] = here
@@ -55,6 +62,9 @@ before-held = held 1 before refl tt
 both-held : Stored (image beforeBoth) newest beforeBoth
 both-held = held newest beforeBoth refl tt
 
+squares-held : Stored (image (bookOn planA twoSquares [])) newest (bookOn planA twoSquares [])
+squares-held = held newest (bookOn planA twoSquares []) refl tt
+
 nearly : Stored (image nearlyFull) newest nearlyFull
 nearly = held newest nearlyFull refl tt
 
@@ -65,95 +75,113 @@ pub kept : Kept
 kept = record {
   old = record {
     held = before-held;
+    low = below before;
     most = omega arith;
     small = small requests tt;
     ids = different requests tt;
-    apart = apart before (sound-links before-held) requests tt;
-    room = room before (sound-links before-held) requests tt;
+    apart = apart (anyMiddle before) before (sound-links before-held) requests tt;
+    room = room (anyMiddle before) before (sound-links before-held) requests tt;
     reordered = put (put (put (put (put none here) (there here)) (there (there here))) (there (there (there here)))) (there (there (there (there here))));
-    forth = justly (encode 1 before) requests (0 ∷ 0 ∷ 9 ∷ 3 ∷ 7 ∷ []) (image after) tt;
-    back = justly (encode 1 before) backwards (7 ∷ 3 ∷ 9 ∷ 0 ∷ 0 ∷ []) (image after) tt;
+    forth = justly (encode 1 before) (anyMiddle before) requests (0 ∷ 0 ∷ 9 ∷ 3 ∷ 7 ∷ []) (image after) tt;
+    back = justly (encode 1 before) (anyMiddle before) backwards (7 ∷ 3 ∷ 9 ∷ 0 ∷ 0 ∷ []) (image after) tt;
   };
   refused = record {
     held = before-held;
+    low = below before;
     most = omega arith;
     small = small (opening 6 5 4 1 ∷ Close 9 ∷ []) tt;
     ids = different (opening 6 5 4 1 ∷ Close 9 ∷ []) tt;
-    apart = apart before (sound-links before-held) (opening 6 5 4 1 ∷ Close 9 ∷ []) tt;
-    room = room before (sound-links before-held) (opening 6 5 4 1 ∷ Close 9 ∷ []) tt;
+    apart = apart (anyMiddle before) before (sound-links before-held) (opening 6 5 4 1 ∷ Close 9 ∷ []) tt;
+    room = room (anyMiddle before) before (sound-links before-held) (opening 6 5 4 1 ∷ Close 9 ∷ []) tt;
     reordered = put (put none here) (there here);
-    forth = justly (encode 1 before) (opening 6 5 4 1 ∷ Close 9 ∷ []) (9 ∷ 3 ∷ []) (encode 1 before) tt;
-    back = justly (encode 1 before) (Close 9 ∷ opening 6 5 4 1 ∷ []) (3 ∷ 9 ∷ []) (encode 1 before) tt;
+    forth = justly (encode 1 before) (anyMiddle before) (opening 6 5 4 1 ∷ Close 9 ∷ []) (9 ∷ 3 ∷ []) (encode 1 before) tt;
+    back = justly (encode 1 before) (anyMiddle before) (Close 9 ∷ opening 6 5 4 1 ∷ []) (3 ∷ 9 ∷ []) (encode 1 before) tt;
   };
   seconds = record {
     held = both-held;
+    low = below beforeBoth;
     most = omega arith;
     small = small onBoth tt;
     ids = different onBoth tt;
-    apart = apart beforeBoth (sound-links both-held) onBoth tt;
-    room = room beforeBoth (sound-links both-held) onBoth tt;
+    apart = apart (anyMiddle beforeBoth) beforeBoth (sound-links both-held) onBoth tt;
+    room = room (anyMiddle beforeBoth) beforeBoth (sound-links both-held) onBoth tt;
     reordered = put (put (put none here) (there here)) (there (there here));
-    forth = justly (encode newest beforeBoth) onBoth (0 ∷ 0 ∷ 18 ∷ []) (image afterBoth) tt;
-    back = justly (encode newest beforeBoth) onBothBack (18 ∷ 0 ∷ 0 ∷ []) (image afterBoth) tt;
+    forth = justly (encode newest beforeBoth) (anyMiddle beforeBoth) onBoth (0 ∷ 0 ∷ 18 ∷ []) (image afterBoth) tt;
+    back = justly (encode newest beforeBoth) (anyMiddle beforeBoth) onBothBack (18 ∷ 0 ∷ 0 ∷ []) (image afterBoth) tt;
+  };
+  mains = record {
+    held = squares-held;
+    low = omega arith;
+    most = omega arith;
+    small = small onMains tt;
+    ids = different onMains tt;
+    apart = apart mainsBoth (bookOn planA twoSquares []) (sound-links squares-held) onMains tt;
+    room = room mainsBoth (bookOn planA twoSquares []) (sound-links squares-held) onMains tt;
+    reordered = put (put (put none here) (there here)) (there (there here));
+    forth = justly (image (bookOn planA twoSquares [])) mainsBoth onMains (0 ∷ 18 ∷ 3 ∷ []) (image acrossMains) tt;
+    back = justly (image (bookOn planA twoSquares [])) mainsBoth onMainsBack (3 ∷ 18 ∷ 0 ∷ []) (image acrossMains) tt;
   };
   limits = record {
     held = nearly;
+    low = below nearlyFull;
     most = tests-le (length atLimits) 64 .yes (so tt);
     small = small atLimits tt;
     ids = different atLimits tt;
-    apart = apart nearlyFull (sound-links nearly) atLimits tt;
-    room = room nearlyFull (sound-links nearly) atLimits tt;
+    apart = apart (anyMiddle nearlyFull) nearlyFull (sound-links nearly) atLimits tt;
+    room = room (anyMiddle nearlyFull) nearlyFull (sound-links nearly) atLimits tt;
     reordered = put (reordered-same (closes 63 62)) (with-end (openingTwo 65535 2 5 100) (closes 63 62));
-    forth = justly (image nearlyFull) atLimits (0 ∷ threes 63) (image (fullWith 65535)) tt;
-    back = justly (image nearlyFull) (closes 63 62 ++ (openingTwo 65535 2 5 100 ∷ [])) (threes 63 ++ (0 ∷ [])) (image (fullWith 65535)) tt;
+    forth = justly (image nearlyFull) (anyMiddle nearlyFull) atLimits (0 ∷ threes 63) (image (fullWith 65535)) tt;
+    back = justly (image nearlyFull) (anyMiddle nearlyFull) (closes 63 62 ++ (openingTwo 65535 2 5 100 ∷ [])) (threes 63 ++ (0 ∷ [])) (image (fullWith 65535)) tt;
   };
   hops = record {
     held = long-held;
+    low = below longOnes;
     most = omega arith;
     small = small onLong tt;
     ids = different onLong tt;
-    apart = apart longOnes (sound-links long-held) onLong tt;
-    room = room longOnes (sound-links long-held) onLong tt;
+    apart = apart (anyMiddle longOnes) longOnes (sound-links long-held) onLong tt;
+    room = room (anyMiddle longOnes) longOnes (sound-links long-held) onLong tt;
     reordered = put (put none here) (there here);
-    forth = worked JustFull (zeros (longestImage newest)) just-full full long-held onLong (omega arith) (0 ∷ 0 ∷ []) (image shortAfter) (inl refl) tt;
-    back = worked JustFull (zeros (longestImage newest)) just-full full long-held onLongBack (omega arith) (0 ∷ 0 ∷ []) (image shortAfter) (inl refl) tt;
+    forth = worked JustFull (zeros (longestImage newest)) just-full full long-held (below longOnes) onLong (omega arith) (0 ∷ 0 ∷ []) (image shortAfter) (inl refl) tt;
+    back = worked JustFull (zeros (longestImage newest)) just-full full long-held (below longOnes) onLongBack (omega arith) (0 ∷ 0 ∷ []) (image shortAfter) (inl refl) tt;
   };
 }
 
-met : {v : ℕ} {b : Book} {qs ps : List Request} {ns last ms : List ℕ} → Met v b qs ns last ps ms → InAnyOrder FullSize (encode v b) qs
-met {v} {b} {qs} m = any-order (encode v b) v b qs (m .held) (m .most) (m .small) (m .ids) (m .apart) (m .room)
+met : {v : ℕ} {b : Book} {mains : ℕ} {qs ps : List Request} {ns last ms : List ℕ} → Met v b mains qs ns last ps ms → InAnyOrder FullSize (encode v b) mains qs
+met {v} {b} {mains} {qs} m = any-order (encode v b) v b mains qs (m .held) (m .low) (m .most) (m .small) (m .ids) (m .apart) (m .room)
 
-pub kept-in-any-order : InAnyOrder FullSize (encode 1 before) requests × InAnyOrder FullSize (image beforeBoth) onBoth
-    × InAnyOrder FullSize (image nearlyFull) atLimits × InAnyOrder FullSize (image longOnes) onLong
-kept-in-any-order = (met (kept .old), met (kept .seconds), met (kept .limits), met (kept .hops))
+pub kept-in-any-order : InAnyOrder FullSize (encode 1 before) (anyMiddle before) requests × InAnyOrder FullSize (image beforeBoth) (anyMiddle beforeBoth) onBoth
+    × InAnyOrder FullSize (image (bookOn planA twoSquares [])) mainsBoth onMains × InAnyOrder FullSize (image nearlyFull) (anyMiddle nearlyFull) atLimits
+    × InAnyOrder FullSize (image longOnes) (anyMiddle longOnes) onLong
+kept-in-any-order = (met (kept .old), met (kept .seconds), met (kept .mains), met (kept .limits), met (kept .hops))
 
 -- ALL BUT ONE
-fully : (image : List ℕ) (qs : List Request) (n : ℕ) (ns last : List ℕ) → T (posts (zeros (longestImage newest)) image qs n ns last) → Posting FullSize image qs n ns last
+fully : (image : List ℕ) (mains : ℕ) (qs : List Request) (n : ℕ) (ns last : List ℕ) → T (posts (zeros (longestImage newest)) image mains qs n ns last) → Posting FullSize image mains qs n ns last
 fully = posted FullSize (zeros (longestImage newest)) full
 
-both : {b : Book} {q q′ : Request} {ns : List ℕ} {last : Book} {ns′ : List ℕ} {last′ : Book} → T (posts (zeros (longestImage newest)) (image b) (q ∷ q′ ∷ []) 0 ns (image last))
-    → T (posts (zeros (longestImage newest)) (image b) (q′ ∷ q ∷ []) 0 ns′ (image last′)) → BothOrders b q q′ ns last ns′ last′
+both : {b : Book} {q q′ : Request} {ns : List ℕ} {last : Book} {ns′ : List ℕ} {last′ : Book} → T (posts (zeros (longestImage newest)) (image b) (anyMiddle b) (q ∷ q′ ∷ []) 0 ns (image last))
+    → T (posts (zeros (longestImage newest)) (image b) (anyMiddle b) (q′ ∷ q ∷ []) 0 ns′ (image last′)) → BothOrders b q q′ ns last ns′ last′
 both {b} {q} {q′} {ns} {last} {ns′} {last′} h h′ = record {
-  forth = fully (image b) (q ∷ q′ ∷ []) 0 ns (image last) h;
-  back = fully (image b) (q′ ∷ q ∷ []) 0 ns′ (image last′) h′;
+  forth = fully (image b) (anyMiddle b) (q ∷ q′ ∷ []) 0 ns (image last) h;
+  back = fully (image b) (anyMiddle b) (q′ ∷ q ∷ []) 0 ns′ (image last′) h′;
 }
 
 seconds-decide : BothOrders (empty ring) (openingTwo 1 0 1 2) (opening 2 5 6 2) (0 ∷ 0 ∷ []) goneRound (0 ∷ 9 ∷ []) goneAcross
 seconds-decide = record {
-  forth = fully (image (empty ring)) (openingTwo 1 0 1 2 ∷ opening 2 5 6 2 ∷ []) 0 (0 ∷ 0 ∷ []) (image goneRound) tt;
-  back = fully (image (empty ring)) (opening 2 5 6 2 ∷ openingTwo 1 0 1 2 ∷ []) 0 (0 ∷ 9 ∷ []) (image goneAcross) tt;
+  forth = fully (image (empty ring)) (anyMiddle (empty ring)) (openingTwo 1 0 1 2 ∷ opening 2 5 6 2 ∷ []) 0 (0 ∷ 0 ∷ []) (image goneRound) tt;
+  back = fully (image (empty ring)) (anyMiddle (empty ring)) (opening 2 5 6 2 ∷ openingTwo 1 0 1 2 ∷ []) 0 (0 ∷ 9 ∷ []) (image goneAcross) tt;
 }
 
 room-decides : BothOrders nearlyFull (openingTwo 63 2 5 100) (opening 65 0 1 1) (0 ∷ 8 ∷ []) (fullWith 63) (9 ∷ 0 ∷ []) (fullWith 63)
 room-decides = record {
-  forth = fully (image nearlyFull) (openingTwo 63 2 5 100 ∷ opening 65 0 1 1 ∷ []) 0 (0 ∷ 8 ∷ []) (image (fullWith 63)) tt;
-  back = fully (image nearlyFull) (opening 65 0 1 1 ∷ openingTwo 63 2 5 100 ∷ []) 0 (9 ∷ 0 ∷ []) (image (fullWith 63)) tt;
+  forth = fully (image nearlyFull) (anyMiddle nearlyFull) (openingTwo 63 2 5 100 ∷ opening 65 0 1 1 ∷ []) 0 (0 ∷ 8 ∷ []) (image (fullWith 63)) tt;
+  back = fully (image nearlyFull) (anyMiddle nearlyFull) (opening 65 0 1 1 ∷ openingTwo 63 2 5 100 ∷ []) 0 (9 ∷ 0 ∷ []) (image (fullWith 63)) tt;
 }
 
 rows-decide : BothOrders nearlyFull (openingTwo 63 2 5 100) (opening 64 0 1 100) (0 ∷ 8 ∷ []) (fullWith 63) (0 ∷ 8 ∷ []) oneMore
 rows-decide = record {
-  forth = fully (image nearlyFull) (openingTwo 63 2 5 100 ∷ opening 64 0 1 100 ∷ []) 0 (0 ∷ 8 ∷ []) (image (fullWith 63)) tt;
-  back = fully (image nearlyFull) (opening 64 0 1 100 ∷ openingTwo 63 2 5 100 ∷ []) 0 (0 ∷ 8 ∷ []) (image oneMore) tt;
+  forth = fully (image nearlyFull) (anyMiddle nearlyFull) (openingTwo 63 2 5 100 ∷ opening 64 0 1 100 ∷ []) 0 (0 ∷ 8 ∷ []) (image (fullWith 63)) tt;
+  back = fully (image nearlyFull) (anyMiddle nearlyFull) (opening 64 0 1 100 ∷ openingTwo 63 2 5 100 ∷ []) 0 (0 ∷ 8 ∷ []) (image oneMore) tt;
 }
 
 -- a byte less than full size
@@ -167,20 +195,23 @@ decides = record {
   seconds = seconds-decide;
   room = room-decides;
   rows = rows-decide;
-  most = fully (image (empty pair)) (closes 65 0) 26 (threes 65) (image (empty pair)) tt;
-  full-size = posted (λ out. length out ≡ short) (zeros short) (tests-eq (length (zeros short)) short .yes (so tt)) (image (empty pair)) (opening 1 0 1 2 ∷ []) 12 (0 ∷ [])
+  most = fully (image (empty pair)) (anyMiddle (empty pair)) (closes 65 0) 26 (threes 65) (image (empty pair)) tt;
+  full-size = posted (λ out. length out ≡ short) (zeros short) (tests-eq (length (zeros short)) short .yes (so tt)) (image (empty pair)) (anyMiddle (empty pair)) (opening 1 0 1 2 ∷ []) 12 (0 ∷ [])
       (image (empty pair)) tt;
+  low = fully (image (empty pair)) 4 (opening 1 0 1 2 ∷ []) 25 (0 ∷ []) (image (empty pair)) tt;
+  over-1 = fully (image (empty square)) 2 (opening 1 0 3 2 ∷ []) 0 (0 ∷ []) (image (overSquare 1)) tt;
+  over-2 = fully (image (empty square)) 4 (opening 1 0 3 2 ∷ []) 0 (0 ∷ []) (image (overSquare 2)) tt;
 }
 
 -- in any order they would come to one book, and the second would be answered as alone
-module _ {b : Book} {q q′ : Request} (h : Stored (image b) newest b) (i : InAnyOrder FullSize (image b) (q ∷ q′ ∷ [])) where
+module _ {b : Book} {q q′ : Request} (h : Stored (image b) newest b) (i : InAnyOrder FullSize (image b) (anyMiddle b) (q ∷ q′ ∷ [])) where
   one-last : {ns ns′ : List ℕ} {last last′ : Book} → BothOrders b q q′ ns last ns′ last′ → image last ≡ image last′
   one-last {ns} {ns′} {last} {last′} o =
       i .one (q ∷ q′ ∷ []) (q′ ∷ q ∷ []) 0 0 ns ns′ (image last) (image last′) (put (put none here) here) (put (put none here) (there here)) (o .forth) (o .back)
 
   one-answer : {n m n′ m′ : ℕ} {last last′ : Book} → BothOrders b q q′ (n ∷ m ∷ []) last (m′ ∷ n′ ∷ []) last′ → m ≡ m′
   one-answer {n} {m} {n′} {m′} {last} {last′} o =
-      let (answers, alone, p) = some-posting h (q′ ∷ []) (omega arith) in
+      let (answers, alone, p) = some-posting h (below b) (q′ ∷ []) (omega arith) in
       let f = i .each (q ∷ q′ ∷ []) 0 (n ∷ m ∷ []) (image last) (put (put none here) here) (o .forth) .1 .1 .0 0 answers alone p .0 in
       let g = i .each (q′ ∷ q ∷ []) 0 (m′ ∷ n′ ∷ []) (image last′) (put (put none here) (there here)) (o .back) .1 .0 0 answers alone p .0 in
       ap (λ (ns : List ℕ). getD ns 0 0) (sym f ∙ g)
@@ -191,22 +222,31 @@ unlike {xs} {ys} t = tests-not (tests-same xs ys) .yes (so t)
 pair-held : Stored (image (empty pair)) newest (empty pair)
 pair-held = held newest (empty pair) refl tt
 
-room-for-done : RoomForDone (image nearlyFull) nearlyFull (openingTwo 63 2 5 100 ∷ opening 65 0 1 1 ∷ [])
-room-for-done = record { done = openingTwo 63 2 5 100 ∷ []; all-done = done; room = room nearlyFull (sound-links nearly) (openingTwo 63 2 5 100 ∷ []) tt }
+square-held : Stored (image (empty square)) newest (empty square)
+square-held = held newest (empty square) refl tt
+
+-- one open across the square is in any order, with any set
+over-square : (mains : ℕ) → NoBitFrom 4 mains → Room mains (empty square) (opening 1 0 3 2 ∷ []) → InAnyOrder FullSize (image (empty square)) mains (opening 1 0 3 2 ∷ [])
+over-square mains low fit =
+    let qs : List Request = opening 1 0 3 2 ∷ [] in
+    any-order (image (empty square)) newest (empty square) mains qs square-held low (omega arith) (small qs tt) (different qs tt) ((λ q m. absurd m), tt) fit
+
+room-for-done : RoomForDone (image nearlyFull) (anyMiddle nearlyFull) nearlyFull (openingTwo 63 2 5 100 ∷ opening 65 0 1 1 ∷ [])
+room-for-done = record { done = openingTwo 63 2 5 100 ∷ []; all-done = done; room = room (anyMiddle nearlyFull) nearlyFull (sound-links nearly) (openingTwo 63 2 5 100 ∷ []) tt }
   where
-    not-done : (last : List ℕ) → Posting FullSize (image nearlyFull) (opening 65 0 1 1 ∷ []) 0 (0 ∷ []) last → ⊥
+    not-done : (last : List ℕ) → Posting FullSize (image nearlyFull) (anyMiddle nearlyFull) (opening 65 0 1 1 ∷ []) 0 (0 ∷ []) last → ⊥
     not-done last p =
-        let nine : Posting FullSize (image nearlyFull) (opening 65 0 1 1 ∷ []) 0 (9 ∷ []) (image nearlyFull) =
-        fully (image nearlyFull) (opening 65 0 1 1 ∷ []) 0 (9 ∷ []) (image nearlyFull) tt in
+        let nine : Posting FullSize (image nearlyFull) (anyMiddle nearlyFull) (opening 65 0 1 1 ∷ []) 0 (9 ∷ []) (image nearlyFull) =
+        fully (image nearlyFull) (anyMiddle nearlyFull) (opening 65 0 1 1 ∷ []) 0 (9 ∷ []) (image nearlyFull) tt in
         let e : _≡_ {A = ℕ} 0 9 = ap (λ (ns : List ℕ). getD ns 0 0)
-        (depends (image nearlyFull) (image nearlyFull) newest newest nearlyFull nearlyFull (opening 65 0 1 1) nearly nearly (omega arith)
-        (agree-same nearlyFull (opening 65 0 1 1)) 0 0 (0 ∷ []) (9 ∷ []) last (image nearlyFull) p nine .0) in
+        (depends (image nearlyFull) (image nearlyFull) newest newest nearlyFull nearlyFull (anyMiddle nearlyFull) (opening 65 0 1 1) nearly nearly (below nearlyFull) (omega arith)
+        (agree-same (anyMiddle nearlyFull) nearlyFull (opening 65 0 1 1)) 0 0 (0 ∷ []) (9 ∷ []) last (image nearlyFull) p nine .0) in
         omega arith
 
-    done : (q : Request) → q ∈ (openingTwo 63 2 5 100 ∷ opening 65 0 1 1 ∷ []) → (last : List ℕ) → Posting FullSize (image nearlyFull) (q ∷ []) 0 (0 ∷ []) last
+    done : (q : Request) → q ∈ (openingTwo 63 2 5 100 ∷ opening 65 0 1 1 ∷ []) → (last : List ℕ) → Posting FullSize (image nearlyFull) (anyMiddle nearlyFull) (q ∷ []) 0 (0 ∷ []) last
         → q ∈ (openingTwo 63 2 5 100 ∷ [])
     done q (inl e) last p = inl e
-    done q (inr (inl e)) last p = absurd (not-done last (subst (λ (v : Request). Posting FullSize (image nearlyFull) (v ∷ []) 0 (0 ∷ []) last) e p))
+    done q (inr (inl e)) last p = absurd (not-done last (subst (λ (v : Request). Posting FullSize (image nearlyFull) (anyMiddle nearlyFull) (v ∷ []) 0 (0 ∷ []) last) e p))
     done q (inr (inr m)) last p = absurd m
 
 pub needed : Needed
@@ -214,39 +254,50 @@ needed = record {
   most = λ f.
       let qs : List Request = closes 65 0 in
       let b : Book = empty pair in
-      let i = f (image b) newest b qs pair-held (small qs tt) (different qs tt) (apart b (sound-links pair-held) qs tt) (room b (sound-links pair-held) qs tt) in
+      let i = f (image b) newest b (anyMiddle b) qs pair-held (below b) (small qs tt) (different qs tt) (apart (anyMiddle b) b (sound-links pair-held) qs tt) (room (anyMiddle b) b (sound-links pair-held) qs tt) in
       let e : _≡_ {A = ℕ} 26 0 = i .each qs 26 (threes 65) (image b) (reordered-same qs) (decides .most) .0 in
       omega arith;
   ids = λ f.
       let qs : List Request = opening 1 0 1 2 ∷ Close 1 ∷ [] in
       let b : Book = empty pair in
-      let i = f (image b) newest b qs pair-held (omega arith) (small qs tt) (apart b (sound-links pair-held) qs tt) (room b (sound-links pair-held) qs tt) in
+      let i = f (image b) newest b (anyMiddle b) qs pair-held (below b) (omega arith) (small qs tt) (apart (anyMiddle b) b (sound-links pair-held) qs tt) (room (anyMiddle b) b (sound-links pair-held) qs tt) in
       unlike tt (one-last pair-held i (decides .ids));
   hearing = λ f.
       let qs : List Request = opening 1 0 1 1 ∷ opening 2 2 3 1 ∷ [] in
       let b : Book = empty lineA in
       let h : Stored (image b) newest b = held newest b refl tt in
-      unlike tt (one-last h (f (image b) newest b qs h (omega arith) (small qs tt) (different qs tt) (no-node b (sound-links h) qs tt) (room b (sound-links h) qs tt)) (decides .hearing));
+      unlike tt (one-last h (f (image b) newest b (anyMiddle b) qs h (below b) (omega arith) (small qs tt) (different qs tt) (no-node (anyMiddle b) b (sound-links h) qs tt) (room (anyMiddle b) b (sound-links h) qs tt)) (decides .hearing));
   seconds = λ f.
       let qs : List Request = openingTwo 1 0 1 2 ∷ opening 2 5 6 2 ∷ [] in
       let b : Book = empty ring in
       let h : Stored (image b) newest b = held newest b refl tt in
-      unlike tt (one-last h (f (image b) newest b qs h (omega arith) (small qs tt) (different qs tt) (firsts-apart b (sound-links h) qs tt) (room b (sound-links h) qs tt)) seconds-decide);
+      unlike tt (one-last h (f (image b) newest b (anyMiddle b) qs h (below b) (omega arith) (small qs tt) (different qs tt) (firsts-apart (anyMiddle b) b (sound-links h) qs tt) (room (anyMiddle b) b (sound-links h) qs tt)) seconds-decide);
   room = λ f.
       let qs : List Request = openingTwo 63 2 5 100 ∷ opening 65 0 1 1 ∷ [] in
-      let i = f (image nearlyFull) newest nearlyFull qs nearly (omega arith) (small qs tt) (different qs tt) (apart nearlyFull (sound-links nearly) qs tt) room-for-done in
+      let i = f (image nearlyFull) newest nearlyFull (anyMiddle nearlyFull) qs nearly (below nearlyFull) (omega arith) (small qs tt) (different qs tt) (apart (anyMiddle nearlyFull) nearlyFull (sound-links nearly) qs tt) room-for-done in
       let e : _≡_ {A = ℕ} 8 9 = one-answer nearly i room-decides in
       omega arith;
   rows = λ f.
       let qs : List Request = openingTwo 63 2 5 100 ∷ opening 64 0 1 100 ∷ [] in
-      let fit = room-for-one nearlyFull (sound-links nearly) qs tt in
-      let i = f (image nearlyFull) newest nearlyFull qs nearly (omega arith) (small qs tt) (different qs tt) (apart nearlyFull (sound-links nearly) qs tt) fit in
+      let fit = room-for-one (anyMiddle nearlyFull) nearlyFull (sound-links nearly) qs tt in
+      let i = f (image nearlyFull) newest nearlyFull (anyMiddle nearlyFull) qs nearly (below nearlyFull) (omega arith) (small qs tt) (different qs tt) (apart (anyMiddle nearlyFull) nearlyFull (sound-links nearly) qs tt) fit in
       let e : _≡_ {A = ℕ} 8 0 = one-answer nearly i rows-decide in
       omega arith;
   full-size = λ f.
       let qs : List Request = opening 1 0 1 2 ∷ [] in
       let b : Book = empty pair in
-      let i = f short (image b) newest b qs pair-held (omega arith) (small qs tt) (different qs tt) (apart b (sound-links pair-held) qs tt) (room b (sound-links pair-held) qs tt) in
+      let i = f short (image b) newest b (anyMiddle b) qs pair-held (below b) (omega arith) (small qs tt) (different qs tt) (apart (anyMiddle b) b (sound-links pair-held) qs tt) (room (anyMiddle b) b (sound-links pair-held) qs tt) in
       let e : _≡_ {A = ℕ} 12 0 = i .each qs 12 (0 ∷ []) (image b) (reordered-same qs) (decides .full-size) .0 in
       omega arith;
+  low = λ f.
+      let qs : List Request = opening 1 0 1 2 ∷ [] in
+      let b : Book = empty pair in
+      let i = f (image b) newest b 4 qs pair-held (omega arith) (small qs tt) (different qs tt) (apart 4 b (sound-links pair-held) qs tt) (room 4 b (sound-links pair-held) qs tt) in
+      let e : _≡_ {A = ℕ} 25 0 = i .each qs 25 (0 ∷ []) (image b) (reordered-same qs) (decides .low) .0 in
+      omega arith;
+  one-set = λ f.
+      let qs : List Request = opening 1 0 3 2 ∷ [] in
+      unlike tt (f (image (empty square)) newest (empty square) 2 4 qs qs 0 0 (0 ∷ []) (0 ∷ []) (image (overSquare 1)) (image (overSquare 2)) square-held
+      (over-square 2 (omega arith) (room 2 (empty square) (sound-links square-held) qs tt)) (over-square 4 (omega arith) (room 4 (empty square) (sound-links square-held) qs tt))
+      (reordered-same qs) (decides .over-1) (decides .over-2));
 }

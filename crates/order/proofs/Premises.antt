@@ -8,12 +8,12 @@ use Prim.Native.Nat.{ℕ, zero, suc, _+_, _<_, _≤_}
 use native.Mathlib.Omega.{arith}
 use lib.Dec.{T, eqb, leb, ltb}
 use lib.ListN.{length, take, drop}
-use Rattle.rules.specs.Words.{_∈_, Pairwise, Each, total, Tests}
-use Rattle.rules.specs.Topology.{Topology, SoundTopology, hopCount, hopAt, NoClash}
+use Rattle.rules.specs.Words.{NoBitFrom, _∈_, Pairwise, Each, total, Tests}
+use Rattle.rules.specs.Topology.{Topology, nodes, SoundTopology, hopCount, hopAt, NoClash}
 use Rattle.rules.specs.Book.{Row, Book, hopsInAll, mostStreams, mostHops}
 use Rattle.rules.specs.Placing.{Asked, Planned}
 use Rattle.rules.specs.Image.{newest, FullSize, encode, Stored}
-use Rattle.rules.specs.Calls.{Wrote, Request, mostRequests, anyMiddle, Work, InOrder, Post}
+use Rattle.rules.specs.Calls.{Wrote, Request, mostRequests, Work, InOrder, Post}
 use Rattle.rules.specs.Calls.Request.{Open, Close}
 use Rattle.rules.specs.Order.{idOf, IdInRange, DifferentIds, RouteOf, Apart, opens, Asks, Room, current, Posting}
 use Rattle.rules.proofs.Tests.{never, alike, tests-and, tests-not, tests-eq, tests-le, tests-lt, allBelow, allOf, tests-all, tests-every}
@@ -57,12 +57,12 @@ abbrev storedRoutes : ℕ → List Row → List (List ℕ)
 storedRoutes id [] = []
 storedRoutes id (r ∷ rs) = cond (eqb (r .id) id) (r .route ∷ storedRoutes id rs) (storedRoutes id rs)
 
-abbrev givenRoutes : Book → Asked → List (List ℕ)
-givenRoutes b q = orGiven (routesOf (b .site .links) (anyMiddle b) q) []
+abbrev givenRoutes : ℕ → Book → Asked → List (List ℕ)
+givenRoutes mains b q = orGiven (routesOf (b .site .links) mains q) []
 
-abbrev routesIn : Book → Request → List (List ℕ)
-routesIn b (Open q) = givenRoutes b q
-routesIn b (Close id) = storedRoutes id (b .rows)
+abbrev routesIn : ℕ → Book → Request → List (List ℕ)
+routesIn mains b (Open q) = givenRoutes mains b q
+routesIn mains b (Close id) = storedRoutes id (b .rows)
 
 stored-routes : (rows : List Row) (r : Row) → r ∈ rows → r .route ∈ storedRoutes (r .id) rows
 stored-routes [] r m = absurd m
@@ -76,9 +76,9 @@ stored-routes (x ∷ xs) r m = go (eqb (x .id) (r .id)) (tests-eq (x .id) (r .id
     go false a f (inr k) = f k
 
 -- the first routes; of a close all that are stored
-abbrev firstsIn : Book → Request → List (List ℕ)
-firstsIn b (Open q) = take 1 (givenRoutes b q)
-firstsIn b (Close id) = storedRoutes id (b .rows)
+abbrev firstsIn : ℕ → Book → Request → List (List ℕ)
+firstsIn mains b (Open q) = take 1 (givenRoutes mains b q)
+firstsIn mains b (Close id) = storedRoutes id (b .rows)
 
 -- the test passes of every route of each request and every route of each later one
 abbrev allRoutes : (Request → List (List ℕ)) → (List ℕ → List ℕ → Bool) → List Request → Bool
@@ -111,66 +111,66 @@ tests-no-node p p′ =
     (λ g a m k. g a m a k refl) (λ g a m c k e. g a m (subst (λ (v : ℕ). v ∈ p′) (sym e) k))
 
 -- HOPS ASKED FOR
-abbrev hopsAsked : Book → Request → ℕ
-hopsAsked b (Open q) = total hopCount (givenRoutes b q)
-hopsAsked b (Close id) = 0
+abbrev hopsAsked : ℕ → Book → Request → ℕ
+hopsAsked mains b (Open q) = total hopCount (givenRoutes mains b q)
+hopsAsked mains b (Close id) = 0
 
-abbrev allAsked : Book → List Request → List ℕ
-allAsked b [] = []
-allAsked b (q ∷ qs) = hopsAsked b q ∷ allAsked b qs
+abbrev allAsked : ℕ → Book → List Request → List ℕ
+allAsked mains b [] = []
+allAsked mains b (q ∷ qs) = hopsAsked mains b q ∷ allAsked mains b qs
 
 -- so many rows fit, and the hops asked for
-abbrev fits : Book → List Request → ℕ → Bool
-fits b qs n = leb (length (b .rows) + n) mostStreams && leb (hopsInAll (b .rows) + total (λ (k : ℕ). k) (allAsked b qs)) mostHops
+abbrev fits : ℕ → Book → List Request → ℕ → Bool
+fits mains b qs n = leb (length (b .rows) + n) mostStreams && leb (hopsInAll (b .rows) + total (λ (k : ℕ). k) (allAsked mains b qs)) mostHops
 
 -- ON A BOOK of sound links
-module _ (b : Book) (sound : SoundTopology (b .site .links)) where
-  given-routes : (q : Asked) (ps : List (List ℕ)) → Planned (b .site .links) (anyMiddle b) q ps → givenRoutes b q ≡ ps
-  given-routes q ps h = go (routesOf (b .site .links) (anyMiddle b) q) (routes-found (b .site .links) (anyMiddle b) q sound)
+module _ (mains : ℕ) (b : Book) (sound : SoundTopology (b .site .links)) where
+  given-routes : (q : Asked) (ps : List (List ℕ)) → Planned (b .site .links) mains q ps → givenRoutes mains b q ≡ ps
+  given-routes q ps h = go (routesOf (b .site .links) mains q) (routes-found (b .site .links) mains q sound)
     where
-      go : (o : Option (List (List ℕ))) → Found (Planned (b .site .links) (anyMiddle b) q) (NotPlanned (b .site .links) (anyMiddle b) q) o → orGiven o [] ≡ ps
-      go none g = absurd (planned-route (b .site .links) (anyMiddle b) q h g)
+      go : (o : Option (List (List ℕ))) → Found (Planned (b .site .links) mains q) (NotPlanned (b .site .links) mains q) o → orGiven o [] ≡ ps
+      go none g = absurd (planned-route (b .site .links) mains q h g)
       go (some v) g = planned-unique g h
 
-  route-in : (q : Request) (p : List ℕ) → RouteOf b q p → p ∈ routesIn b q
+  route-in : (q : Request) (p : List ℕ) → RouteOf mains b q p → p ∈ routesIn mains b q
   route-in (Open q) p (ps, h, m) = subst (λ (v : List (List ℕ)). p ∈ v) (sym (given-routes q ps h)) m
   route-in (Close id) p (r, m, e, f) =
       subst (λ (v : ℕ). p ∈ storedRoutes v (b .rows)) e (subst (λ (v : List ℕ). v ∈ storedRoutes (r .id) (b .rows)) (sym f) (stored-routes (b .rows) r m))
 
-  first-in : (q : Request) (p : List ℕ) → FirstRouteOf b q p → p ∈ firstsIn b q
+  first-in : (q : Request) (p : List ℕ) → FirstRouteOf mains b q p → p ∈ firstsIn mains b q
   first-in (Open q) p (ps, h, m) = subst (λ (v : List (List ℕ)). p ∈ take 1 v) (sym (given-routes q ps h)) m
   first-in (Close id) p (r, m, e, w, f) = route-in (Close id) p (r, m, e, f)
 
-  pub apart : (qs : List Request) → T (allRoutes (routesIn b) (noClash (b .site .hearing)) qs) → Pairwise (Apart b) qs
-  apart = routes (RouteOf b) (routesIn b) route-in (noClash (b .site .hearing)) (NoClash (b .site .hearing)) (tests-no-clash (b .site .hearing))
+  pub apart : (qs : List Request) → T (allRoutes (routesIn mains b) (noClash (b .site .hearing)) qs) → Pairwise (Apart mains b) qs
+  apart = routes (RouteOf mains b) (routesIn mains b) route-in (noClash (b .site .hearing)) (NoClash (b .site .hearing)) (tests-no-clash (b .site .hearing))
 
-  pub firsts-apart : (qs : List Request) → T (allRoutes (firstsIn b) (noClash (b .site .hearing)) qs) → Pairwise (FirstsApart b) qs
-  firsts-apart = routes (FirstRouteOf b) (firstsIn b) first-in (noClash (b .site .hearing)) (NoClash (b .site .hearing)) (tests-no-clash (b .site .hearing))
+  pub firsts-apart : (qs : List Request) → T (allRoutes (firstsIn mains b) (noClash (b .site .hearing)) qs) → Pairwise (FirstsApart mains b) qs
+  firsts-apart = routes (FirstRouteOf mains b) (firstsIn mains b) first-in (noClash (b .site .hearing)) (NoClash (b .site .hearing)) (tests-no-clash (b .site .hearing))
 
-  pub no-node : (qs : List Request) → T (allRoutes (routesIn b) noNode qs) → Pairwise (NoNodeShared b) qs
-  no-node = routes (RouteOf b) (routesIn b) route-in noNode (λ p p′. (a : ℕ) → a ∈ p → a ∈ p′ → ⊥) tests-no-node
+  pub no-node : (qs : List Request) → T (allRoutes (routesIn mains b) noNode qs) → Pairwise (NoNodeShared mains b) qs
+  no-node = routes (RouteOf mains b) (routesIn mains b) route-in noNode (λ p p′. (a : ℕ) → a ∈ p → a ∈ p′ → ⊥) tests-no-node
 
-  all-asked : (qs : List Request) → Each (Asks b) qs (allAsked b qs)
+  all-asked : (qs : List Request) → Each (Asks mains b) qs (allAsked mains b qs)
   all-asked [] = tt
   all-asked (Open q ∷ qs) = (λ ps h. let e = ap (total hopCount) (given-routes q ps h) in omega (arith, e), all-asked qs)
   all-asked (Close id ∷ qs) = (tt, all-asked qs)
 
   tests-room : (qs : List Request) (n : ℕ)
-      → Tests (fits b qs n) ((length (b .rows) + n ≤ mostStreams) × (hopsInAll (b .rows) + total (λ (k : ℕ). k) (allAsked b qs) ≤ mostHops))
-  tests-room qs n = tests-and (tests-le (length (b .rows) + n) mostStreams) (tests-le (hopsInAll (b .rows) + total (λ (k : ℕ). k) (allAsked b qs)) mostHops)
+      → Tests (fits mains b qs n) ((length (b .rows) + n ≤ mostStreams) × (hopsInAll (b .rows) + total (λ (k : ℕ). k) (allAsked mains b qs) ≤ mostHops))
+  tests-room qs n = tests-and (tests-le (length (b .rows) + n) mostStreams) (tests-le (hopsInAll (b .rows) + total (λ (k : ℕ). k) (allAsked mains b qs)) mostHops)
 
-  pub room : (qs : List Request) → T (fits b qs (total opens qs)) → Room b qs
-  room qs h = let t = tests-room qs (total opens qs) .yes (so h) in record { streams = t .0; asked = allAsked b qs; asks = all-asked qs; hops = t .1 }
+  pub room : (qs : List Request) → T (fits mains b qs (total opens qs)) → Room mains b qs
+  room qs h = let t = tests-room qs (total opens qs) .yes (so h) in record { streams = t .0; asked = allAsked mains b qs; asks = all-asked qs; hops = t .1 }
 
-  pub room-for-one : (qs : List Request) → T (fits b qs (length qs)) → RoomForOne b qs
-  room-for-one qs h = let t = tests-room qs (length qs) .yes (so h) in record { streams = t .0; asked = allAsked b qs; asks = all-asked qs; hops = t .1 }
+  pub room-for-one : (qs : List Request) → T (fits mains b qs (length qs)) → RoomForOne mains b qs
+  room-for-one qs h = let t = tests-room qs (length qs) .yes (so h) in record { streams = t .0; asked = allAsked mains b qs; asks = all-asked qs; hops = t .1 }
 
 -- POSTINGS
 
 -- the list, posted with this buffer on bytes, gives this number and these answers, which unmarked stay, and comes to this image
-abbrev pub posts : List ℕ → List ℕ → List Request → ℕ → List ℕ → List ℕ → Bool
-posts out image qs n ns last =
-    let r = post image qs out ns in
+abbrev pub posts : List ℕ → List ℕ → ℕ → List Request → ℕ → List ℕ → List ℕ → Bool
+posts out image mains qs n ns last =
+    let r = post image mains qs out ns in
     allOf (λ (x : ℕ). ltb x 256) image && (eqb (r .whole .number) n && (same (r .answers) ns && same last (current image (r .whole .len) (r .whole .out))))
 
 bytes : (s : List ℕ) → ((x : ℕ) → x ∈ s → x < 256) → Bytes s
@@ -178,10 +178,10 @@ bytes [] h i = omega arith
 bytes (x ∷ xs) h zero = h x (inl refl)
 bytes (x ∷ xs) h (suc i) = bytes xs (λ y m. h y (inr m)) i
 
-pub posted : (Size : List ℕ → Type 0) (out : List ℕ) → Size out → (image : List ℕ) (qs : List Request) (n : ℕ) (ns last : List ℕ) → T (posts out image qs n ns last)
-    → Posting Size image qs n ns last
-posted Size out fit image qs n ns last h =
-    let r = post image qs out ns in
+pub posted : (Size : List ℕ → Type 0) (out : List ℕ) → Size out → (image : List ℕ) (mains : ℕ) (qs : List Request) (n : ℕ) (ns last : List ℕ) → T (posts out image mains qs n ns last)
+    → Posting Size image mains qs n ns last
+posted Size out fit image mains qs n ns last h =
+    let r = post image mains qs out ns in
     let t = tests-and (tests-every (λ x. ltb x 256) (λ x. tests-lt x 256) image)
     (tests-and (tests-eq (r .whole .number) n) (tests-and (tests-same (r .answers) ns) (tests-same last (current image (r .whole .len) (r .whole .out))))) .yes (so h) in
     record {
@@ -190,18 +190,18 @@ posted Size out fit image qs n ns last h =
       before = ns;
       len = r .whole .len;
       size = fit;
-      post = subst (λ (k : ℕ). Post image qs out ns k (r .whole .len) (r .whole .out) ns) (t .1 .0)
-          (subst (Post image qs out ns (r .whole .number) (r .whole .len) (r .whole .out)) (t .1 .1 .0) (post-computed image (bytes image (t .0)) out qs ns));
+      post = subst (λ (k : ℕ). Post image mains qs out ns k (r .whole .len) (r .whole .out) ns) (t .1 .0)
+          (subst (Post image mains qs out ns (r .whole .number) (r .whole .len) (r .whole .out)) (t .1 .1 .0) (post-computed image (bytes image (t .0)) out mains qs ns));
       last-is = t .1 .1 .1;
     }
 
 -- and posted on an image that is known to hold the book, where a record is done
 pub worked : (Size : List ℕ → Type 0) (out : List ℕ) → Size out → FullSize out
-    → {image : List ℕ} {v : ℕ} {b : Book} → Stored image v b → (qs : List Request) → length qs ≤ mostRequests → (ns last : List ℕ) → 0 ∈ ns
-    → T (same (answersOf (anyMiddle b) b qs) ns && same (encode newest (lastBook (anyMiddle b) b qs)) last) → Posting Size image qs 0 ns last
-worked Size out fit full {image} {v} {b} s qs few ns last z h =
-    let c : Book = lastBook (anyMiddle b) b qs in
-    let t = tests-and (tests-same (answersOf (anyMiddle b) b qs) ns) (tests-same (encode newest c) last) .yes (so h) in
+    → {image : List ℕ} {v : ℕ} {b : Book} {mains : ℕ} → Stored image v b → NoBitFrom (nodes (b .site .links)) mains → (qs : List Request) → length qs ≤ mostRequests → (ns last : List ℕ) → 0 ∈ ns
+    → T (same (answersOf mains b qs) ns && same (encode newest (lastBook mains b qs)) last) → Posting Size image mains qs 0 ns last
+worked Size out fit full {image} {v} {b} {mains} s low qs few ns last z h =
+    let c : Book = lastBook mains b qs in
+    let t = tests-and (tests-same (answersOf mains b qs) ns) (tests-same (encode newest c) last) .yes (so h) in
     let out′ : List ℕ = encode newest c ++ drop (length (encode newest c)) out in
     let wrote : Wrote (encode newest c) out (length (encode newest c)) out′ = record { length-is = refl; buffer = refl } in
     record {
@@ -211,7 +211,7 @@ worked Size out fit full {image} {v} {b} s qs few ns last z h =
       len = length (encode newest c);
       size = fit;
       post = record {
-        says = inr (v, b, s, inr (λ k. omega (arith, k, few), inr (λ k. omega (arith, k, full), refl)));
+        says = inr (v, b, s, inr (λ f. f low, inr (λ k. omega (arith, k, few), inr (λ k. omega (arith, k, full), refl))));
         refused = λ f. absurd (f refl);
         done = λ e. (
           v,
@@ -219,7 +219,7 @@ worked Size out fit full {image} {v} {b} s qs few ns last z h =
           s,
           (
             c,
-            subst (λ (ks : List ℕ). InOrder (Work (anyMiddle b)) b qs ks c) (t .0) (in-order-computed (anyMiddle b) b (workable (s .lawful)) qs),
+            subst (λ (ks : List ℕ). InOrder (Work mains) b qs ks c) (t .0) (in-order-computed mains b (workable (s .lawful)) qs),
             record { some = λ k. wrote; none = λ f. absurd (f z) },
           ),
         );

@@ -3,35 +3,36 @@ use mathlib.Core.Path.{_≡_}
 use mathlib.Core.Logic.{_↔_}
 use mathlib.Core.List.{List, [], _∷_}
 use Prim.Native.Nat.{ℕ}
-use Rattle.rules.specs.Words.{_∈_}
-use Rattle.rules.specs.Topology.{NoClash}
+use Rattle.rules.specs.Words.{NoBitFrom, _∈_}
+use Rattle.rules.specs.Topology.{nodes, NoClash}
 use Rattle.rules.specs.Book.{Row, Book, Known}
 use Rattle.rules.specs.Placing.{Full}
 use Rattle.rules.specs.Image.{FullSize, Stored}
-use Rattle.rules.specs.Calls.{Request, anyMiddle, OfRoutes}
+use Rattle.rules.specs.Calls.{Request, OfRoutes}
 use Rattle.rules.specs.Calls.Request.{Open, Close}
 use Rattle.rules.specs.Order.{idOf, IdInRange, RouteOf, Posting, SameStream}
 
 -- the row clashes with a route of the open; a close has no hop to place, so none clashes with it
-abbrev pub Clashing : Book → Request → Row → Type 0
-Clashing b (Open q) r = (p : List ℕ) × RouteOf b (Open q) p × (NoClash (b .site .hearing) p (r .route) → ⊥)
-Clashing b (Close id) r = ⊥
+abbrev pub Clashing : ℕ → Book → Request → Row → Type 0
+Clashing mains b (Open q) r = (p : List ℕ) × RouteOf mains b (Open q) p × (NoClash (b .site .hearing) p (r .route) → ⊥)
+Clashing mains b (Close id) r = ⊥
 
 -- 8 applies to the open
-abbrev pub FullFor : Book → Request → Type 0
-FullFor b (Open q) = OfRoutes (anyMiddle b) q b (Full b)
-FullFor b (Close id) = ⊥
+abbrev pub FullFor : ℕ → Book → Request → Type 0
+FullFor mains b (Open q) = OfRoutes mains q b (Full b)
+FullFor mains b (Close id) = ⊥
 
 -- two books of one site have the id or not, have the same rows that clash with the request's routes, and room or not
-pub record Agree (b c : Book) (q : Request) : Type 0 where
+pub record Agree (mains : ℕ) (b c : Book) (q : Request) : Type 0 where
   pub site : b .site ≡ c .site
   pub known : Known b (idOf q) ↔ Known c (idOf q)
-  pub clashing : (r : Row) → Clashing b q r → (r ∈ b .rows) ↔ (r ∈ c .rows)
-  pub room : FullFor b q ↔ FullFor c q
+  pub clashing : (r : Row) → Clashing mains b q r → (r ∈ b .rows) ↔ (r ∈ c .rows)
+  pub room : FullFor mains b q ↔ FullFor mains c q
 
--- on nothing else: books that agree so give the request one answer, and where it is done one stream
+-- on nothing else: with one set of nodes, none of them from N up, books that agree so give the request one answer, and where it is done one stream
 abbrev pub Depends : Type 0
 Depends =
-    (image image′ : List ℕ) (v w : ℕ) (b c : Book) (q : Request) → Stored image v b → Stored image′ w c → IdInRange q → Agree b c q
-    → (n n′ : ℕ) (answers answers′ last last′ : List ℕ) → Posting FullSize image (q ∷ []) n answers last → Posting FullSize image′ (q ∷ []) n′ answers′ last′
+    (image image′ : List ℕ) (v w : ℕ) (b c : Book) (mains : ℕ) (q : Request) → Stored image v b → Stored image′ w c → NoBitFrom (nodes (b .site .links)) mains
+    → IdInRange q → Agree mains b c q
+    → (n n′ : ℕ) (answers answers′ last last′ : List ℕ) → Posting FullSize image mains (q ∷ []) n answers last → Posting FullSize image′ mains (q ∷ []) n′ answers′ last′
     → (answers ≡ answers′) × (answers ≡ 0 ∷ [] → SameStream (idOf q) last last′)

@@ -3,15 +3,15 @@ use mathlib.Core.Path.{_≡_}
 use mathlib.Core.List.{List, [], _∷_, _++_}
 use Prim.Native.Nat.{ℕ, zero, suc, _*_, _-_, _≤_}
 use lib.ListN.{length, replicate}
-use Rattle.rules.specs.Words.{_∈_, Pairwise, Reordered}
-use Rattle.rules.specs.Topology.{Topology}
+use Rattle.rules.specs.Words.{NoBitFrom, _∈_, Pairwise, Reordered}
+use Rattle.rules.specs.Topology.{Topology, nodes}
 use Rattle.rules.specs.Book.{Row, Book}
 use Rattle.rules.specs.Image.{newest, longestImage, FullSize, encode, Stored}
 use Rattle.rules.specs.Calls.{Request, mostRequests}
 use Rattle.rules.specs.Calls.Request.{Close}
 use Rattle.rules.specs.Order.{IdInRange, DifferentIds, Apart, Room, Posting}
 use Rattle.rules.proofs.Reading.{withRows}
-use Rattle.model.specs.Examples.{planA, lineA, pair, bookOn, empty, opening, openingTwo}
+use Rattle.model.specs.Examples.{planA, lineA, pair, bookOn, empty, square, opening, openingTwo, anyMiddle}
 
 -- a stream of one hop, on one route
 abbrev pub oneHop : ℕ → ℕ → ℕ → ℕ → ℕ → Row
@@ -33,17 +33,18 @@ image = encode newest
 abbrev pub JustFull : List ℕ → Type 0
 JustFull out = length out ≡ longestImage newest
 
--- the premises hold of the requests on the image of a book, and both orders give one answer for each and one last image
-pub record Met (v : ℕ) (b : Book) (qs : List Request) (ns last : List ℕ) (ps : List Request) (ms : List ℕ) : Type 0 where
+-- the premises hold of the requests on the image of a book, with the set, and both orders give one answer for each and one last image
+pub record Met (v : ℕ) (b : Book) (mains : ℕ) (qs : List Request) (ns last : List ℕ) (ps : List Request) (ms : List ℕ) : Type 0 where
   pub held : Stored (encode v b) v b
+  pub low : NoBitFrom (nodes (b .site .links)) mains
   pub most : length qs ≤ mostRequests
   pub small : (q : Request) → q ∈ qs → IdInRange q
   pub ids : Pairwise DifferentIds qs
-  pub apart : Pairwise (Apart b) qs
-  pub room : Room b qs
+  pub apart : Pairwise (Apart mains b) qs
+  pub room : Room mains b qs
   pub reordered : Reordered qs ps
-  pub forth : Posting JustFull (encode v b) qs 0 ns last
-  pub back : Posting JustFull (encode v b) ps 0 ms last
+  pub forth : Posting JustFull (encode v b) mains qs 0 ns last
+  pub back : Posting JustFull (encode v b) mains ps 0 ms last
 
 -- three pairs of linked nodes
 abbrev pub threePairs : Topology
@@ -78,6 +79,19 @@ onBoth = openingTwo 1 0 3 2 ∷ Close 3 ∷ openingTwo 65535 8 9 2 ∷ []
 
 abbrev pub onBothBack : List Request
 onBothBack = openingTwo 65535 8 9 2 ∷ Close 3 ∷ openingTwo 1 0 3 2 ∷ []
+
+-- with only the nodes 2 and 6 on mains: of the two ways across a square the higher is open, and there is no second
+abbrev pub mainsBoth : ℕ
+mainsBoth = 68
+
+abbrev pub onMains : List Request
+onMains = opening 1 0 3 2 ∷ openingTwo 2 4 7 2 ∷ Close 3 ∷ []
+
+abbrev pub onMainsBack : List Request
+onMainsBack = Close 3 ∷ openingTwo 2 4 7 2 ∷ opening 1 0 3 2 ∷ []
+
+abbrev pub acrossMains : Book
+acrossMains = bookOn planA twoSquares (record { id = 1; way = 1; period = 2; route = 0 ∷ 2 ∷ 3 ∷ []; offsets = 2 ∷ 3 ∷ [] } ∷ [])
 
 -- THE LIMITS: 64 requests, 64 rows, ids up to 65,535
 
@@ -145,23 +159,25 @@ onLongBack = Close 1 ∷ opening 65535 16 18 100 ∷ []
 -- where all premises are kept the order decides nothing
 pub record Kept : Type 0 where
   -- of an image in version 1, written in the newest
-  pub old : Met 1 before requests (0 ∷ 0 ∷ 9 ∷ 3 ∷ 7 ∷ []) (image after) backwards (7 ∷ 3 ∷ 9 ∷ 0 ∷ 0 ∷ [])
+  pub old : Met 1 before (anyMiddle before) requests (0 ∷ 0 ∷ 9 ∷ 3 ∷ 7 ∷ []) (image after) backwards (7 ∷ 3 ∷ 9 ∷ 0 ∷ 0 ∷ [])
   -- where none is done the image stays as it came
-  pub refused : Met 1 before (opening 6 5 4 1 ∷ Close 9 ∷ []) (9 ∷ 3 ∷ []) (encode 1 before) (Close 9 ∷ opening 6 5 4 1 ∷ []) (3 ∷ 9 ∷ [])
+  pub refused : Met 1 before (anyMiddle before) (opening 6 5 4 1 ∷ Close 9 ∷ []) (9 ∷ 3 ∷ []) (encode 1 before) (Close 9 ∷ opening 6 5 4 1 ∷ []) (3 ∷ 9 ∷ [])
   -- streams on both routes come and go
-  pub seconds : Met newest beforeBoth onBoth (0 ∷ 0 ∷ 18 ∷ []) (image afterBoth) onBothBack (18 ∷ 0 ∷ 0 ∷ [])
+  pub seconds : Met newest beforeBoth (anyMiddle beforeBoth) onBoth (0 ∷ 0 ∷ 18 ∷ []) (image afterBoth) onBothBack (18 ∷ 0 ∷ 0 ∷ [])
+  -- a set with few of the nodes
+  pub mains : Met newest (bookOn planA twoSquares []) mainsBoth onMains (0 ∷ 18 ∷ 3 ∷ []) (image acrossMains) onMainsBack (3 ∷ 18 ∷ 0 ∷ [])
   -- 64 requests and 64 rows
-  pub limits : Met newest nearlyFull (openingTwo 65535 2 5 100 ∷ closes 63 62) (0 ∷ threes 63) (image (fullWith 65535))
+  pub limits : Met newest nearlyFull (anyMiddle nearlyFull) (openingTwo 65535 2 5 100 ∷ closes 63 62) (0 ∷ threes 63) (image (fullWith 65535))
       (closes 63 62 ++ (openingTwo 65535 2 5 100 ∷ [])) (threes 63 ++ (0 ∷ []))
   -- 512 hops before the close gives 15 of them back
-  pub hops : Met newest longOnes onLong (0 ∷ 0 ∷ []) (image shortAfter) onLongBack (0 ∷ 0 ∷ [])
+  pub hops : Met newest longOnes (anyMiddle longOnes) onLong (0 ∷ 0 ∷ []) (image shortAfter) onLongBack (0 ∷ 0 ∷ [])
 
 -- ALL BUT ONE
 
 -- two requests on a book in both orders: their answers, and the last book
 pub record BothOrders (b : Book) (q q′ : Request) (ns : List ℕ) (last : Book) (ns′ : List ℕ) (last′ : Book) : Type 0 where
-  pub forth : Posting FullSize (image b) (q ∷ q′ ∷ []) 0 ns (image last)
-  pub back : Posting FullSize (image b) (q′ ∷ q ∷ []) 0 ns′ (image last′)
+  pub forth : Posting FullSize (image b) (anyMiddle b) (q ∷ q′ ∷ []) 0 ns (image last)
+  pub back : Posting FullSize (image b) (anyMiddle b) (q′ ∷ q ∷ []) 0 ns′ (image last′)
 
 -- a ring of five nodes, and two more linked to the node 3 of it
 abbrev pub ring : Topology
@@ -186,6 +202,10 @@ goneRound = bookOn planA ring (
 abbrev pub oneMore : Book
 oneMore = withRows nearlyFull (streams 62 0 ++ (oneHop 64 100 0 1 62 ∷ []))
 
+-- a stream over one middle of the square
+abbrev pub overSquare : ℕ → Book
+overSquare a = bookOn planA square (record { id = 1; way = 1; period = 2; route = 0 ∷ a ∷ 3 ∷ []; offsets = 2 ∷ 3 ∷ [] } ∷ [])
+
 -- what just one premise less lets the order decide, or the call refuse
 pub record Decides : Type 0 where
   -- one id is opened and closed
@@ -200,6 +220,11 @@ pub record Decides : Type 0 where
   -- there is room for a row of each, and one of them has two
   pub rows : BothOrders nearlyFull (openingTwo 63 2 5 100) (opening 64 0 1 100) (0 ∷ 8 ∷ []) (fullWith 63) (0 ∷ 8 ∷ []) oneMore
   -- of 65 requests the list is refused as a whole, and no record is marked
-  pub most : Posting FullSize (image (empty pair)) (closes 65 0) 26 (threes 65) (image (empty pair))
+  pub most : Posting FullSize (image (empty pair)) (anyMiddle (empty pair)) (closes 65 0) 26 (threes 65) (image (empty pair))
   -- and so it is with a buffer that is a byte shorter
-  pub full-size : Posting (λ (out : List ℕ). length out ≡ longestImage newest - 1) (image (empty pair)) (opening 1 0 1 2 ∷ []) 12 (0 ∷ []) (image (empty pair))
+  pub full-size : Posting (λ (out : List ℕ). length out ≡ longestImage newest - 1) (image (empty pair)) (anyMiddle (empty pair)) (opening 1 0 1 2 ∷ []) 12 (0 ∷ []) (image (empty pair))
+  -- and so it is with a set that has the node 2 of two nodes
+  pub low : Posting FullSize (image (empty pair)) 4 (opening 1 0 1 2 ∷ []) 25 (0 ∷ []) (image (empty pair))
+  -- the same open over the one middle of the square, and over the other
+  pub over-1 : Posting FullSize (image (empty square)) 2 (opening 1 0 3 2 ∷ []) 0 (0 ∷ []) (image (overSquare 1))
+  pub over-2 : Posting FullSize (image (empty square)) 4 (opening 1 0 3 2 ∷ []) 0 (0 ∷ []) (image (overSquare 2))

@@ -3,77 +3,90 @@ use mathlib.Core.Path.{_≡_}
 use mathlib.Core.List.{List, [], _∷_}
 use Prim.Native.Nat.{ℕ, _+_, _≤_}
 use lib.ListN.{length, take}
-use Rattle.rules.specs.Words.{_∈_, Pairwise, Each, total}
-use Rattle.rules.specs.Topology.{NoClash}
+use Rattle.rules.specs.Words.{NoBitFrom, _∈_, Pairwise, Reordered, Each, total}
+use Rattle.rules.specs.Topology.{nodes, NoClash}
 use Rattle.rules.specs.Book.{Row, Book, hopsInAll, mostStreams, mostHops}
 use Rattle.rules.specs.Image.{FullSize, Stored}
-use Rattle.rules.specs.Calls.{Request, mostRequests, anyMiddle, OfRoutes}
+use Rattle.rules.specs.Calls.{Request, mostRequests, OfRoutes}
 use Rattle.rules.specs.Calls.Request.{Open, Close}
 use Rattle.rules.specs.Order.{IdInRange, DifferentIds, RouteOf, Apart, Asks, Room, Posting, InAnyOrder}
 
 -- there may be over 64 requests
 abbrev pub WithoutMost : Type 0
 WithoutMost =
-    (image : List ℕ) (v : ℕ) (b : Book) (qs : List Request) → Stored image v b → ((q : Request) → q ∈ qs → IdInRange q)
-    → Pairwise DifferentIds qs → Pairwise (Apart b) qs → Room b qs → InAnyOrder FullSize image qs
+    (image : List ℕ) (v : ℕ) (b : Book) (mains : ℕ) (qs : List Request) → Stored image v b → NoBitFrom (nodes (b .site .links)) mains → ((q : Request) → q ∈ qs → IdInRange q)
+    → Pairwise DifferentIds qs → Pairwise (Apart mains b) qs → Room mains b qs → InAnyOrder FullSize image mains qs
 
 -- ids may repeat
 abbrev pub WithoutIds : Type 0
 WithoutIds =
-    (image : List ℕ) (v : ℕ) (b : Book) (qs : List Request) → Stored image v b → length qs ≤ mostRequests → ((q : Request) → q ∈ qs → IdInRange q)
-    → Pairwise (Apart b) qs → Room b qs → InAnyOrder FullSize image qs
+    (image : List ℕ) (v : ℕ) (b : Book) (mains : ℕ) (qs : List Request) → Stored image v b → NoBitFrom (nodes (b .site .links)) mains → length qs ≤ mostRequests → ((q : Request) → q ∈ qs → IdInRange q)
+    → Pairwise (Apart mains b) qs → Room mains b qs → InAnyOrder FullSize image mains qs
 
 -- the routes share no node, though a receiver of one may hear a sender of another
-abbrev pub NoNodeShared : Book → Request → Request → Type 0
-NoNodeShared b q q′ = (p p′ : List ℕ) → RouteOf b q p → RouteOf b q′ p′ → (a : ℕ) → a ∈ p → a ∈ p′ → ⊥
+abbrev pub NoNodeShared : ℕ → Book → Request → Request → Type 0
+NoNodeShared mains b q q′ = (p p′ : List ℕ) → RouteOf mains b q p → RouteOf mains b q′ p′ → (a : ℕ) → a ∈ p → a ∈ p′ → ⊥
 
 abbrev pub WithoutHearing : Type 0
 WithoutHearing =
-    (image : List ℕ) (v : ℕ) (b : Book) (qs : List Request) → Stored image v b → length qs ≤ mostRequests → ((q : Request) → q ∈ qs → IdInRange q)
-    → Pairwise DifferentIds qs → Pairwise (NoNodeShared b) qs → Room b qs → InAnyOrder FullSize image qs
+    (image : List ℕ) (v : ℕ) (b : Book) (mains : ℕ) (qs : List Request) → Stored image v b → NoBitFrom (nodes (b .site .links)) mains → length qs ≤ mostRequests → ((q : Request) → q ∈ qs → IdInRange q)
+    → Pairwise DifferentIds qs → Pairwise (NoNodeShared mains b) qs → Room mains b qs → InAnyOrder FullSize image mains qs
 
 -- a request's first route alone
-abbrev pub FirstRouteOf : Book → Request → List ℕ → Type 0
-FirstRouteOf b (Open q) p = OfRoutes (anyMiddle b) q b (λ (routes : List (List ℕ)). p ∈ take 1 routes)
-FirstRouteOf b (Close id) p = (r : Row) × (r ∈ b .rows) × (r .id ≡ id) × (r .way ≡ 1) × (p ≡ r .route)
+abbrev pub FirstRouteOf : ℕ → Book → Request → List ℕ → Type 0
+FirstRouteOf mains b (Open q) p = OfRoutes mains q b (λ (routes : List (List ℕ)). p ∈ take 1 routes)
+FirstRouteOf mains b (Close id) p = (r : Row) × (r ∈ b .rows) × (r .id ≡ id) × (r .way ≡ 1) × (p ≡ r .route)
 
 -- no hop of a first route clashes with one of another, though a hop of a second route may
-abbrev pub FirstsApart : Book → Request → Request → Type 0
-FirstsApart b q q′ = (p p′ : List ℕ) → FirstRouteOf b q p → FirstRouteOf b q′ p′ → NoClash (b .site .hearing) p p′
+abbrev pub FirstsApart : ℕ → Book → Request → Request → Type 0
+FirstsApart mains b q q′ = (p p′ : List ℕ) → FirstRouteOf mains b q p → FirstRouteOf mains b q′ p′ → NoClash (b .site .hearing) p p′
 
 abbrev pub WithoutSeconds : Type 0
 WithoutSeconds =
-    (image : List ℕ) (v : ℕ) (b : Book) (qs : List Request) → Stored image v b → length qs ≤ mostRequests → ((q : Request) → q ∈ qs → IdInRange q)
-    → Pairwise DifferentIds qs → Pairwise (FirstsApart b) qs → Room b qs → InAnyOrder FullSize image qs
+    (image : List ℕ) (v : ℕ) (b : Book) (mains : ℕ) (qs : List Request) → Stored image v b → NoBitFrom (nodes (b .site .links)) mains → length qs ≤ mostRequests → ((q : Request) → q ∈ qs → IdInRange q)
+    → Pairwise DifferentIds qs → Pairwise (FirstsApart mains b) qs → Room mains b qs → InAnyOrder FullSize image mains qs
 
 -- there is room for the requests that are done alone
-pub record RoomForDone (image : List ℕ) (b : Book) (qs : List Request) : Type 0 where
+pub record RoomForDone (image : List ℕ) (mains : ℕ) (b : Book) (qs : List Request) : Type 0 where
   pub done : List Request
-  pub all-done : (q : Request) → q ∈ qs → (last : List ℕ) → Posting FullSize image (q ∷ []) 0 (0 ∷ []) last → q ∈ done
-  pub room : Room b done
+  pub all-done : (q : Request) → q ∈ qs → (last : List ℕ) → Posting FullSize image mains (q ∷ []) 0 (0 ∷ []) last → q ∈ done
+  pub room : Room mains b done
 
 abbrev pub WithRoomForDone : Type 0
 WithRoomForDone =
-    (image : List ℕ) (v : ℕ) (b : Book) (qs : List Request) → Stored image v b → length qs ≤ mostRequests → ((q : Request) → q ∈ qs → IdInRange q)
-    → Pairwise DifferentIds qs → Pairwise (Apart b) qs → RoomForDone image b qs → InAnyOrder FullSize image qs
+    (image : List ℕ) (v : ℕ) (b : Book) (mains : ℕ) (qs : List Request) → Stored image v b → NoBitFrom (nodes (b .site .links)) mains → length qs ≤ mostRequests → ((q : Request) → q ∈ qs → IdInRange q)
+    → Pairwise DifferentIds qs → Pairwise (Apart mains b) qs → RoomForDone image mains b qs → InAnyOrder FullSize image mains qs
 
 -- there is room for a row of each, and for all hops
-pub record RoomForOne (b : Book) (qs : List Request) : Type 0 where
+pub record RoomForOne (mains : ℕ) (b : Book) (qs : List Request) : Type 0 where
   pub streams : length (b .rows) + length qs ≤ mostStreams
   pub asked : List ℕ
-  pub asks : Each (Asks b) qs asked
+  pub asks : Each (Asks mains b) qs asked
   pub hops : hopsInAll (b .rows) + total (λ (k : ℕ). k) asked ≤ mostHops
 
 abbrev pub WithRoomForOne : Type 0
 WithRoomForOne =
-    (image : List ℕ) (v : ℕ) (b : Book) (qs : List Request) → Stored image v b → length qs ≤ mostRequests → ((q : Request) → q ∈ qs → IdInRange q)
-    → Pairwise DifferentIds qs → Pairwise (Apart b) qs → RoomForOne b qs → InAnyOrder FullSize image qs
+    (image : List ℕ) (v : ℕ) (b : Book) (mains : ℕ) (qs : List Request) → Stored image v b → NoBitFrom (nodes (b .site .links)) mains → length qs ≤ mostRequests → ((q : Request) → q ∈ qs → IdInRange q)
+    → Pairwise DifferentIds qs → Pairwise (Apart mains b) qs → RoomForOne mains b qs → InAnyOrder FullSize image mains qs
 
 -- all buffers have n bytes
 abbrev pub WithoutFullSize : Type 0
 WithoutFullSize =
-    (n : ℕ) (image : List ℕ) (v : ℕ) (b : Book) (qs : List Request) → Stored image v b → length qs ≤ mostRequests → ((q : Request) → q ∈ qs → IdInRange q)
-    → Pairwise DifferentIds qs → Pairwise (Apart b) qs → Room b qs → InAnyOrder (λ (out : List ℕ). length out ≡ n) image qs
+    (n : ℕ) (image : List ℕ) (v : ℕ) (b : Book) (mains : ℕ) (qs : List Request) → Stored image v b → NoBitFrom (nodes (b .site .links)) mains → length qs ≤ mostRequests → ((q : Request) → q ∈ qs → IdInRange q)
+    → Pairwise DifferentIds qs → Pairwise (Apart mains b) qs → Room mains b qs → InAnyOrder (λ (out : List ℕ). length out ≡ n) image mains qs
+
+-- the set may have a node from N up
+abbrev pub WithoutLow : Type 0
+WithoutLow =
+    (image : List ℕ) (v : ℕ) (b : Book) (mains : ℕ) (qs : List Request) → Stored image v b → length qs ≤ mostRequests → ((q : Request) → q ∈ qs → IdInRange q)
+    → Pairwise DifferentIds qs → Pairwise (Apart mains b) qs → Room mains b qs → InAnyOrder FullSize image mains qs
+
+-- two orders may be posted with two sets, though the premises hold of both
+abbrev pub WithTwoSets : Type 0
+WithTwoSets =
+    (image : List ℕ) (v : ℕ) (b : Book) (mains mains′ : ℕ) (qs ps : List Request) (n n′ : ℕ) (answers answers′ last last′ : List ℕ) → Stored image v b
+    → InAnyOrder FullSize image mains qs → InAnyOrder FullSize image mains′ qs → Reordered qs ps
+    → Posting FullSize image mains qs n answers last → Posting FullSize image mains′ ps n′ answers′ last′ → last ≡ last′
 
 pub record Needed : Type 0 where
   pub most : WithoutMost → ⊥
@@ -83,3 +96,5 @@ pub record Needed : Type 0 where
   pub room : WithRoomForDone → ⊥
   pub rows : WithRoomForOne → ⊥
   pub full-size : WithoutFullSize → ⊥
+  pub low : WithoutLow → ⊥
+  pub one-set : WithTwoSets → ⊥

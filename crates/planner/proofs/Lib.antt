@@ -3,3 +3,5 @@ pub mod Making
 pub mod Listing
 pub mod Links
 pub mod Marked
+pub mod Single
+pub mod Keeping

@@ -6,20 +6,20 @@ use mathlib.Core.List.{List}
 use Prim.Native.Nat.{ℕ}
 use lib.ListN.{length}
 use Rattle.rules.specs.Image.{versionOf}
-use Rattle.rules.specs.Calls.{anyMiddle, routesRefusals, Routes}
+use Rattle.rules.specs.Calls.{routesRefusals, Routes}
 use Rattle.rules.proofs.Reading.{bookIn, LawfulImage}
 use Rattle.lawful.specs.Verdict.{Verdict}
 use Rattle.choices.specs.declared.Choices.{Choices}
 use Rattle.choices.specs.Listing.{BookSays}
 use Rattle.planner.proofs.Lifts.{image-refused}
 
-pub routes-refused : {s words : List ℕ} {n : ℕ} (source destination : ℕ) (out : List ℕ) {r : Choices} → Verdict s n words → (n ≡ 0 → ⊥)
-    → r .number ≡ n → r .length ≡ 0 → r .more ≡ false → Routes s source destination out (r .number) (r .length) out (r .more)
-routes-refused source destination out v f a l m =
-    image-refused v f a (λ v b. routesRefusals (anyMiddle b) source destination (length out) v b) (record { length-is = l; buffer = refl }, m)
+pub routes-refused : {s words : List ℕ} {n : ℕ} (mains source destination : ℕ) (out : List ℕ) {r : Choices} → Verdict s n words → (n ≡ 0 → ⊥)
+    → r .number ≡ n → r .length ≡ 0 → r .more ≡ false → Routes s mains source destination out (r .number) (r .length) out (r .more)
+routes-refused mains source destination out v f a l m =
+    image-refused v f a (routesRefusals mains source destination (length out)) (record { length-is = l; buffer = refl }, m)
 
-pub routes-on : {s : List ℕ} → LawfulImage s → {source destination : ℕ} {out out′ : List ℕ} {r : Choices} → BookSays s source destination out r out′
-    → Routes s source destination out (r .number) (r .length) out′ (r .more)
+pub routes-on : {s : List ℕ} → LawfulImage s → {mains source destination : ℕ} {out out′ : List ℕ} {r : Choices} → BookSays s mains source destination out r out′
+    → Routes s mains source destination out (r .number) (r .length) out′ (r .more)
 routes-on {s} h w = record {
   says = inr (versionOf s, bookIn s, h, w .says);
   refused = w .refused;

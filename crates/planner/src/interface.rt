@@ -1,9 +1,9 @@
-// The C interface: the ten calls over bare numbers.
+// The C interface: the eleven calls over bare numbers.
 ghost use mathlib.Core.Path.{_≡_};
 ghost use Rattle.rules.specs.Calls.{New, Check, Rewrite, Serve, Expand, Balance, Links};
 ghost use Rattle.rules.specs.Calls.Request.{Open, Close};
 ghost use Rattle.posting.specs.Posting.{Posts};
-ghost use Rattle.planner.specs.Marks.{RoutesMarked};
+ghost use Rattle.planner.specs.Marks.{RoutesMarked, KeepsMarked};
 use posting::Request;
 use rules::Asked;
 use rules::Node;
@@ -64,13 +64,14 @@ pub extern "C" fn lindurask_rewrite(book: &[u8], out: &mut [u8], length: &mut us
 #[no_mangle]
 pub extern "C" fn lindurask_post(
     book: &[u8],
+    mains: u64,
     requests: &mut [Request],
     out: &mut [u8],
     length: &mut usize,
 ) -> u8
-    ensures { λ r. ⌜ Posts (now (book .entry)) (now (requests .entry)) (now (out .entry)) (record { number = r; length = now (length .exit) }) (now (requests .exit)) (now (out .exit)) ⌝ }
+    ensures { λ r. ⌜ Posts (now (book .entry)) mains (now (requests .entry)) (now (out .entry)) (record { number = r; length = now (length .exit) }) (now (requests .exit)) (now (out .exit)) ⌝ }
 {
-    let answer = crate::post(book, requests, out);
+    let answer = crate::post(book, mains, requests, out);
     *length = answer.length;
     answer.number
 }
@@ -153,16 +154,27 @@ pub extern "C" fn lindurask_links(book: &[u8], node: u8, links: &mut u8) -> u8
 #[no_mangle]
 pub extern "C" fn lindurask_routes(
     book: &[u8],
+    mains: u64,
     source: u8,
     destination: u8,
     out: &mut [u8],
     length: &mut usize,
     more: &mut u8,
 ) -> u8
-    ensures { λ r. ⌜ RoutesMarked (now (book .entry)) source destination (now (out .entry)) r (now (length .exit)) (now (out .exit)) (now (more .exit)) ⌝ }
+    ensures { λ r. ⌜ RoutesMarked (now (book .entry)) mains source destination (now (out .entry)) r (now (length .exit)) (now (out .exit)) (now (more .exit)) ⌝ }
 {
-    let answer = crate::routes_between(book, Node(source), Node(destination), out);
+    let answer = crate::routes_between(book, mains, Node(source), Node(destination), out);
     *length = answer.length;
     *more = answer.more as u8;
+    answer.number
+}
+
+// Says whether a book keeps to a set: 1 if every row does, and otherwise 0.
+#[no_mangle]
+pub extern "C" fn lindurask_keeps_to(book: &[u8], mains: u64, keeps: &mut u8) -> u8
+    ensures { λ r. ⌜ KeepsMarked (now (book .entry)) mains r (now (keeps .exit)) ⌝ }
+{
+    let answer = crate::keeps_to(book, mains);
+    *keeps = answer.keeps as u8;
     answer.number
 }

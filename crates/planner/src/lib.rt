@@ -2,7 +2,7 @@
 ghost use mathlib.Core.Path.{_≡_};
 ghost use Prim.Native.Nat.{_<_};
 ghost use Rattle.rules.specs.Periods.{thePlan, theAsked};
-ghost use Rattle.rules.specs.Calls.{New, Check, Rewrite, Serve, Expand, LinksOf, Links, Routes};
+ghost use Rattle.rules.specs.Calls.{New, Check, Rewrite, Serve, Expand, LinksOf, Links, Routes, Keeps};
 ghost use Rattle.rules.specs.Calls.Request.{Open, Close};
 ghost use Rattle.rules.specs.Image.{nodesOf};
 ghost use Rattle.rules.proofs.Reading.{bookIn, LawfulImage};
@@ -30,6 +30,12 @@ pub struct Balance {
 pub struct Linked {
     pub number: u8,
     pub links: u8,
+}
+
+// Whether a book keeps to a set: a number, and yes or no.
+pub struct Kept {
+    pub number: u8,
+    pub keeps: bool,
 }
 
 // Makes a book without streams; the links, and who hears whom, are given as they stand in an image.
@@ -78,14 +84,15 @@ pub fn rewrite(image: &[u8], out: &mut [u8]) -> Answer
     answers::done(image.len())
 }
 
-// Posts a list of requests: each record receives its own answer, and the image is written once at the end.
-pub fn post(image: &[u8], requests: &mut [Request], out: &mut [u8]) -> Answer
-    ensures { λ r. ⌜ Posts (now (image .entry)) (now (requests .entry)) (now (out .entry)) r (now (requests .exit)) (now (out .exit)) ⌝ }
+// Posts a list of requests, with only members of the set in the middle of a route: each record receives its own answer, and
+// the image is written once at the end.
+pub fn post(image: &[u8], mains: u64, requests: &mut [Request], out: &mut [u8]) -> Answer
+    ensures { λ r. ⌜ Posts (now (image .entry)) mains (now (requests .entry)) (now (out .entry)) r (now (requests .exit)) (now (out .exit)) ⌝ }
 {
-    posting::post(image, requests, out)
+    posting::post(image, mains, requests, out)
 }
 
-// Opens a stream: a list of one.
+// Opens a stream: a list of one, with all nodes in the set.
 pub fn open_stream(image: &[u8], asked: Asked, out: &mut [u8]) -> Answer
     ensures { λ r. ⌜ Serve (now (image .entry)) (Open (theAsked asked)) (now (out .entry)) (r .number) (r .length) (now (out .exit)) ⌝ }
 {
@@ -98,10 +105,10 @@ pub fn open_stream(image: &[u8], asked: Asked, out: &mut [u8]) -> Answer
         period: asked.period.0,
         answer: 0,
     };
-    posting::post_one(image, request, out)
+    posting::post_one(image, posting::all_nodes(image), request, out)
 }
 
-// Closes a stream: a list of one.
+// Closes a stream: a list of one, with all nodes in the set.
 pub fn close_stream(image: &[u8], id: u16, out: &mut [u8]) -> Answer
     ensures { λ r. ⌜ Serve (now (image .entry)) (Close id) (now (out .entry)) (r .number) (r .length) (now (out .exit)) ⌝ }
 {
@@ -114,7 +121,7 @@ pub fn close_stream(image: &[u8], id: u16, out: &mut [u8]) -> Answer
         period: 0,
         answer: 0,
     };
-    posting::post_one(image, request, out)
+    posting::post_one(image, posting::all_nodes(image), request, out)
 }
 
 // Writes a node's slot table for all 100 tiles.
@@ -203,14 +210,46 @@ pub fn links_of(image: &[u8], node: Node) -> Linked
     }
 }
 
-// Lists the routes of at most 6 hops between two nodes: writes the first 32, and says whether more exist.
-pub fn routes_between(image: &[u8], source: Node, destination: Node, out: &mut [u8]) -> Choices
-    ensures { λ r. ⌜ Routes (now (image .entry)) (source .0) (destination .0) (now (out .entry)) (r .number) (r .length) (now (out .exit)) (r .more) ⌝ }
+// Lists the routes of at most 6 hops between two nodes, with only members of the set in the middle: writes the first 32, and
+// says whether more exist.
+pub fn routes_between(
+    image: &[u8],
+    mains: u64,
+    source: Node,
+    destination: Node,
+    out: &mut [u8],
+) -> Choices
+    ensures { λ r. ⌜ Routes (now (image .entry)) mains (source .0) (destination .0) (now (out .entry)) (r .number) (r .length) (now (out .exit)) (r .more) ⌝ }
 {
     let mut index = [0u64; index::WORDS];
     let number = lawful::verdict(image, &mut index);
     if number != 0 {
         return choices::refused(number);
     }
-    choices::book::list_on(image, source, destination, out)
+    choices::book::list_on(image, mains, source, destination, out)
+}
+
+// Says whether every row of a book keeps to a set: only its members stand in the middle of a route.
+pub fn keeps_to(image: &[u8], mains: u64) -> Kept
+    ensures { λ r. ⌜ Keeps (now (image .entry)) mains (r .number) (r .keeps) ⌝ }
+{
+    let mut index = [0u64; index::WORDS];
+    let number = lawful::verdict(image, &mut index);
+    if number != 0 {
+        return Kept {
+            number,
+            keeps: false,
+        };
+    }
+    let book = Book::read(image);
+    if !bitset::within(mains, book.nodes) {
+        return Kept {
+            number: 25,
+            keeps: false,
+        };
+    }
+    Kept {
+        number: 0,
+        keeps: keeping::rows_keep(image, book, mains),
+    }
 }

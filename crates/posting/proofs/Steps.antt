@@ -12,7 +12,7 @@ use Rattle.rules.specs.Placing.{Asked}
 use Rattle.rules.specs.Image.{newest, headerLength, longestImage, encode, Stored, rowsPlace}
 use Rattle.rules.specs.Calls as calls
 use Rattle.rules.specs.Says.{Says}
-use Rattle.rules.specs.Calls.{anyMiddle, Made, requestRefusals}
+use Rattle.rules.specs.Calls.{Made, requestRefusals}
 use Rattle.rules.specs.Calls.Request.{Open, Close}
 use Rattle.rules.specs.Order.{idOf}
 use Rattle.rules.proofs.Encoding.{version-back}
@@ -71,10 +71,10 @@ stored-image {c} h = record {
   version = version-back newest c;
 }
 
-module _ {buffer : List ℕ} {len : ℕ} {words : List ℕ} (w : Standing buffer len words) {q : calls.Request} {number size : ℕ} {out marks : List ℕ}
-    (h : Works (take len buffer) q number size out marks) where
+module _ {buffer : List ℕ} {len : ℕ} {words : List ℕ} (w : Standing buffer len words) {mains : ℕ} {q : calls.Request} {number size : ℕ} {out marks : List ℕ}
+    (h : Works mains (take len buffer) q number size out marks) where
   -- refused: the book stands as it was
-  pub work-refused : (number ≡ 0 → ⊥) → Worked buffer len q (record { answer = number; length = len }) buffer marks
+  pub work-refused : (number ≡ 0 → ⊥) → Worked mains buffer len q (record { answer = number; length = len }) buffer marks
   work-refused f = record {
     work = record { says = h .says; refused = λ g. refl; done = λ z. absurd (f z) };
     standing = record { room = w .room; fits = w .fits; image = record { newest = w .image .newest; index = h .refused f } };
@@ -86,8 +86,8 @@ module _ {buffer : List ℕ} {len : ℕ} {words : List ℕ} (w : Standing buffer
     stored =
         let s : List ℕ = take len buffer in
         let c : Book = h .done z .after in
-        let says = subst (λ (n : ℕ). Says (requestRefusals (anyMiddle (bookIn s)) (bookIn s) q) n) z (h .says) in
-        lawful-stored c (made-lawful (bookIn s) (w .image .newest .lawful .lawful) (anyMiddle (bookIn s)) q small says c (h .done z .made))
+        let says = subst (λ (n : ℕ). Says (requestRefusals mains (bookIn s) q) n) z (h .says) in
+        lawful-stored c (made-lawful (bookIn s) (w .image .newest .lawful .lawful) mains q small says c (h .done z .made))
 
     size-is : size ≡ length (encode newest (h .done z .after))
     size-is = h .done z .laid .long
@@ -135,12 +135,12 @@ module _ {buffer : List ℕ} {len : ℕ} {words : List ℕ} (w : Standing buffer
       holds : bookAt buffer′ size ≡ h .done z .after
       holds = ap bookIn front ∙ book-back stored
 
-      pub work-done : length buffer′ ≡ length buffer → Worked buffer len q (record { answer = 0; length = size }) buffer′ marks
+      pub work-done : length buffer′ ≡ length buffer → Worked mains buffer len q (record { answer = 0; length = size }) buffer′ marks
       work-done same = record {
         work = record {
-          says = subst (λ (n : ℕ). Says (requestRefusals (anyMiddle (bookAt buffer len)) (bookAt buffer len) q) n) z (h .says);
+          says = subst (λ (n : ℕ). Says (requestRefusals mains (bookAt buffer len) q) n) z (h .says);
           refused = λ f. absurd (f refl);
-          done = λ y. subst (Made (anyMiddle (bookAt buffer len)) (bookAt buffer len) q) (sym holds) (h .done z .made);
+          done = λ y. subst (Made mains (bookAt buffer len) q) (sym holds) (h .done z .made);
         };
         standing = record {
           room = same ∙ w .room;
@@ -149,20 +149,20 @@ module _ {buffer : List ℕ} {len : ℕ} {words : List ℕ} (w : Standing buffer
             newest = subst NewestImage (sym front) (stored-image stored);
             index = subst (λ (c : Book). IndexOf (c .site .plan .slots) (c .rows) marks) (sym holds)
                 (subst (λ (t : Site). IndexOf (t .plan .slots) (h .done z .after .rows) marks)
-                (sym (made-site (anyMiddle (bookAt buffer len)) (bookAt buffer len) q (h .done z .after) (h .done z .made))) (h .done z .index));
+                (sym (made-site mains (bookAt buffer len) q (h .done z .after) (h .done z .made))) (h .done z .index));
           };
         };
       }
 
 -- what an open and a close do is what the record asks for
-pub asks-open : (r : Request) → r .opens ≡ true → {s out words : List ℕ} {number len : ℕ}
-    → Works s (Open (record { id = r .id; source = r .source; destination = r .destination; period = r .period; second = r .second })) number len out words
-    → Works s (theRequest r) number len out words
-asks-open r e {s} {out} {words} {number} {len} w =
-    subst (λ (t : Bool). Works s (cond t (Open (record { id = r .id; source = r .source; destination = r .destination; period = r .period; second = r .second }))
+pub asks-open : (r : Request) → r .opens ≡ true → {s out words : List ℕ} {mains number len : ℕ}
+    → Works mains s (Open (record { id = r .id; source = r .source; destination = r .destination; period = r .period; second = r .second })) number len out words
+    → Works mains s (theRequest r) number len out words
+asks-open r e {s} {out} {words} {mains} {number} {len} w =
+    subst (λ (t : Bool). Works mains s (cond t (Open (record { id = r .id; source = r .source; destination = r .destination; period = r .period; second = r .second }))
     (Close (r .id))) number len out words) (sym e) w
 
-pub asks-close : (r : Request) → r .opens ≡ false → {s out words : List ℕ} {number len : ℕ} → Works s (Close (r .id)) number len out words → Works s (theRequest r) number len out words
-asks-close r e {s} {out} {words} {number} {len} w =
-    subst (λ (t : Bool). Works s (cond t (Open (record { id = r .id; source = r .source; destination = r .destination; period = r .period; second = r .second }))
+pub asks-close : (r : Request) → r .opens ≡ false → {s out words : List ℕ} {mains number len : ℕ} → Works mains s (Close (r .id)) number len out words → Works mains s (theRequest r) number len out words
+asks-close r e {s} {out} {words} {mains} {number} {len} w =
+    subst (λ (t : Bool). Works mains s (cond t (Open (record { id = r .id; source = r .source; destination = r .destination; period = r .period; second = r .second }))
     (Close (r .id))) number len out words) (sym e) w

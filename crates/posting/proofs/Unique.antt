@@ -20,8 +20,8 @@ same-marked (r ∷ rs) (x ∷ xs) (y ∷ ys) p q e = λ i. first i ∷ same-mark
     first : x ≡ y
     first = p .0 ∙ ap (withAnswer r) (head-eq-of-cons-eq e) ∙ sym (q .0)
 
-pub one-posts : (image : List ℕ) (rs : List Request) (out : List ℕ) {r r′ : Answer} {xs xs′ : List Request} {o o′ : List ℕ}
-    → Posts image rs out r xs o → Posts image rs out r′ xs′ o′ → Same (r .number) (r .length) o (r′ .number) (r′ .length) o′ × (xs ≡ xs′)
-one-posts image rs out {xs = xs} {xs′} g h =
-    let t = one-post image (theRequests rs) out (answers rs) (answers xs) (answers xs′) (g .post) (h .post) in
+pub one-posts : (image : List ℕ) (mains : ℕ) (rs : List Request) (out : List ℕ) {r r′ : Answer} {xs xs′ : List Request} {o o′ : List ℕ}
+    → Posts image mains rs out r xs o → Posts image mains rs out r′ xs′ o′ → Same (r .number) (r .length) o (r′ .number) (r′ .length) o′ × (xs ≡ xs′)
+one-posts image mains rs out {xs = xs} {xs′} g h =
+    let t = one-post image mains (theRequests rs) out (answers rs) (answers xs) (answers xs′) (g .post) (h .post) in
     (t .0, same-marked rs xs xs′ (g .same) (h .same) (t .1))

@@ -1,15 +1,17 @@
 -- What one request does to the book that is worked on, and what a list of them does.
 use mathlib.Core.Path.{_≡_}
 use mathlib.Core.Bool.{Bool, true, false, _||_}
-use mathlib.Core.List.{List}
+use mathlib.Core.List.{List, [], _∷_}
 use Prim.Native.Nat.{ℕ, _≤_}
 use lib.Dec.{eqb}
 use lib.ListN.{take, drop}
 use Rattle.rules.specs.Words.{_∈_, Tests}
 use Rattle.rules.specs.Book.{Book}
 use Rattle.rules.specs.Calls as calls
-use Rattle.rules.specs.Calls.{Wrote, Unchanged, OfBook, SaysOf, anyMiddle, Work, InOrder, postRefusals, Post}
-use Rattle.rules.specs.Image.{newest, longestImage}
+use Rattle.rules.specs.Calls.{Wrote, Unchanged, OfBook, SaysOf, Work, InOrder, postRefusals, Post}
+use Rattle.rules.specs.Topology.{allNodes}
+use Rattle.rules.specs.Image.{newest, longestImage, nodesOf}
+use Rattle.rules.proofs.Reading.{LawfulImage}
 use Rattle.answers.specs.declared.Answer.{Answer}
 use Rattle.posting.specs.declared.Request.{Request}
 use Rattle.posting.specs.declared.Outcome.{Outcome}
@@ -18,32 +20,32 @@ use Rattle.posting.specs.declared.Answered.{Answered}
 use Rattle.posting.specs.Records.{theRequests, answers, OnlyMarked}
 use Rattle.posting.specs.Standing.{Standing, bookAt}
 
--- the request was worked on the book, and the book after it stands
-pub record Worked (buffer : List ℕ) (len : ℕ) (q : calls.Request) (r : Outcome) (buffer′ words′ : List ℕ) : Type 0 where
-  pub work : Work (anyMiddle (bookAt buffer len)) (bookAt buffer len) q (r .answer) (bookAt buffer′ (r .length))
+-- the request was worked on the book with the set, and the book after it stands
+pub record Worked (mains : ℕ) (buffer : List ℕ) (len : ℕ) (q : calls.Request) (r : Outcome) (buffer′ words′ : List ℕ) : Type 0 where
+  pub work : Work mains (bookAt buffer len) q (r .answer) (bookAt buffer′ (r .length))
   pub standing : Standing buffer′ (r .length) words′
 
 -- and whether a record was done up to it
-pub record AnsweredNext (buffer : List ℕ) (state : State) (q : calls.Request) (r : Answered) (buffer′ words′ : List ℕ) : Type 0 where
-  pub worked : Worked buffer (state .length) q (record { answer = r .answer; length = r .state .length }) buffer′ words′
+pub record AnsweredNext (mains : ℕ) (buffer : List ℕ) (state : State) (q : calls.Request) (r : Answered) (buffer′ words′ : List ℕ) : Type 0 where
+  pub worked : Worked mains buffer (state .length) q (record { answer = r .answer; length = r .state .length }) buffer′ words′
   pub done : r .state .done ≡ (state .done || eqb (r .answer) 0)
 
--- a list was worked through from the book b to the book c; whether a record was done
-pub record Through (rs : List Request) (b : Book) (done : Bool) (rs′ : List Request) (c : Book) : Type 0 where
-  pub in-order : InOrder (Work (anyMiddle b)) b (theRequests rs) (answers rs′) c
+-- a list was worked through with the set from the book b to the book c; whether a record was done
+pub record Through (mains : ℕ) (rs : List Request) (b : Book) (done : Bool) (rs′ : List Request) (c : Book) : Type 0 where
+  pub in-order : InOrder (Work mains) b (theRequests rs) (answers rs′) c
   pub same : OnlyMarked rs rs′
   pub some-done : Tests done (0 ∈ answers rs′)
 
 -- and the book after it stands
-pub record PostedAll (rs : List Request) (buffer : List ℕ) (len : ℕ) (r : State) (rs′ : List Request) (buffer′ words′ : List ℕ) : Type 0 where
-  pub through : Through rs (bookAt buffer len) (r .done) rs′ (bookAt buffer′ (r .length))
+pub record PostedAll (mains : ℕ) (rs : List Request) (buffer : List ℕ) (len : ℕ) (r : State) (rs′ : List Request) (buffer′ words′ : List ℕ) : Type 0 where
+  pub through : Through mains rs (bookAt buffer len) (r .done) rs′ (bookAt buffer′ (r .length))
   pub standing : Standing buffer′ (r .length) words′
 
 -- A CALL
 
 -- what the whole call says; where nothing is refused the image's book stands in a buffer of its own, and the output has room for the longest image
-pub record Begun (image : List ℕ) (count room : ℕ) (r : Answer) (buffer′ words′ : List ℕ) : Type 0 where
-  pub says : SaysOf image (postRefusals count room) (r .number)
+pub record Begun (image : List ℕ) (mains count room : ℕ) (r : Answer) (buffer′ words′ : List ℕ) : Type 0 where
+  pub says : SaysOf image (postRefusals mains count room) (r .number)
   pub refused : (r .number ≡ 0 → ⊥) → r .length ≡ 0
   pub stands : r .number ≡ 0 → OfBook image (λ (v : ℕ) (b : Book). Standing buffer′ (r .length) words′ × (bookAt buffer′ (r .length) ≡ b))
   pub wide : r .number ≡ 0 → longestImage newest ≤ room
@@ -54,9 +56,9 @@ pub record Finished (buffer : List ℕ) (state : State) (out : List ℕ) (r : An
   pub written : state .done ≡ true → Wrote (take (state .length) buffer) out (r .length) out′
   pub kept : state .done ≡ false → Unchanged out (r .length) out′
 
--- the list is posted, and no field but the answers is changed
-pub record Posts (image : List ℕ) (rs : List Request) (out : List ℕ) (r : Answer) (rs′ : List Request) (out′ : List ℕ) : Type 0 where
-  pub post : Post image (theRequests rs) out (answers rs) (r .number) (r .length) out′ (answers rs′)
+-- the list is posted with the set, and no field but the answers is changed
+pub record Posts (image : List ℕ) (mains : ℕ) (rs : List Request) (out : List ℕ) (r : Answer) (rs′ : List Request) (out′ : List ℕ) : Type 0 where
+  pub post : Post image mains (theRequests rs) out (answers rs) (r .number) (r .length) out′ (answers rs′)
   pub same : OnlyMarked rs rs′
 
 -- an array of requests has so many places
@@ -64,8 +66,8 @@ abbrev pub listed : ℕ
 listed = 100
 
 -- the first so many records of an array are posted, and the others are left alone
-pub record PostsFirst (image : List ℕ) (rs : List Request) (count : ℕ) (out : List ℕ) (r : Answer) (rs′ : List Request) (out′ : List ℕ) : Type 0 where
-  pub posts : Posts image (take count rs) out r (take count rs′) out′
+pub record PostsFirst (image : List ℕ) (mains : ℕ) (rs : List Request) (count : ℕ) (out : List ℕ) (r : Answer) (rs′ : List Request) (out′ : List ℕ) : Type 0 where
+  pub posts : Posts image mains (take count rs) out r (take count rs′) out′
   pub rest : drop count rs′ ≡ drop count rs
 
 -- the number of a list of one: the whole call's, or the record's answer
@@ -73,3 +75,15 @@ pub record OfOne (whole : Answer) (answer : ℕ) (r : Answer) : Type 0 where
   pub length-is : r .length ≡ whole .length
   pub refused : (whole .number ≡ 0 → ⊥) → r .number ≡ whole .number
   pub done : whole .number ≡ 0 → r .number ≡ answer
+
+-- a list of one is posted with the set: the whole call's refusal, or the record's answer
+pub record PostsOne (image : List ℕ) (mains : ℕ) (q : calls.Request) (out : List ℕ) (r : Answer) (out′ : List ℕ) : Type 0 where
+  pub whole : ℕ
+  pub answer : ℕ
+  pub posted : Post image mains (q ∷ []) out (0 ∷ []) whole (r .length) out′ (answer ∷ [])
+  pub refused : (whole ≡ 0 → ⊥) → r .number ≡ whole
+  pub done : whole ≡ 0 → r .number ≡ answer
+
+-- all nodes, where the image holds a book
+abbrev pub AllNodes : List ℕ → ℕ → Type 0
+AllNodes image mains = LawfulImage image → mains ≡ allNodes (nodesOf image)

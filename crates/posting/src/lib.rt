@@ -4,10 +4,9 @@ pub mod working;
 ghost use mathlib.Core.Path.{_≡_};
 ghost use Prim.Native.Nat.{_≤_};
 ghost use lib.ListN.{length};
-ghost use Rattle.rules.specs.Calls.{Serve};
 ghost use Rattle.posting.specs.Records.{theRequest};
 ghost use Rattle.posting.specs.Standing.{Standing};
-ghost use Rattle.posting.specs.Posting.{Worked, AnsweredNext, PostedAll, Begun, Finished, Posts, OfOne, listed, PostsFirst};
+ghost use Rattle.posting.specs.Posting.{Worked, AnsweredNext, PostedAll, Begun, Finished, Posts, OfOne, PostsOne, AllNodes, listed, PostsFirst};
 use answers::Answer;
 use image::Book;
 
@@ -55,15 +54,16 @@ struct Answered {
 
 // The next record of a list.
 fn answer_next(
+    mains: u64,
     book: &mut [u8; Book::LONGEST],
     index: &mut [u64; index::WORDS],
     state: State,
     q: Request,
 ) -> Answered
     requires { ⌜ Standing (now book) (state .length) (now index) ⌝ }
-    ensures { λ r. ⌜ AnsweredNext (now (book .entry)) state (theRequest q) r (now (book .exit)) (now (index .exit)) ⌝ }
+    ensures { λ r. ⌜ AnsweredNext mains (now (book .entry)) state (theRequest q) r (now (book .exit)) (now (index .exit)) ⌝ }
 {
-    let outcome = working::work(book, state.length, index, q);
+    let outcome = working::work(mains, book, state.length, index, q);
     Answered {
         answer: outcome.answer,
         state: State {
@@ -73,15 +73,17 @@ fn answer_next(
     }
 }
 
-// Works through the records in list order, on the image of so many bytes and its index.
+// Works through the records in list order, on the image of so many bytes and its index, with only members of the set in
+// the middle of a route.
 pub fn post_all(
+    mains: u64,
     requests: &mut [Request],
     book: &mut [u8; Book::LONGEST],
     index: &mut [u64; index::WORDS],
     length: usize,
 ) -> State
     requires { ⌜ Standing (now book) length (now index) ⌝ }
-    ensures { λ r. ⌜ PostedAll (now (requests .entry)) (now (book .entry)) length r (now (requests .exit)) (now (book .exit)) (now (index .exit)) ⌝ }
+    ensures { λ r. ⌜ PostedAll mains (now (requests .entry)) (now (book .entry)) length r (now (requests .exit)) (now (book .exit)) (now (index .exit)) ⌝ }
 {
     let mut state = State {
         length,
@@ -89,7 +91,7 @@ pub fn post_all(
     };
     let mut i = 0;
     while i < requests.len() {
-        let answered = answer_next(book, index, state, requests[i]);
+        let answered = answer_next(mains, book, index, state, requests[i]);
         requests[i].answer = answered.answer;
         state = answered.state;
         i += 1;
@@ -100,16 +102,20 @@ pub fn post_all(
 // The whole call's refusals; where there is none, the image in the newest version, of so many bytes, and its index.
 fn begin(
     image: &[u8],
+    mains: u64,
     count: usize,
     room: usize,
     book: &mut [u8; Book::LONGEST],
     index: &mut [u64; index::WORDS],
 ) -> Answer
-    ensures { λ r. ⌜ Begun (now (image .entry)) count room r (now (book .exit)) (now (index .exit)) ⌝ }
+    ensures { λ r. ⌜ Begun (now (image .entry)) mains count room r (now (book .exit)) (now (index .exit)) ⌝ }
 {
     let number = lawful::verdict(image, index);
     if number != 0 {
         return answers::refused(number);
+    }
+    if !bitset::within(mains, Book::read(image).nodes) {
+        return answers::refused(25);
     }
     if MOST < count {
         return answers::refused(26);
@@ -133,15 +139,23 @@ fn finish(book: &[u8], state: State, out: &mut [u8]) -> Answer
     answers::done(length)
 }
 
-// Posts a list of requests: each record receives its own answer, and the image is written once.
-pub fn post(image: &[u8], requests: &mut [Request], out: &mut [u8]) -> Answer
-    ensures { λ r. ⌜ Posts (now (image .entry)) (now (requests .entry)) (now (out .entry)) r (now (requests .exit)) (now (out .exit)) ⌝ }
+// Posts a list of requests, with only members of the set in the middle of a route: each record receives its own answer,
+// and the image is written once.
+pub fn post(image: &[u8], mains: u64, requests: &mut [Request], out: &mut [u8]) -> Answer
+    ensures { λ r. ⌜ Posts (now (image .entry)) mains (now (requests .entry)) (now (out .entry)) r (now (requests .exit)) (now (out .exit)) ⌝ }
 {
     let mut book = [0u8; Book::LONGEST];
     let mut index = [0u64; index::WORDS];
-    let begun = begin(image, requests.len(), out.len(), &mut book, &mut index);
+    let begun = begin(
+        image,
+        mains,
+        requests.len(),
+        out.len(),
+        &mut book,
+        &mut index,
+    );
     if begun.number == 0 {
-        let state = post_all(requests, &mut book, &mut index, begun.length);
+        let state = post_all(mains, requests, &mut book, &mut index, begun.length);
         finish(&book, state, out)
     } else {
         begun
@@ -162,22 +176,38 @@ fn of_one(whole: Answer, answer: u8) -> Answer
     }
 }
 
+// All nodes of the book that the image holds, and where it holds none any set.
+pub fn all_nodes(image: &[u8]) -> u64
+    ensures { λ r. ⌜ AllNodes (now (image .entry)) r ⌝ }
+{
+    if image.len() < image::HEADER {
+        return 0;
+    }
+    bitset::below(Book::read(image).nodes)
+}
+
 // Posts a list of one.
-pub fn post_one(image: &[u8], q: Request, out: &mut [u8]) -> Answer
-    ensures { λ r. ⌜ Serve (now (image .entry)) (theRequest q) (now (out .entry)) (r .number) (r .length) (now (out .exit)) ⌝ }
+pub fn post_one(image: &[u8], mains: u64, q: Request, out: &mut [u8]) -> Answer
+    ensures { λ r. ⌜ PostsOne (now (image .entry)) mains (theRequest q) (now (out .entry)) r (now (out .exit)) ⌝ }
 {
     let mut one = [q];
-    let whole = post(image, &mut one, out);
+    let whole = post(image, mains, &mut one, out);
     of_one(whole, one[0].answer)
 }
 
 // Posts the first so many records of an array, and gives the array back.
-pub fn post_array(image: &[u8], requests: [Request; LISTED], count: usize, out: &mut [u8]) -> Listed
+pub fn post_array(
+    image: &[u8],
+    mains: u64,
+    requests: [Request; LISTED],
+    count: usize,
+    out: &mut [u8],
+) -> Listed
     requires { ⌜ count ≤ listed ⌝ }
-    ensures { λ r. ⌜ PostsFirst (now (image .entry)) requests count (now (out .entry)) (r .answer) (r .requests) (now (out .exit)) ⌝ }
+    ensures { λ r. ⌜ PostsFirst (now (image .entry)) mains requests count (now (out .entry)) (r .answer) (r .requests) (now (out .exit)) ⌝ }
 {
     let mut list = requests;
-    let answer = post(image, &mut list[..count], out);
+    let answer = post(image, mains, &mut list[..count], out);
     Listed {
         answer,
         requests: list,

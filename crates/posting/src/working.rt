@@ -16,15 +16,17 @@ use rules::Asked;
 use rules::Node;
 use rules::Tile;
 
-// Opens or closes a stream on an image and its index, and lays out the image after it, but for the topologies.
+// Opens, with only members of the set in the middle of a route, or closes a stream on an image and its index, and lays out
+// the image after it, but for the topologies.
 fn serve(
     image: &[u8],
     index: &mut [u64; index::WORDS],
+    mains: u64,
     q: Request,
     out: &mut [u8; Book::LONGEST],
 ) -> Answer
     requires { ⌜ ImageBeside (now image) (now index) ⌝ }
-    ensures { λ r. ⌜ Works (now (image .entry)) (theRequest q) (r .number) (r .length) (now (out .exit)) (now (index .exit)) ⌝ }
+    ensures { λ r. ⌜ Works mains (now (image .entry)) (theRequest q) (r .number) (r .length) (now (out .exit)) (now (index .exit)) ⌝ }
 {
     if q.opens {
         let asked = Asked {
@@ -34,7 +36,7 @@ fn serve(
             period: Tile(q.period),
             second: q.second,
         };
-        opening::open_on(image, index, asked, out)
+        opening::open_on(image, index, mains, asked, out)
     } else {
         closing::close_on(image, index, q.id, out)
     }
@@ -50,13 +52,19 @@ fn take_over(book: &mut [u8], start: usize, next: &[u8])
 }
 
 // Does what the request asks for, on the image of so many bytes and its index.
-pub fn work(book: &mut [u8], length: usize, index: &mut [u64; index::WORDS], q: Request) -> Outcome
+pub fn work(
+    mains: u64,
+    book: &mut [u8],
+    length: usize,
+    index: &mut [u64; index::WORDS],
+    q: Request,
+) -> Outcome
     requires { ⌜ Standing (now book) length (now index) ⌝ }
-    ensures { λ r. ⌜ Worked (now (book .entry)) length (theRequest q) r (now (book .exit)) (now (index .exit)) ⌝ }
+    ensures { λ r. ⌜ Worked mains (now (book .entry)) length (theRequest q) r (now (book .exit)) (now (index .exit)) ⌝ }
 {
     let start = Book::read(&book[..length]).rows_start();
     let mut next = [0u8; Book::LONGEST];
-    let answer = serve(&book[..length], index, q, &mut next);
+    let answer = serve(&book[..length], index, mains, q, &mut next);
     if answer.number == 0 {
         take_over(book, start, &next[..answer.length]);
         Outcome {

@@ -8,12 +8,12 @@ use native.Mathlib.Omega.{arith}
 use lib.ListN.{getD, take}
 use Rattle.rules.specs.Words.{TwoBytes, _∈_}
 use Rattle.rules.specs.Says.{Says}
-use Rattle.rules.specs.Topology.{Topology}
+use Rattle.rules.specs.Topology.{Topology, nodes, allNodes}
 use Rattle.rules.specs.Book.{Row, Book, Known}
 use Rattle.rules.specs.Placing.{Asked, Planned, NewRows}
 use Rattle.rules.specs.Placing.Planned.{one, two}
 use Rattle.rules.specs.Image.{newest, encode, Stored}
-use Rattle.rules.specs.Calls.{Request, anyMiddle, Opened, Closed, Made, openRefusals, closeRefusals, Work, Serve}
+use Rattle.rules.specs.Calls.{Request, Opened, Closed, Made, openRefusals, closeRefusals, Work, Serve}
 use Rattle.rules.specs.Calls.Request.{Open, Close}
 use Rattle.rules.specs.Order.{idOf, IdInRange}
 use Rattle.rules.proofs.Says.{None, says-none, says-unique}
@@ -21,6 +21,7 @@ use Rattle.rules.proofs.Lists.{reordered-in, reordered-back, in-append, in-left
 use Rattle.rules.proofs.Tests.{never}
 use Rattle.rules.proofs.Choice.{closed-unique}
 use Rattle.rules.proofs.Encoding.{stored-unique}
+use Rattle.rules.proofs.Mains.{stored-nodes}
 use Rattle.rules.proofs.Reading.{withRows, lawful-stored, stored-newest}
 use Rattle.rules.proofs.Added.{new-route}
 use Rattle.model.proofs.Tests.{tests-known}
@@ -47,13 +48,17 @@ made-only middle b (Close id) c g = record {
   );
 }
 
+-- the set of all nodes of a book
+abbrev allOf : Book → ℕ
+allOf b = allNodes (nodes (b .site .links))
+
 -- A DONE REQUEST: the book, what it made of it, and that this was written
 pub record Done (image : List ℕ) (q : Request) (len : ℕ) (out′ : List ℕ) : Type 0 where
   pub version : ℕ
   pub before : Book
   pub after : Book
   pub held : Stored image version before
-  pub work : Work (anyMiddle before) before q 0 after
+  pub work : Work (allOf before) before q 0 after
   pub bytes : take len out′ ≡ encode newest after
 
 done : (image : List ℕ) (q : Request) (out : List ℕ) (len : ℕ) (out′ : List ℕ) → Serve image q out 0 len out′ → Done image q len out′
@@ -62,20 +67,21 @@ done image q out len out′ h = go (ℕ-discrete (h .whole) 0)
     go : Dec (h .whole ≡ 0) → Done image q len out′
     go (no f) = absurd (f (sym (h .refused f)))
     go (yes z) =
-        let (v, b, held, (c, (d, w, e), p)) = h .posted .done z in
+        let (v, b, held, (c, (d, u, e), p)) = h .posted .done z in
+        let w = subst (λ (mains : ℕ). Work mains b q (h .answer) d) (ap allNodes (stored-nodes held)) u in
         record {
           version = v;
           before = b;
           after = c;
           held = held;
-          work = subst (Work (anyMiddle b) b q 0) (sym e) (subst (λ (n : ℕ). Work (anyMiddle b) b q n d) (sym (h .done z)) w);
+          work = subst (Work (allOf b) b q 0) (sym e) (subst (λ (n : ℕ). Work (allOf b) b q n d) (sym (h .done z)) w);
           bytes = taken (p .some (inl (h .done z)));
         }
 
 -- what is written is the image of a lawful book
 done-stored : {image : List ℕ} {q : Request} {len : ℕ} {out′ : List ℕ} (d : Done image q len out′) → IdInRange q → Stored (take len out′) newest (d .after)
 done-stored {q = q} {len} {out′} d small =
-    let l = work-lawful (anyMiddle (d .before)) (d .before) q 0 (d .after) (d .work) (d .held .lawful) small in
+    let l = work-lawful (allOf (d .before)) (d .before) q 0 (d .after) (d .work) (d .held .lawful) small in
     subst (λ (s : List ℕ). Stored s newest (d .after)) (sym (d .bytes)) (lawful-stored (d .after) l)
 
 moves : {image : List ℕ} {q : Request} {len : ℕ} {out′ : List ℕ} (d : Done image q len out′) → IdInRange q → Moves image (idOf q) len out′ (d .before) (d .after)
@@ -83,7 +89,7 @@ moves {q = q} d small = record {
   version = d .version;
   before = d .held;
   after = done-stored d small;
-  only = made-only (anyMiddle (d .before)) (d .before) q (d .after) (d .work .done refl);
+  only = made-only (allOf (d .before)) (d .before) q (d .after) (d .work .done refl);
 }
 
 -- where no refusal applies to a close the id is there
@@ -112,11 +118,11 @@ new-ways b (r ∷ x ∷ rs) (two s g k) n = record {
 
 -- AN OPEN
 module _ {image : List ℕ} {q : Asked} {len : ℕ} {out′ : List ℕ} (d : Done image (Open q) len out′) where
-  made : Opened (anyMiddle (d .before)) (d .before) q (d .after)
+  made : Opened (allOf (d .before)) (d .before) q (d .after)
   made = d .work .done refl
 
-  none-applies : None (openRefusals (anyMiddle (d .before)) q (d .before))
-  none-applies = says-none (openRefusals (anyMiddle (d .before)) q (d .before)) (omega arith) (d .work .says)
+  none-applies : None (openRefusals (allOf (d .before)) q (d .before))
+  none-applies = says-none (openRefusals (allOf (d .before)) q (d .before)) (omega arith) (d .work .says)
 
   fresh : (r : Row) → r ∈ d .before .rows → r .id ≡ q .id → ⊥
   fresh r m e = none-applies .1 .1 .1 .1 .0 record { row = r; there = m; named = e }

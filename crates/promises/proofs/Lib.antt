@@ -9,3 +9,4 @@ pub mod Expanding
 pub mod Needed
 pub mod Lists
 pub mod Orders
+pub mod Mains

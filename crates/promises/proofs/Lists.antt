@@ -6,12 +6,14 @@ use Prim.Native.Nat.{ℕ}
 use native.Mathlib.Decide.{ℕ-discrete}
 use native.Mathlib.Omega.{arith}
 use lib.ListN.{length-append}
-use Rattle.rules.specs.Words.{_∈_, Each}
-use Rattle.rules.specs.Book.{Row, Book}
+use Rattle.rules.specs.Words.{NoBitFrom, _∈_, Each}
+use Rattle.rules.specs.Topology.{nodes, allNodes}
+use Rattle.rules.specs.Book.{Site, Row, Book}
 use Rattle.rules.specs.Image.{Stored}
-use Rattle.rules.specs.Calls.{Request, anyMiddle, Work, InOrder}
+use Rattle.rules.specs.Calls.{Request, Work, InOrder}
 use Rattle.rules.specs.Order.{idOf, IdInRange, current}
 use Rattle.rules.proofs.Lists.{in-left, in-right}
+use Rattle.rules.proofs.Mains.{all-below}
 use Rattle.rules.proofs.Lawful.{work-site, in-order-site}
 use Rattle.order.proofs.Calls.{Ran, posting-ran, ran-unique, ran-joined, ran-one, served-ran}
 use Rattle.promises.specs.Promises.{PostMovesItsOwn, ListsJoin, OneByOne, ListIsItsCalls}
@@ -40,26 +42,31 @@ module _ (middle : ℕ) (r : Row) where
       (λ m. t .0 (s .0 m), λ m. s .1 (t .1 m))
 
 pub post-moves-its-own : PostMovesItsOwn
-post-moves-its-own image v b qs held few small number answers last p =
-    let r = posting-ran held qs small few number answers last p .1 in (
+post-moves-its-own image v b mains qs held low few small number answers last p =
+    let r = posting-ran held low qs small few number answers last p .1 in (
       r .version,
       r .book,
       r .holds,
-      in-order-site (anyMiddle b) b qs answers (r .book) (r .works),
-      λ x f. works-pass (anyMiddle b) x b qs answers (r .book) (r .works) f,
+      in-order-site mains b qs answers (r .book) (r .works),
+      λ x f. works-pass mains x b qs answers (r .book) (r .works) f,
     )
 
 -- ONE AFTER THE OTHER
 pub lists-join : ListsJoin
-lists-join image v b qs ps held few small n m k ns ms ks between last last′ p p′ whole =
+lists-join image v b mains qs ps held low few small n m k ns ms ks between last last′ p p′ whole =
     let less = length-append qs ps in
-    let r = posting-ran held qs (λ q i. small q (in-left q qs ps i)) (omega (arith, few, less)) n ns between p .1 in
-    let r′ = posting-ran (r .holds) ps (λ q i. small q (in-right q qs ps i)) (omega (arith, few, less)) m ms last p′ .1 in
-    let e = in-order-site (anyMiddle b) b qs ns (r .book) (r .works) in
-    ran-unique (posting-ran held (qs ++ ps) small few k ks last′ whole .1) (ran-joined r e r′)
+    let r = posting-ran held low qs (λ q i. small q (in-left q qs ps i)) (omega (arith, few, less)) n ns between p .1 in
+    let e = in-order-site mains b qs ns (r .book) (r .works) in
+    let low′ = subst (λ (site : Site). NoBitFrom (nodes (site .links)) mains) (sym e) low in
+    let r′ = posting-ran (r .holds) low′ ps (λ q i. small q (in-right q qs ps i)) (omega (arith, few, less)) m ms last p′ .1 in
+    ran-unique (posting-ran held low (qs ++ ps) small few k ks last′ whole .1) (ran-joined r r′)
+
+-- all nodes of a site
+abbrev everyNode : Site → ℕ
+everyNode site = allNodes (nodes (site .links))
 
 one-by-one : (image : List ℕ) (v : ℕ) (b : Book) (qs : List Request) (ns last : List ℕ) → Stored image v b → ((q : Request) → q ∈ qs → IdInRange q)
-    → OneByOne image qs ns last → Ran image b qs ns last
+    → OneByOne image qs ns last → Ran image (everyNode (b .site)) b qs ns last
 one-by-one image v b [] [] last held small h = record {
   book = b;
   works = refl;
@@ -74,8 +81,9 @@ one-by-one image v b (q ∷ qs) (n ∷ ns) last held small (out, out′, len, fu
     let r = served-ran held q (small q (inl refl)) out full n len out′ call in
     let (k, e, w) = ran-one (n ∷ []) r in
     let t = one-by-one (current image len out′) (r .version) (r .book) qs ns last (r .holds) (λ x m. small x (inr m)) rest in
-    ran-joined r (work-site (anyMiddle b) b q k (r .book) w) t
+    let same = work-site (everyNode (b .site)) b q k (r .book) w in
+    ran-joined r (subst (λ (site : Site). Ran (current image len out′) (everyNode site) (r .book) qs ns last) same t)
 
 pub list-is-its-calls : ListIsItsCalls
 list-is-its-calls image v b qs held few small n ns ms last last′ calls p =
-    ran-unique (posting-ran held qs small few n ms last′ p .1) (one-by-one image v b qs ns last held small calls)
+    ran-unique (posting-ran held (all-below (nodes (b .site .links))) qs small few n ms last′ p .1) (one-by-one image v b qs ns last held small calls)

@@ -1,3 +1,4 @@
 pub mod Promises
 pub mod OnAir
 pub mod Needed
+pub mod Mains

@@ -5,9 +5,9 @@ use mathlib.Core.Bool.{true}
 use mathlib.Core.List.{List, [], _∷_, _++_}
 use Prim.Native.Nat.{ℕ, _+_, _≤_}
 use lib.ListN.{length, getD, take}
-use Rattle.rules.specs.Words.{TwoBytes, _∈_, Count, Reordered, Each}
+use Rattle.rules.specs.Words.{NoBitFrom, TwoBytes, _∈_, Count, Reordered, Each}
 use Rattle.rules.specs.Tiles.{cycleSlots}
-use Rattle.rules.specs.Topology.{Touches}
+use Rattle.rules.specs.Topology.{nodes, allNodes, Touches}
 use Rattle.rules.specs.Book.{Row, Book, hops, rowHop, LawfulBook}
 use Rattle.rules.specs.Placing.{NoPlacing, Asked}
 use Rattle.rules.specs.Image.{newest, FullSize, Stored}
@@ -75,18 +75,18 @@ CloseUndoesOpen =
 -- a posted list leaves a lawful book of the same site, in which only the streams of records that were done have moved
 abbrev pub PostMovesItsOwn : Type 0
 PostMovesItsOwn =
-    (image : List ℕ) (v : ℕ) (b : Book) (qs : List Request) → Stored image v b → length qs ≤ mostRequests → ((q : Request) → q ∈ qs → IdInRange q)
-    → (number : ℕ) (answers last : List ℕ) → Posting FullSize image qs number answers last
+    (image : List ℕ) (v : ℕ) (b : Book) (mains : ℕ) (qs : List Request) → Stored image v b → NoBitFrom (nodes (b .site .links)) mains → length qs ≤ mostRequests → ((q : Request) → q ∈ qs → IdInRange q)
+    → (number : ℕ) (answers last : List ℕ) → Posting FullSize image mains qs number answers last
     → (w : ℕ) × (c : Book) × Stored last w c × (c .site ≡ b .site)
     × ((r : Row) → Each (λ (q : Request) (n : ℕ). n ≡ 0 → idOf q ≡ r .id → ⊥) qs answers → (r ∈ b .rows) ↔ (r ∈ c .rows))
 
--- a list may be cut in two anywhere: the second part, posted on what the first left, gives the same answers and the same last image
+-- a list may be cut in two anywhere: the second part, posted with the same set on what the first left, gives the same answers and the same last image
 abbrev pub ListsJoin : Type 0
 ListsJoin =
-    (image : List ℕ) (v : ℕ) (b : Book) (qs ps : List Request) → Stored image v b → length (qs ++ ps) ≤ mostRequests
-    → ((q : Request) → q ∈ (qs ++ ps) → IdInRange q)
+    (image : List ℕ) (v : ℕ) (b : Book) (mains : ℕ) (qs ps : List Request) → Stored image v b → NoBitFrom (nodes (b .site .links)) mains
+    → length (qs ++ ps) ≤ mostRequests → ((q : Request) → q ∈ (qs ++ ps) → IdInRange q)
     → (n m k : ℕ) (ns ms ks between last last′ : List ℕ)
-    → Posting FullSize image qs n ns between → Posting FullSize between ps m ms last → Posting FullSize image (qs ++ ps) k ks last′
+    → Posting FullSize image mains qs n ns between → Posting FullSize between mains ps m ms last → Posting FullSize image mains (qs ++ ps) k ks last′
     → (ks ≡ ns ++ ms) × (last′ ≡ last)
 
 -- the calls of the requests by themselves, one after the other, each with a full-size buffer on the image that the one before left
@@ -97,11 +97,11 @@ OneByOne image (q ∷ qs) [] last = ⊥
 OneByOne image (q ∷ qs) (n ∷ ns) last =
     (out out′ : List ℕ) × (len : ℕ) × FullSize out × Serve image q out n len out′ × OneByOne (current image len out′) qs ns last
 
--- they give what the list gives: the same answers, and the same last image
+-- they give what the list gives with all nodes in the set: the same answers, and the same last image
 abbrev pub ListIsItsCalls : Type 0
 ListIsItsCalls =
     (image : List ℕ) (v : ℕ) (b : Book) (qs : List Request) → Stored image v b → length qs ≤ mostRequests → ((q : Request) → q ∈ qs → IdInRange q)
-    → (n : ℕ) (ns ms last last′ : List ℕ) → OneByOne image qs ns last → Posting FullSize image qs n ms last′ → (ms ≡ ns) × (last′ ≡ last)
+    → (n : ℕ) (ns ms last last′ : List ℕ) → OneByOne image qs ns last → Posting FullSize image (allNodes (nodes (b .site .links))) qs n ms last′ → (ms ≡ ns) × (last′ ≡ last)
 
 -- IN ANY ORDER: what demand 3 says to those who file requests
 
@@ -111,22 +111,22 @@ Gets q n [] ns = ⊥
 Gets q n (p ∷ ps) [] = ⊥
 Gets q n (p ∷ ps) (m ∷ ns) = ((p ≡ q) × (m ≡ n)) ⊎ Gets q n ps ns
 
--- every order of the list can be posted, all come to one image, and in it the streams that no request names stand as before
-pub record OneImage (image : List ℕ) (qs : List Request) : Type 0 where
+-- every order of the list can be posted with the set, all come to one image, and in it the streams that no request names stand as before
+pub record OneImage (image : List ℕ) (mains : ℕ) (qs : List Request) : Type 0 where
   pub last : List ℕ
-  pub every : (ps : List Request) → Reordered qs ps → (answers : List ℕ) × Posting FullSize image ps 0 answers last
+  pub every : (ps : List Request) → Reordered qs ps → (answers : List ℕ) × Posting FullSize image mains ps 0 answers last
   pub others : (id : ℕ) → ((q : Request) → q ∈ qs → idOf q ≡ id → ⊥) → SameStream id last image
 
 -- to the clerk: the order in which envelopes are opened decides nothing
 abbrev pub OrderDecidesNothing : Type 0
-OrderDecidesNothing = (image : List ℕ) (qs : List Request) → InAnyOrder FullSize image qs → OneImage image qs
+OrderDecidesNothing = (image : List ℕ) (mains : ℕ) (qs : List Request) → InAnyOrder FullSize image mains qs → OneImage image mains qs
 
 -- to a yard: its request gets one answer and one stream, whatever else is in the list and in whatever order
 abbrev pub OwnRequestDecides : Type 0
 OwnRequestDecides =
-    (image : List ℕ) (v : ℕ) (b : Book) → Stored image v b → (qs qs′ : List Request) → InAnyOrder FullSize image qs → InAnyOrder FullSize image qs′
+    (image : List ℕ) (v : ℕ) (b : Book) (mains : ℕ) → Stored image v b → (qs qs′ : List Request) → InAnyOrder FullSize image mains qs → InAnyOrder FullSize image mains qs′
     → (ps ps′ : List Request) (n n′ : ℕ) (ns ns′ last last′ : List ℕ) → Reordered qs ps → Reordered qs′ ps′
-    → Posting FullSize image ps n ns last → Posting FullSize image ps′ n′ ns′ last′
+    → Posting FullSize image mains ps n ns last → Posting FullSize image mains ps′ n′ ns′ last′
     → (q : Request) (m m′ : ℕ) → Gets q m ps ns → Gets q m′ ps′ ns′ → (m ≡ m′) × SameStream (idOf q) last last′
 
 -- PLACINGS, ROUTES, BALANCES

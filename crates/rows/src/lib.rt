@@ -19,7 +19,7 @@ use pair::SECOND;
 use rules::Place;
 use rules::Plan;
 
-mod pair;
+pub mod pair;
 
 // Whether the row has an id, and is the first way of its stream or the second.
 fn key_holds(image: &[u8], at: usize) -> bool

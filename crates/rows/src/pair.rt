@@ -1,8 +1,9 @@
 // Whether a row may stand as the second way of a stream behind its first.
-ghost use Prim.Native.Nat.{ℕ};
+ghost use Prim.Native.Nat.{ℕ, _≤_};
 ghost use Rattle.rules.specs.Words.{Tests, _∈_};
-ghost use Rattle.rules.specs.Topology.{middles, Beside};
+ghost use Rattle.rules.specs.Topology.{nodes, middles, Beside};
 ghost use Rattle.rules.specs.Book.{Pair};
+ghost use Rattle.rules.specs.Image.{linksOf};
 ghost use Rattle.bitset.specs.Sets.{SetOf};
 ghost use Rattle.image.specs.Places.{rowAt};
 ghost use Rattle.rows.specs.Frame.{Framed};
@@ -17,8 +18,8 @@ pub const FIRST: u8 = 1;
 pub const SECOND: u8 = 2;
 
 // The nodes between the ends of the row's route.
-fn middles_at(image: &[u8], at: usize) -> u64
-    requires { ⌜ Framed (now image) × RowStands (now image) at ⌝ }
+pub fn middles_at(image: &[u8], at: usize) -> u64
+    requires { ⌜ (nodes (linksOf (now image)) ≤ 64) × RowStands (now image) at ⌝ }
     ensures { λ r. ⌜ SetOf (λ (a : ℕ). a ∈ middles (rowAt (now (image .entry)) at .route)) r ⌝ }
 {
     let h = image::hops_at(image, at);

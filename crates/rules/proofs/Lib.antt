@@ -30,3 +30,4 @@ pub mod Slots
 pub mod Balances
 pub mod Added
 pub mod Lawful
+pub mod Mains

@@ -1,15 +1,14 @@
--- There is one list of the first 32, whichever set has all nodes.
+-- There is one list of the first 32.
 use mathlib.Core.Path.{_≡_, refl, sym, ap, _∙_, subst}
 use mathlib.Core.Logic.{inl, inr}
 use mathlib.Core.Bool.{Bool, true, false}
 use mathlib.Core.List.{List, [], _∷_}
-use Prim.Native.Nat.{ℕ, _<_, _≤_}
+use Prim.Native.Nat.{ℕ, _<_}
 use native.Mathlib.Omega.{arith}
 use lib.ListN.{length, take}
 use Rattle.rules.specs.Words.{Earlier, Tests}
-use Rattle.rules.specs.Topology.{Topology, nodes, allNodes, mostListed, Exactly, FirstOf, Listed}
+use Rattle.rules.specs.Topology.{mostListed, Exactly, FirstOf}
 use Rattle.rules.proofs.Lists.{order-unique}
-use Rattle.rules.proofs.Middles.{within-any}
 
 never-both : (xs ys : List ℕ) → Earlier xs ys → Earlier ys xs → ⊥
 never-both xs [] h k = h
@@ -20,7 +19,7 @@ never-both (x ∷ xs) (y ∷ ys) (inr h) (inl k) = omega arith
 never-both (x ∷ xs) (y ∷ ys) (inr h) (inr k) = never-both xs ys (h .1) (k .1)
 
 -- a test of one thing has one answer
-tests-unique : (s t : Bool) {P : Type 0} → Tests s P → Tests t P → s ≡ t
+pub tests-unique : (s t : Bool) {P : Type 0} → Tests s P → Tests t P → s ≡ t
 tests-unique true true g h = refl
 tests-unique true false g h = sym (h .back (g .yes refl))
 tests-unique false true g h = g .back (h .yes refl)
@@ -40,12 +39,3 @@ first-unique m k f g = (
 -- what is listed of P is listed of what is true alike
 pub exactly-same : {P Q : List ℕ → Type 0} {ws : List (List ℕ)} → ((p : List ℕ) → P p → Q p) → ((p : List ℕ) → Q p → P p) → Exactly P ws → Exactly Q ws
 exactly-same f g e = record { rising = e .rising; only = λ p h. f p (e .only p h); all = λ p h. e .all p (g p h) }
-
-pub listed-any : {source destination : ℕ} {routes : List (List ℕ)} {more : Bool} (N M : ℕ) (T : Topology) → nodes T ≤ N → nodes T ≤ M
-    → Listed T (allNodes N) source destination routes more → Listed T (allNodes M) source destination routes more
-listed-any N M T few few′ l = record {
-  every = l .every;
-  exactly = exactly-same (λ p w. within-any M T few′ p w) (λ p w. within-any N T few p w) (l .exactly);
-  first = l .first;
-  more-is = l .more-is;
-}

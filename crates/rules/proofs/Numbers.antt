@@ -7,35 +7,38 @@ use Rattle.rules.specs.Tiles.{Plan}
 use Rattle.rules.specs.Book.{Book}
 use Rattle.rules.specs.Placing.{Asked}
 use Rattle.rules.specs.Image.{imageRefusals}
-use Rattle.rules.specs.Calls.{newRefusals, checkRefusals, rewriteRefusals, postRefusals, openRefusals, closeRefusals, expandRefusals, balanceRefusals, routesRefusals}
+use Rattle.rules.specs.Calls.{newRefusals, checkRefusals, rewriteRefusals, postRefusals, openRefusals, closeRefusals, expandRefusals, balanceRefusals}
+use Rattle.rules.specs.Calls.{routesRefusals, keepsRefusals}
 
 abbrev numbers : List Refusal → List ℕ
 numbers [] = []
 numbers (r ∷ rs) = r .number ∷ numbers rs
 
--- image; then post, and of its records open and close; rewrite, expand, balance, routes between; new book
+-- image; then post, and of its records open and close; rewrite, expand, balance, routes between, keeps to; new book
 pub record Ordered : Type 0 where
   pub image : (s : List ℕ) → numbers (imageRefusals s) ≡ 14 ∷ 13 ∷ 10 ∷ 14 ∷ 11 ∷ 15 ∷ 16 ∷ []
-  pub posts : (count room v : ℕ) (b : Book) → numbers (postRefusals count room v b) ≡ 26 ∷ 12 ∷ []
-  pub opens : (middle : ℕ) (q : Asked) (b : Book) → numbers (openRefusals middle q b) ≡ 1 ∷ 4 ∷ 5 ∷ 6 ∷ 2 ∷ 7 ∷ 17 ∷ 18 ∷ 8 ∷ 9 ∷ []
+  pub posts : (mains count room v : ℕ) (b : Book) → numbers (postRefusals mains count room v b) ≡ 25 ∷ 26 ∷ 12 ∷ []
+  pub opens : (mains : ℕ) (q : Asked) (b : Book) → numbers (openRefusals mains q b) ≡ 1 ∷ 4 ∷ 5 ∷ 6 ∷ 2 ∷ 7 ∷ 17 ∷ 18 ∷ 8 ∷ 9 ∷ []
   pub closes : (id : ℕ) (b : Book) → numbers (closeRefusals id b) ≡ 1 ∷ 3 ∷ []
   pub rewrites : (room v : ℕ) (b : Book) → numbers (rewriteRefusals room v b) ≡ 12 ∷ []
   pub expands : (node room v : ℕ) (b : Book) → numbers (expandRefusals node room v b) ≡ 4 ∷ 12 ∷ []
   pub balances : (node v : ℕ) (b : Book) → numbers (balanceRefusals node v b) ≡ 4 ∷ []
-  pub lists : (middle source destination room v : ℕ) (b : Book) → numbers (routesRefusals middle source destination room v b) ≡ 4 ∷ 5 ∷ 12 ∷ []
+  pub lists : (mains source destination room v : ℕ) (b : Book) → numbers (routesRefusals mains source destination room v b) ≡ 25 ∷ 4 ∷ 5 ∷ 12 ∷ []
+  pub keeps : (mains v : ℕ) (b : Book) → numbers (keepsRefusals mains v b) ≡ 25 ∷ []
   pub news : (plan : Plan) (N : ℕ) (links hearing : List ℕ) (room : ℕ) → numbers (newRefusals plan N links hearing room) ≡ 10 ∷ 11 ∷ 12 ∷ []
   pub checks : (v : ℕ) (b : Book) → numbers (checkRefusals v b) ≡ []
 
 pub ordered : Ordered
 ordered = record {
   image = λ s. refl;
-  posts = λ count room v b. refl;
-  opens = λ middle q b. refl;
+  posts = λ mains count room v b. refl;
+  opens = λ mains q b. refl;
   closes = λ id b. refl;
   rewrites = λ room v b. refl;
   expands = λ node room v b. refl;
   balances = λ node v b. refl;
-  lists = λ middle source destination room v b. refl;
+  lists = λ mains source destination room v b. refl;
+  keeps = λ mains v b. refl;
   news = λ plan N links hearing room. refl;
   checks = λ v b. refl;
 }

@@ -123,6 +123,7 @@ macro_rules! planner_in_c {
                 pub fn post(
                     book: *const u8,
                     book_len: usize,
+                    mains: u64,
                     requests: *mut Request,
                     count: usize,
                     out: *mut u8,
@@ -151,6 +152,7 @@ macro_rules! planner_in_c {
                 pub fn routes(
                     book: *const u8,
                     book_len: usize,
+                    mains: u64,
                     source: u8,
                     destination: u8,
                     out: *mut u8,
@@ -227,8 +229,10 @@ macro_rules! planner_in_c {
             fn post(&self, book: &[u8], requests: &mut [Request], out: &mut [u8]) -> Said {
                 let (image, size) = (book.as_ptr(), book.len());
                 let (list, count) = (requests.as_mut_ptr(), requests.len());
+                let (room, most) = (out.as_mut_ptr(), out.len());
+                let mains = all_nodes(book);
                 said(|length| unsafe {
-                    $module::post(image, size, list, count, out.as_mut_ptr(), out.len(), length)
+                    $module::post(image, size, mains, list, count, room, most, length)
                 })
             }
 
@@ -256,9 +260,20 @@ macro_rules! planner_in_c {
             ) -> (Said, bool) {
                 let (image, size) = (book.as_ptr(), book.len());
                 let (room, most) = (out.as_mut_ptr(), out.len());
-                let mut more = u8::MAX;
+                let (mains, mut more) = (all_nodes(book), u8::MAX);
                 let said = said(|length| unsafe {
-                    $module::routes(image, size, source, destination, room, most, length, &mut more)
+                    let more = &mut more;
+                    $module::routes(
+                        image,
+                        size,
+                        mains,
+                        source,
+                        destination,
+                        room,
+                        most,
+                        length,
+                        more,
+                    )
                 });
                 (said, more == 1)
             }
@@ -329,7 +344,7 @@ impl Planner for Reference {
 
     fn post(&self, book: &[u8], requests: &mut [Request], out: &mut [u8]) -> Said {
         let mut records: Vec<Record> = requests.iter().map(record).collect();
-        let said = calls::post(book, &mut records, out);
+        let said = calls::post(book, all_nodes(book), &mut records, out);
         for (request, record) in requests.iter_mut().zip(records) {
             request.answer = record.answer;
         }
@@ -346,9 +361,14 @@ impl Planner for Reference {
     }
 
     fn routes(&self, book: &[u8], source: u8, destination: u8, out: &mut [u8]) -> (Said, bool) {
-        let (number, length, more) = calls::routes(book, source, destination, out);
+        let (number, length, more) = calls::routes(book, all_nodes(book), source, destination, out);
         ((number, length), more)
     }
+}
+
+/// All nodes of a book.
+fn all_nodes(book: &[u8]) -> u64 {
+    u64::MAX >> (64 - u32::from(book[11]))
 }
 
 fn record(request: &Request) -> Record {

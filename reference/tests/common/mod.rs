@@ -5,6 +5,7 @@ use reference::book::Book;
 use reference::calls::{self, Site};
 use reference::change::Open;
 use reference::image;
+use reference::node_set::NodeSet;
 use reference::plan::Plan;
 use reference::row::{FIRST_ROUTE, Row, SECOND_ROUTE};
 use reference::version::Version;
@@ -37,6 +38,16 @@ pub fn line(nodes: usize) -> Vec<u8> {
 /// A site that hears exactly its links.
 pub fn site((s, c, kinds, d, u): (u8, u8, u16, u8, u8), nodes: u8, links: &[u8]) -> Site<'_> {
     Site { plan: Plan { s, c, kinds, d, u }, nodes, links, hearing: links }
+}
+
+/// All nodes of a site with so many.
+pub fn all(nodes: u8) -> NodeSet {
+    NodeSet::all(nodes)
+}
+
+/// All nodes of a book, as a set for a call.
+pub fn all_of(book: &[u8]) -> u64 {
+    all(book.get(11).copied().unwrap_or(0)).0
 }
 
 /// An empty book that hears exactly its links.

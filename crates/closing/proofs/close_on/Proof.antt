@@ -9,7 +9,7 @@ use Rattle.closing.proofs.close_on.Statement.{statement}
 use Rattle.closing.proofs.close_on.Tie as tie
 
 returns : tie.Need-returns
-returns c = record {
+returns c = λ mains. record {
   says = inl (c .before .if1 .taken, c .refused .ensures .0);
   refused = λ f. c .before .before .before .pre .index;
   done = λ z. absurd (omega (arith, c .refused .ensures .0));
@@ -24,7 +24,7 @@ take-out-requires c κs = (
 returns-2 : tie.Need-returns-2
 returns-2 c =
     let free = subst (SpotOf _ _) (c .before .enum-told .given .1) (c .before .before .before .find .ensures) in
-    record {
+    λ mains. record {
       says = inr (c .before .before .before .before .if1 .left, inl (λ k. vacant-unknown free k, c .refused2 .ensures .0));
       refused = λ f. c .before .before .before .before .before .before .pre .index;
       done = λ z. absurd (omega (arith, c .refused2 .ensures .0));
@@ -34,10 +34,10 @@ returns-3 : tie.Need-returns-3
 returns-3 c =
     let here = subst (SpotOf _ _) (c .before .before .before .before .at .given .1) (c .before .before .before .before .before .before .find .ensures) in
     let done = c .take-out .ensures in
-    record {
+    λ mains. record {
       says = inr (c .before .before .before .before .before .before .before .if1 .left, inr (λ f. f (taken-known here), done .0));
       refused = λ f. absurd (f (done .0));
-      done = λ z. done .1;
+      done = λ z. done .1 mains;
     }
 
 pub close-on-spec : {M : Type 1} → statement M

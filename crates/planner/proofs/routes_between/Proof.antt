@@ -7,7 +7,7 @@ use Rattle.planner.proofs.routes_between.Tie as tie
 returns : tie.Need-returns
 returns c =
     let r = c .refused .ensures in
-    routes-refused _ _ _ (c .before .before .verdict .ensures) (c .before .if1 .taken) (r .0) (r .1) (r .2)
+    routes-refused _ _ _ _ (c .before .before .verdict .ensures) (c .before .if1 .taken) (r .0) (r .1) (r .2)
 
 list-on-requires : tie.Need-list-on-requires
 list-on-requires c κs = c .before .before .verdict .ensures .stored (c .before .if1 .left)

@@ -31,7 +31,7 @@ use sound.WpLaws.{fmOf, WpFn-mono}
 use denote.RattleType.{RattleType, owns}
 use denote.Laws.{Is, shows}
 use denote.Memory.{mem, pointee, shares}
-use denote.Plain.{uint-makes, uint-copy, uint-lawful}
+use denote.Plain.{uint-makes, uint-copy, uint-lawful, uint-vals, uint-tells}
 use denote.Builtin.{u8, u64, usize}
 use denote.Array.{Array, arrayVal, array-typed, array-repeat}
 use denote.ArrayMemory.{array-apart, array-whole}
@@ -104,7 +104,10 @@ abbrev zero′ : Val
 zero′ = arrayVal (replicate indexLength (vint w64 0))
 
 abbrev stayed : Stays (f.ended .signature .params) (f.ended .kept)
-stayed = (stay-dropped (shrSliceOf (0 ∷ []) tt (plain (λ _. u8))) yes, (gave-slice (1 ∷ []) tt (plain (λ _. R)), (gave-slice (2 ∷ []) tt (plain (λ _. u8)), tt)))
+stayed = (
+  stay-dropped (shrSliceOf (0 ∷ []) tt (plain (λ _. u8))) yes,
+  (stay-dropped (plain (λ _. u64)) yes, (gave-slice (1 ∷ []) tt (plain (λ _. R)), (gave-slice (2 ∷ []) tt (plain (λ _. u8)), tt))),
+)
 
 -- the types of the locals
 abbrev word : Ty
@@ -174,7 +177,7 @@ module _ {M : Type 1} (𝓤 : URA M) (H : Heap 𝓤) (A : Atoms 𝓤) (mem₀ : 
   Finish = tripleOf 𝓤 H A finish.signature (finish.spec 𝓤 H A mem₀ run)
 
 module _ {M : Type 1} (𝓤 : URA M) (H : Heap 𝓤) (A : Atoms 𝓤) (W : Given 𝓤 H A) (mem₀ : Memory → SProp 𝓤) (run : Routine → Fun 𝓤) (κ κ₁ κ₂ : Lft) (q q₁ q₂ : Share)
-    (img : RefT (List ℕ)) (b o : ℕ) (γ : GName) (ys : List Request) (b₂ o₂ : ℕ) (γ₂ : GName) (out₀ : List ℕ) (room : Room R (length ys)) (room₂ : Room u8 (length out₀)) where
+    (img : RefT (List ℕ)) (mains b o : ℕ) (γ : GName) (ys : List Request) (b₂ o₂ : ℕ) (γ₂ : GName) (out₀ : List ℕ) (m-fits : mains < 2 ^ 64) (room : Room R (length ys)) (room₂ : Room u8 (length out₀)) where
   abbrev n : ℕ
   n = length ys
 
@@ -196,13 +199,13 @@ module _ {M : Type 1} (𝓤 : URA M) (H : Heap 𝓤) (A : Atoms 𝓤) (W : Given
   v₁ = sliceVal (img .ptr) (length (img .now))
 
   abbrev Arg : Type 0
-  Arg = RefT (List ℕ) × (RefT (List Request) × (RefT (List ℕ) × Unit {0}))
+  Arg = RefT (List ℕ) × (ℕ × (RefT (List Request) × (RefT (List ℕ) × Unit {0})))
 
   abbrev x : Arg
-  x = (img, (records, (out, tt)))
+  x = (img, (mains, (records, (out, tt))))
 
-  abbrev vals : List Val × (List Val × (List Val × Unit {0}))
-  vals = (v₁ ∷ [], (sliceVal (b, o) n ∷ [], (sliceVal (b₂, o₂) n₂ ∷ [], tt)))
+  abbrev vals : List Val × (List Val × (List Val × (List Val × Unit {0})))
+  vals = (v₁ ∷ [], (vint w64 mains ∷ [], (sliceVal (b, o) n ∷ [], (sliceVal (b₂, o₂) n₂ ∷ [], tt))))
 
   abbrev Img : Fml
   Img = ShrSlice (named 0) κ u8 .own img (v₁ ∷ [])
@@ -219,14 +222,14 @@ module _ {M : Type 1} (𝓤 : URA M) (H : Heap 𝓤) (A : Atoms 𝓤) (W : Given
   abbrev Left : List Request → List ℕ → List (Item 𝓤)
   Left zs ws = ‵ (finally R γ zs) ∷ ‵ (finally u8 γ₂ ws) ∷ ‵ (flft κ q) ∷ ‵ (flft κ₁ q₁) ∷ ‵ (flft κ₂ q₂) ∷ []
 
-  exits : (zs : List Request) (ws : List ℕ) (r : Answer) → Posts (img .now) ys out₀ r zs ws → length zs ≡ n → length ws ≡ n₂ → Is An.the-row r (An′.lowered r ∷ [])
+  exits : (zs : List Request) (ws : List ℕ) (r : Answer) → Posts (img .now) mains ys out₀ r zs ws → length zs ≡ n → length ws ≡ n₂ → Is An.the-row r (An′.lowered r ∷ [])
       → ent 𝓤 (⋆ 𝓤 H A (Left zs ws)) (Post (An′.lowered r))
   exits zs ws r e l l₂ is =
       qed W (Left zs ws) ∵
       suffices ! _ (ends-at 𝓤 H A f.ended stayed (f.clauses 𝓤 H A mem₀ run) W (((κ, (κ₁, (κ₂, tt))), (q, (q₁, (q₂, tt))), tt, x, vals), tt)
-      (An′.lowered r) r (tt, (zs, (ws, tt))) (tt, (l, (l₂, tt)))) $ says ! e $
+      (An′.lowered r) r (tt, (tt, (zs, (ws, tt)))) (tt, (tt, (l, (l₂, tt))))) $ says ! e $
       nothing ! $ move ! (5 ∷ 0 ∷ []) $ join ! $ move ! (4 ∷ 0 ∷ []) $ join ! $ move ! (3 ∷ 0 ∷ []) $ join ! $ frame ! $
-      nothing ! $ move ! (2 ∷ 0 ∷ []) $ fjoin ! $ move ! (1 ∷ 0 ∷ []) $ fjoin ! $ nothing ! $ fjoin ! $
+      nothing ! $ move ! (2 ∷ 0 ∷ []) $ fjoin ! $ move ! (1 ∷ 0 ∷ []) $ fjoin ! $ nothing ! $ fjoin ! $ nothing ! $ fjoin ! $
       owned ! An.the-row (Is An.the-row) ((LL.makes An.the-type An′.the-plain) 𝓤 H A) r _ is $ move ! (1 ∷ 0 ∷ []) $ done !
 
   -- an array that is lent for the lifetime ν under the name δ
@@ -240,8 +243,8 @@ module _ {M : Type 1} (𝓤 : URA M) (H : Heap 𝓤) (A : Atoms 𝓤) (W : Given
   View θ l ζ s = ShrSlice (named 0) (θ ∷ []) u8 .own (at l ζ s) (sliceVal (l, 0) (length s) ∷ [])
 
   -- what `begin` is asked at, and that the walk has what it asks
-  abbrev begin-args : (l l′ : ℕ) (δ δ′ : GName) → RefT (List ℕ) × (ℕ × (ℕ × (RefT (List ℕ) × (RefT (List ℕ) × Unit {0}))))
-  begin-args l l′ δ δ′ = (img, (n, (n₂, (at l δ zeros, (at l′ δ′ zeros′, tt)))))
+  abbrev begin-args : (l l′ : ℕ) (δ δ′ : GName) → RefT (List ℕ) × (ℕ × (ℕ × (ℕ × (RefT (List ℕ) × (RefT (List ℕ) × Unit {0})))))
+  begin-args l l′ δ δ′ = (img, (mains, (n, (n₂, (at l δ zeros, (at l′ δ′ zeros′, tt))))))
 
   abbrev asks-begin : (l l′ ν ν′ : ℕ) (δ δ′ : GName) → Begin 𝓤 H A mem₀ run .Ghost
   asks-begin l l′ ν ν′ δ δ′ = (
@@ -250,7 +253,7 @@ module _ {M : Type 1} (𝓤 : URA M) (H : Heap 𝓤) (A : Atoms 𝓤) (W : Given
       (q, (fullShare, (fullShare, tt))),
       tt,
       begin-args l l′ δ δ′,
-      (v₁ ∷ [], (vint w64 n ∷ [], (vint w64 n₂ ∷ [], (vptr l 0 ∷ [], (vptr l′ 0 ∷ [], tt))))),
+      (v₁ ∷ [], (vint w64 mains ∷ [], (vint w64 n ∷ [], (vint w64 n₂ ∷ [], (vptr l 0 ∷ [], (vptr l′ 0 ∷ [], tt)))))),
     ),
     tt,
   )
@@ -264,11 +267,12 @@ module _ {M : Type 1} (𝓤 : URA M) (H : Heap 𝓤) (A : Atoms 𝓤) (W : Given
       -- [the book; the index; the tokens; the image]
       move ! (2 ∷ []) $ fsplit ! $ nothing ! $ move ! (2 ∷ 0 ∷ []) $ fjoin ! $ move ! (1 ∷ 0 ∷ []) $ fjoin ! $
       owned ! usize (Is usize) (uint-makes 𝓤 H A W w64) n₂ _ (refl, room₂ .0) $ fjoin ! $ owned ! usize (Is usize) (uint-makes 𝓤 H A W w64) n _ (refl, room .0) $ fjoin ! $
+      owned ! u64 (Is u64) (uint-makes 𝓤 H A W w64) mains _ (refl, m-fits) $ fjoin ! $
       move ! (2 ∷ 0 ∷ []) $ fjoin ! $ move ! (1 ∷ 0 ∷ []) $ join ! $ frame ! $ done !
 
   -- `post_all`
-  abbrev all-args : (l l′ : ℕ) (δ δ′ : GName) (s w : List ℕ) (len : ℕ) → RefT (List Request) × (RefT (List ℕ) × (RefT (List ℕ) × (ℕ × Unit {0})))
-  all-args l l′ δ δ′ s w len = (records, (at l δ s, (at l′ δ′ w, (len, tt))))
+  abbrev all-args : (l l′ : ℕ) (δ δ′ : GName) (s w : List ℕ) (len : ℕ) → ℕ × (RefT (List Request) × (RefT (List ℕ) × (RefT (List ℕ) × (ℕ × Unit {0}))))
+  all-args l l′ δ δ′ s w len = (mains, (records, (at l δ s, (at l′ δ′ w, (len, tt)))))
 
   abbrev asks-all : (l l′ ν ν′ : ℕ) (δ δ′ : GName) (s w : List ℕ) (len : ℕ) → All 𝓤 H A mem₀ run .Ghost
   asks-all l l′ ν ν′ δ δ′ s w len = (
@@ -277,7 +281,7 @@ module _ {M : Type 1} (𝓤 : URA M) (H : Heap 𝓤) (A : Atoms 𝓤) (W : Given
       (q₁, (fullShare, (fullShare, tt))),
       tt,
       all-args l l′ δ δ′ s w len,
-      (sliceVal (b, o) n ∷ [], (vptr l 0 ∷ [], (vptr l′ 0 ∷ [], (vint w64 len ∷ [], tt)))),
+      (vint w64 mains ∷ [], (sliceVal (b, o) n ∷ [], (vptr l 0 ∷ [], (vptr l′ 0 ∷ [], (vint w64 len ∷ [], tt))))),
     ),
     tt,
   )
@@ -290,7 +294,8 @@ module _ {M : Type 1} (𝓤 : URA M) (H : Heap 𝓤) (A : Atoms 𝓤) (W : Given
       qed W ((‵ (flft κ₁ q₁) ⊛ ‵ (flft (ν ∷ []) fullShare) ⊛ ‵ (flft (ν′ ∷ []) fullShare) ⊛ ‵ ftrue) ∷ ‵ Rq ∷ ‵ (fsep (LentB (named 1) ν l δ s) (LentX (named 2) ν′ l′ δ′ w)) ∷ []) ∵
       says ! stands $ move ! (2 ∷ []) $ fsplit ! $ nothing ! $ owned ! usize (Is usize) (uint-makes 𝓤 H A W w64) len _ (refl, fits) $ fjoin ! $
       -- [the length's; the book; the index; the tokens; the records]
-      move ! (2 ∷ 0 ∷ []) $ fjoin ! $ move ! (1 ∷ 0 ∷ []) $ fjoin ! $ move ! (2 ∷ 0 ∷ []) $ fjoin ! $ move ! (1 ∷ 0 ∷ []) $ done !
+      move ! (2 ∷ 0 ∷ []) $ fjoin ! $ move ! (1 ∷ 0 ∷ []) $ fjoin ! $ move ! (2 ∷ 0 ∷ []) $ fjoin ! $
+      owned ! u64 (Is u64) (uint-makes 𝓤 H A W w64) mains _ (refl, m-fits) $ fjoin ! $ move ! (1 ∷ 0 ∷ []) $ done !
 
   -- `finish`
   abbrev finish-args : (l : ℕ) (ζ : GName) (s : List ℕ) (t : State) → RefT (List ℕ) × (State × (RefT (List ℕ) × Unit {0}))
@@ -327,7 +332,7 @@ module _ {M : Type 1} (𝓤 : URA M) (H : Heap 𝓤) (A : Atoms 𝓤) (W : Given
   Finishes θ ζ l s t r = ensured 𝓤 H A finish.ended (finish.clauses 𝓤 H A mem₀ run) (θ ∷ [], (κ₂, tt)) (finish-args l ζ s t) tt r
 
   module _ (𝓣 : Tables 𝓤 H) (begins : Triple 𝓤 (𝓣 .C #begin) (Begin 𝓤 H A mem₀ run)) (alls : Triple 𝓤 (𝓣 .C #post-all) (All 𝓤 H A mem₀ run))
-      (finishes : Triple 𝓤 (𝓣 .C #finish) (Finish 𝓤 H A mem₀ run)) (l₀ l₁ l₂ l₃ l₄ l₅ l₆ l₇ l₈ l₉ l₁₀ l₁₁ l₁₂ l₁₃ l₁₄ l₁₅ l₁₆ l₁₇ l₁₈ l₁₉ l₂₀ l₂₁ : ℕ) where
+      (finishes : Triple 𝓤 (𝓣 .C #finish) (Finish 𝓤 H A mem₀ run)) (l₀ l₁ lₘ l₂ l₃ l₄ l₅ l₆ l₇ l₈ l₉ l₁₀ l₁₁ l₁₂ l₁₃ l₁₄ l₁₅ l₁₆ l₁₇ l₁₈ l₁₉ l₂₀ l₂₁ : ℕ) where
     abbrev C : Calls 𝓤 H
     C = 𝓣 .C
 
@@ -335,7 +340,7 @@ module _ {M : Type 1} (𝓤 : URA M) (H : Heap 𝓤) (A : Atoms 𝓤) (W : Given
     Λ = 𝓣 .Λ
 
     abbrev En : Env 𝓤 H
-    En = (An′.mir, l₀) ∷ (shared, l₁) ∷ (slice, l₂) ∷ (output, l₃) ∷ (bytes, l₄) ∷ (words, l₅) ∷ (An′.mir, l₆) ∷ (S′.mir, l₇) ∷ (word, l₈) ∷ (word, l₉)
+    En = (An′.mir, l₀) ∷ (shared, l₁) ∷ (word, lₘ) ∷ (slice, l₂) ∷ (output, l₃) ∷ (bytes, l₄) ∷ (words, l₅) ∷ (An′.mir, l₆) ∷ (S′.mir, l₇) ∷ (word, l₈) ∷ (word, l₉)
         ∷ (lent, l₁₀) ∷ (lent′, l₁₁) ∷ (tyBool, l₁₂) ∷ (An′.mir, l₁₃) ∷ (ref, l₁₄) ∷ (again, l₁₅) ∷ (lent, l₁₆) ∷ (lent′, l₁₇) ∷ (view, l₁₈) ∷ (part, l₁₉)
         ∷ (ref′, l₂₀) ∷ (again′, l₂₁) ∷ []
 
@@ -343,7 +348,7 @@ module _ {M : Type 1} (𝓤 : URA M) (H : Heap 𝓤) (A : Atoms 𝓤) (W : Given
     abbrev Meet : List Request → List ℕ → Answer → List (Item 𝓤)
     Meet zs ws r = ‵ (finally R γ zs) ∷ ‵ (finally u8 γ₂ ws) ∷ ‵ (flft κ q) ∷ ‵ (flft κ₁ q₁) ∷ ‵ (flft κ₂ q₂)
         ∷ ‵ (fat fullShare An′.mir l₁₃ 0 (An′.lowered r)) ∷ ‵ (fdies An′.mir l₁₃) ∷ ‵ (froom An′.mir l₀ 0) ∷ ‵ (fdies An′.mir l₀) ∷ ‵ (froom shared l₁ 0)
-        ∷ ‵ (fdies shared l₁) ∷ ‵ (froom slice l₂ 0) ∷ ‵ (fdies slice l₂) ∷ ‵ (froom output l₃ 0) ∷ ‵ (fdies output l₃) ∷ ‵ (froom bytes l₄ 0)
+        ∷ ‵ (fdies shared l₁) ∷ ‵ (froom word lₘ 0) ∷ ‵ (fdies word lₘ) ∷ ‵ (froom slice l₂ 0) ∷ ‵ (fdies slice l₂) ∷ ‵ (froom output l₃ 0) ∷ ‵ (fdies output l₃) ∷ ‵ (froom bytes l₄ 0)
         ∷ ‵ (fdies bytes l₄) ∷ ‵ (froom words l₅ 0) ∷ ‵ (fdies words l₅) ∷ ‵ (froom An′.mir l₆ 0) ∷ ‵ (fdies An′.mir l₆) ∷ ‵ (froom S′.mir l₇ 0)
         ∷ ‵ (fdies S′.mir l₇) ∷ ‵ (froom word l₈ 0) ∷ ‵ (fdies word l₈) ∷ ‵ (froom word l₉ 0) ∷ ‵ (fdies word l₉) ∷ ‵ (froom lent l₁₀ 0) ∷ ‵ (fdies lent l₁₀)
         ∷ ‵ (froom lent′ l₁₁ 0) ∷ ‵ (fdies lent′ l₁₁) ∷ ‵ (froom tyBool l₁₂ 0) ∷ ‵ (fdies tyBool l₁₂) ∷ ‵ (froom ref l₁₄ 0) ∷ ‵ (fdies ref l₁₄)
@@ -351,11 +356,11 @@ module _ {M : Type 1} (𝓤 : URA M) (H : Heap 𝓤) (A : Atoms 𝓤) (W : Given
         ∷ ‵ (froom view l₁₈ 0) ∷ ‵ (fdies view l₁₈) ∷ ‵ (froom part l₁₉ 0) ∷ ‵ (fdies part l₁₉) ∷ ‵ (froom ref′ l₂₀ 0) ∷ ‵ (fdies ref′ l₂₀)
         ∷ ‵ (froom again′ l₂₁ 0) ∷ ‵ (fdies again′ l₂₁) ∷ []
 
-    leaves : (zs : List Request) (ws : List ℕ) (r : Answer) → Posts (img .now) ys out₀ r zs ws → length zs ≡ n → length ws ≡ n₂ → Is An.the-row r (An′.lowered r ∷ [])
+    leaves : (zs : List Request) (ws : List ℕ) (r : Answer) → Posts (img .now) mains ys out₀ r zs ws → length zs ≡ n → length ws ≡ n₂ → Is An.the-row r (An′.lowered r ∷ [])
         → Sq W (Meet zs ws r) (runs C Λ En parts.t-10 (atRet En Post))
     leaves zs ws r e l l₂ is =
         assigns ! (of-opd ! (load ! (from ! (stop !)) (look ! 5 refl))) (from ! (stop !)) (init ! 7 refl (LL.lawful An.the-type An′.the-laws 𝓤 H A W .typed r _ is .0)) $
-        returns ! (look ! 7 refl) $ forget ! 7 refl $ forget ! 5 refl $ move ! (7 ∷ 8 ∷ []) $ free1 ! $ move ! (7 ∷ 8 ∷ []) $ free1 ! $ move ! (7 ∷ 8 ∷ []) $
+        returns ! (look ! 7 refl) $ forget ! 7 refl $ forget ! 5 refl $ move ! (7 ∷ 8 ∷ []) $ free1 ! $ move ! (7 ∷ 8 ∷ []) $ free1 ! $ move ! (7 ∷ 8 ∷ []) $ free1 ! $ move ! (7 ∷ 8 ∷ []) $
         free1 ! $ move ! (7 ∷ 8 ∷ []) $ free1 ! $ move ! (7 ∷ 8 ∷ []) $ free1 ! $ move ! (7 ∷ 8 ∷ []) $ free1 ! $ move ! (7 ∷ 8 ∷ []) $ free1 ! $
         move ! (7 ∷ 8 ∷ []) $ free1 ! $ move ! (7 ∷ 8 ∷ []) $ free1 ! $ move ! (7 ∷ 8 ∷ []) $ free1 ! $ move ! (7 ∷ 8 ∷ []) $ free1 ! $ move ! (7 ∷ 8 ∷ []) $
         free1 ! $ move ! (7 ∷ 8 ∷ []) $ free1 ! $ move ! (5 ∷ 6 ∷ []) $ free1 ! $ move ! (5 ∷ 6 ∷ []) $ free1 ! $ move ! (5 ∷ 6 ∷ []) $ free1 ! $
@@ -376,7 +381,7 @@ module _ {M : Type 1} (𝓤 : URA M) (H : Heap 𝓤) (A : Atoms 𝓤) (W : Given
         ∷ ‵ (fdies shared l₁) ∷ ‵ (fdies slice l₂) ∷ ‵ (fdies output l₃) ∷ ‵ (fdies bytes l₄) ∷ ‵ (fdies words l₅) ∷ ‵ (fdies An′.mir l₆)
         ∷ ‵ (fdies S′.mir l₇) ∷ ‵ (fdies word l₈) ∷ ‵ (fdies word l₉) ∷ ‵ (fdies lent l₁₀) ∷ ‵ (fdies lent′ l₁₁) ∷ ‵ (fdies tyBool l₁₂)
         ∷ ‵ (fdies An′.mir l₁₃) ∷ ‵ (fdies ref l₁₄) ∷ ‵ (fdies again l₁₅) ∷ ‵ (fdies lent l₁₆) ∷ ‵ (fdies lent′ l₁₇) ∷ ‵ (fdies view l₁₈)
-        ∷ ‵ (fdies part l₁₉) ∷ ‵ (fdies ref′ l₂₀) ∷ ‵ (fdies again′ l₂₁) ∷ []
+        ∷ ‵ (fdies part l₁₉) ∷ ‵ (fdies ref′ l₂₀) ∷ ‵ (fdies again′ l₂₁) ∷ ‵ (fat fullShare word lₘ 0 (vint w64 mains)) ∷ ‵ (fdies word lₘ) ∷ []
 
     -- once `post_all` is done, with its state
     abbrev Worked-at : List Request → List ℕ → List ℕ → State → List (Item 𝓤)
@@ -388,10 +393,10 @@ module _ {M : Type 1} (𝓤 : URA M) (H : Heap 𝓤) (A : Atoms 𝓤) (W : Given
         ∷ ‵ (froom again′ l₂₁ 0) ∷ ‵ (fdies An′.mir l₀) ∷ ‵ (fdies shared l₁) ∷ ‵ (fdies slice l₂) ∷ ‵ (fdies output l₃) ∷ ‵ (fdies bytes l₄)
         ∷ ‵ (fdies words l₅) ∷ ‵ (fdies An′.mir l₆) ∷ ‵ (fdies S′.mir l₇) ∷ ‵ (fdies word l₈) ∷ ‵ (fdies word l₉) ∷ ‵ (fdies lent l₁₀) ∷ ‵ (fdies lent′ l₁₁)
         ∷ ‵ (fdies tyBool l₁₂) ∷ ‵ (fdies An′.mir l₁₃) ∷ ‵ (fdies ref l₁₄) ∷ ‵ (fdies again l₁₅) ∷ ‵ (fdies lent l₁₆) ∷ ‵ (fdies lent′ l₁₇)
-        ∷ ‵ (fdies view l₁₈) ∷ ‵ (fdies part l₁₉) ∷ ‵ (fdies ref′ l₂₀) ∷ ‵ (fdies again′ l₂₁) ∷ []
+        ∷ ‵ (fdies view l₁₈) ∷ ‵ (fdies part l₁₉) ∷ ‵ (fdies ref′ l₂₀) ∷ ‵ (fdies again′ l₂₁) ∷ ‵ (fat fullShare word lₘ 0 (vint w64 mains)) ∷ ‵ (fdies word lₘ) ∷ []
 
     -- the call is refused: the records and the output are left alone
-    refuses : (y : Answer) (s w : List ℕ) → Begun (img .now) n n₂ y s w → (y .number ≡ 0 → ⊥) → Is An.the-row y (An′.lowered y ∷ []) → Sq W (Begun-at y s w) (runs C Λ En (else-arm parts.s-9) Q)
+    refuses : (y : Answer) (s w : List ℕ) → Begun (img .now) mains n n₂ y s w → (y .number ≡ 0 → ⊥) → Is An.the-row y (An′.lowered y ∷ []) → Sq W (Begun-at y s w) (runs C Λ En (else-arm parts.s-9) Q)
     refuses y s w e f′ is =
         assigns-last ! (of-opd ! (load ! (from ! (stop !)) (look ! 11 refl))) (from ! (stop !))
         (init ! 18 refl (LL.lawful An.the-type An′.the-laws 𝓤 H A W .typed y _ is .0)) $ exec ! C Λ En parts.t-10 (atRet En Post) $ move ! (3 ∷ []) $
@@ -399,13 +404,13 @@ module _ {M : Type 1} (𝓤 : URA M) (H : Heap 𝓤) (A : Atoms 𝓤) (W : Given
         use1 W (‵ (finally u8 γ₂ out₀)) (gives-up 𝓤 H A W (named 2) κ₂ u8 b₂ o₂ γ₂ out₀ _) $ move ! (5 ∷ []) $
         use1 W (‵ (froom bytes l₄ 0)) (lies-out 𝓤 H A W u8 (longestImage newest) s l₄) $ move ! (6 ∷ []) $
         use1 W (‵ (froom words l₅ 0)) (lies-out 𝓤 H A W u64 indexLength w l₅) $
-        forget ! 8 refl $ forget ! 9 refl $ forget ! 10 refl $ forget ! 11 refl $
-        keep ! (3 ∷ 2 ∷ 4 ∷ 5 ∷ 6 ∷ 18 ∷ 40 ∷ 7 ∷ 27 ∷ 8 ∷ 28 ∷ 9 ∷ 29 ∷ 10 ∷ 30 ∷ 1 ∷ 31 ∷ 0 ∷ 32 ∷ 11 ∷ 33 ∷ 12 ∷ 34 ∷ 13 ∷ 35 ∷ 14 ∷ 36 ∷ 15 ∷ 37 ∷ 16 ∷ 38 ∷ 17 ∷ 39 ∷ 19 ∷ 41 ∷ 20 ∷ 42 ∷ 21
+        forget ! 8 refl $ forget ! 9 refl $ forget ! 10 refl $ forget ! 11 refl $ forget ! 49 refl $
+        keep ! (3 ∷ 2 ∷ 4 ∷ 5 ∷ 6 ∷ 18 ∷ 40 ∷ 7 ∷ 27 ∷ 8 ∷ 28 ∷ 49 ∷ 50 ∷ 9 ∷ 29 ∷ 10 ∷ 30 ∷ 1 ∷ 31 ∷ 0 ∷ 32 ∷ 11 ∷ 33 ∷ 12 ∷ 34 ∷ 13 ∷ 35 ∷ 14 ∷ 36 ∷ 15 ∷ 37 ∷ 16 ∷ 38 ∷ 17 ∷ 39 ∷ 19 ∷ 41 ∷ 20 ∷ 42 ∷ 21
         ∷ 43 ∷ 22 ∷ 44 ∷ 23 ∷ 45 ∷ 24 ∷ 46 ∷ 25 ∷ 47 ∷ 26 ∷ 48 ∷ []) $
-        leaves ys out₀ y (posts-refused ys out₀ y e f′) refl refl is
+        leaves ys out₀ y (posts-refused mains ys out₀ y e f′) refl refl is
 
     -- the book is written where a record was done
-    ending : (y : Answer) (s₀ w₀ : List ℕ) → Begun (img .now) n n₂ y s₀ w₀ → y .number ≡ 0 → (t : State) (zs : List Request) (s w : List ℕ) → PostedAll ys s₀ (y .length) t zs s w → length zs ≡ n
+    ending : (y : Answer) (s₀ w₀ : List ℕ) → Begun (img .now) mains n n₂ y s₀ w₀ → y .number ≡ 0 → (t : State) (zs : List Request) (s w : List ℕ) → PostedAll mains ys s₀ (y .length) t zs s w → length zs ≡ n
         → Is S.the-row t (S′.lowered t ∷ []) → Sq W (Worked-at zs s w t) (runs C Λ En (after 5 (then-arm parts.s-9)) Q)
     ending y s₀ w₀ e z t zs s w p ln it =
         assigns ! (addr ! (from ! (stop !))) (from ! (stop !)) (init ! 23 refl (tt, tt)) $
@@ -440,13 +445,13 @@ module _ {M : Type 1} (𝓤 : URA M) (H : Heap 𝓤) (A : Atoms 𝓤) (W : Given
         use1 W (‵ (mem B .lies s l₄ 0)) (array-whole 𝓤 H A W u8 fullShare (longestImage newest) s l₄ 0) $
         use1 W (‵ (froom bytes l₄ 0)) (lies-out 𝓤 H A W u8 (longestImage newest) s l₄) $ move ! (6 ∷ []) $
         use1 W (‵ (froom words l₅ 0)) (lies-out 𝓤 H A W u64 indexLength w l₅) $
-        forget ! 8 refl $ forget ! 9 refl $ forget ! 10 refl $ forget ! 12 refl $ forget ! 23 refl $ forget ! 24 refl $ forget ! 25 refl $ forget ! 26 refl $
-        keep ! (6 ∷ 3 ∷ 4 ∷ 5 ∷ 2 ∷ 18 ∷ 40 ∷ 7 ∷ 27 ∷ 8 ∷ 28 ∷ 9 ∷ 29 ∷ 10 ∷ 30 ∷ 1 ∷ 31 ∷ 0 ∷ 32 ∷ 11 ∷ 33 ∷ 12 ∷ 34 ∷ 13 ∷ 35 ∷ 14 ∷ 36 ∷ 15 ∷ 37 ∷ 16 ∷ 38 ∷ 17 ∷ 39 ∷ 19 ∷ 41 ∷ 20 ∷ 42 ∷ 21
+        forget ! 8 refl $ forget ! 9 refl $ forget ! 10 refl $ forget ! 12 refl $ forget ! 23 refl $ forget ! 24 refl $ forget ! 25 refl $ forget ! 26 refl $ forget ! 49 refl $
+        keep ! (6 ∷ 3 ∷ 4 ∷ 5 ∷ 2 ∷ 18 ∷ 40 ∷ 7 ∷ 27 ∷ 8 ∷ 28 ∷ 49 ∷ 50 ∷ 9 ∷ 29 ∷ 10 ∷ 30 ∷ 1 ∷ 31 ∷ 0 ∷ 32 ∷ 11 ∷ 33 ∷ 12 ∷ 34 ∷ 13 ∷ 35 ∷ 14 ∷ 36 ∷ 15 ∷ 37 ∷ 16 ∷ 38 ∷ 17 ∷ 39 ∷ 19 ∷ 41 ∷ 20 ∷ 42 ∷ 21
         ∷ 43 ∷ 22 ∷ 44 ∷ 23 ∷ 45 ∷ 24 ∷ 46 ∷ 25 ∷ 47 ∷ 26 ∷ 48 ∷ []) $
-        leaves zs (os .1 .1 .0) r (posts-done ys out₀ y e z t r p f′) ln ln₂ (is-answer r ir)))))))))
+        leaves zs (os .1 .1 .0) r (posts-done mains ys out₀ y e z t r p f′) ln ln₂ (is-answer r ir)))))))))
 
     -- the list is worked through
-    works : (y : Answer) (s w : List ℕ) → Begun (img .now) n n₂ y s w → y .number ≡ 0 → Is An.the-row y (An′.lowered y ∷ []) → Sq W (Begun-at y s w) (runs C Λ En (then-arm parts.s-9) Q)
+    works : (y : Answer) (s w : List ℕ) → Begun (img .now) mains n n₂ y s w → y .number ≡ 0 → Is An.the-row y (An′.lowered y ∷ []) → Sq W (Begun-at y s w) (runs C Λ En (then-arm parts.s-9) Q)
     works y s w e z is =
         assigns ! (addr ! (from ! (fld ! refl (hop ! (look-in ! 9 (sub ! 0 refl (whole !))) (stop !))))) (from ! (stop !)) (init ! 19 refl (tt, tt)) $
         assigns ! (agg ! (and-then ! (load ! (from ! (stop !)) (look ! 19 refl)) (and-then ! (load ! (from ! (fld ! refl (stop !))) (look-in ! 9 (sub ! 1 refl (whole !)))) (no-more !))))
@@ -464,27 +469,28 @@ module _ {M : Type 1} (𝓤 : URA M) (H : Heap 𝓤) (A : Atoms 𝓤) (W : Given
         join ! $ move ! (6 ∷ 0 ∷ []) $ join ! $ move ! (3 ∷ 1 ∷ []) $ fjoin ! $ move ! (1 ∷ 6 ∷ 0 ∷ []) $
         use3 W (raw (All 𝓤 H A mem₀ run .pre (asks-all l₄ l₅ μ μ′ ε ε′ s w (y .length)))) (goes-all l₄ l₅ μ μ′ ε ε′ s w (y .length) (e .stands z .3 .0) (y-fits y is)) $
         calls-at ! (fmOf 𝓤 H (W .laws) 𝓣) (All 𝓤 H A mem₀ run) alls (asks-all l₄ l₅ μ μ′ ε ε′ s w (y .length))
+        (and-then ! (load ! (from ! (stop !)) (look ! 48 refl))
         (and-then ! (load ! (from ! (stop !)) (look ! 19 refl))
         (and-then ! (load ! (from ! (stop !)) (look ! 20 refl))
-        (and-then ! (load ! (from ! (stop !)) (look ! 21 refl)) (and-then ! (load ! (from ! (fld ! refl (stop !))) (look-in ! 10 (sub ! 1 refl (whole !)))) (no-more !))))) (λ wa.
+        (and-then ! (load ! (from ! (stop !)) (look ! 21 refl)) (and-then ! (load ! (from ! (fld ! refl (stop !))) (look-in ! 10 (sub ! 1 refl (whole !)))) (no-more !)))))) (λ wa.
         use1 W (later (some (λ (t : State). ((‵ (flft κ₁ q₁) ⊛ ‵ (flft (μ ∷ []) fullShare) ⊛ ‵ (flft (μ′ ∷ []) fullShare) ⊛ ‵ ftrue) ⊛ ‵ (S.the-row .own t (wa ∷ []))) ⊛ raw
         (Alls μ μ′ ε ε′ l₄ l₅ s w (y .length) t))))
         (id⊢ 𝓤 _) $ await ! tt $ pick ! (λ t. split ! $ move ! (1 ∷ []) $
-        use1 W (some (λ (xs : List Request × (List ℕ × (List ℕ × (Unit {0} × Unit {0})))). ‵ (lasts all.ended (κ₁, (μ ∷ [], (μ′ ∷ [], tt))) (all-args l₄ l₅ ε ε′ s w (y .length)) xs) ⊛ raw
-        (fact 𝓤 (PostedAll ys s (y .length) t (xs .0) (xs .1 .0) (xs .1 .1 .0)))))
-        (id⊢ 𝓤 _) $ pick ! (λ xs. split ! $ move ! (1 ∷ []) $ heard ! (PostedAll ys s (y .length) t (xs .0) (xs .1 .0) (xs .1 .1 .0)) (λ p. fsplit ! $ fsplit ! $
+        use1 W (some (λ (xs : Unit {0} × (List Request × (List ℕ × (List ℕ × (Unit {0} × Unit {0}))))). ‵ (lasts all.ended (κ₁, (μ ∷ [], (μ′ ∷ [], tt))) (all-args l₄ l₅ ε ε′ s w (y .length)) xs) ⊛ raw
+        (fact 𝓤 (PostedAll mains ys s (y .length) t (xs .1 .0) (xs .1 .1 .0) (xs .1 .1 .1 .0)))))
+        (id⊢ 𝓤 _) $ pick ! (λ xs. split ! $ move ! (1 ∷ []) $ heard ! (PostedAll mains ys s (y .length) t (xs .1 .0) (xs .1 .1 .0) (xs .1 .1 .1 .0)) (λ p. fsplit ! $ drop ! $ fsplit ! $ fsplit ! $
         move ! (1 ∷ []) $ feqL ! (λ ln. move ! (1 ∷ []) $ fsplit ! $ move ! (1 ∷ []) $ fsplit ! $ move ! (1 ∷ []) $ drop ! $ move ! (3 ∷ []) $ split ! $
         move ! (1 ∷ []) $ peeks ! S.the-row (Is S.the-row) (shows 𝓤 H A S.the-row) t (wa ∷ []) (λ it.
         land ! (from ! (stop !)) (init ! 15 refl (LL.lawful S.the-type S′.the-laws 𝓤 H A W .typed t _ it .0)) $
         rewrite ! 15 (λ (z : Val). ‵ (fat fullShare S′.mir l₇ 0 z)) (ap only (LL.tells S.the-type S′.the-laws t _ it)) refl $ drop ! $ split ! $ move ! (1 ∷ []) $
         split ! $ move ! (1 ∷ []) $ split ! $ move ! (1 ∷ []) $ drop ! $ move ! (1 ∷ []) $ lft-end ! tt $ move ! (0 ∷ 7 ∷ 4 ∷ []) $
-        use3 W (later (‵ (mem B .lies (xs .1 .0) l₄ 0))) (ref-back 𝓤 H A W B (μ ∷ []) ε (xs .1 .0) l₄ 0) $ await ! tt $ move ! (1 ∷ []) $ lft-end ! tt $
+        use3 W (later (‵ (mem B .lies (xs .1 .1 .0) l₄ 0))) (ref-back 𝓤 H A W B (μ ∷ []) ε (xs .1 .1 .0) l₄ 0) $ await ! tt $ move ! (1 ∷ []) $ lft-end ! tt $
         move ! (0 ∷ 5 ∷ 3 ∷ []) $
-        use3 W (later (‵ (mem X .lies (xs .1 .1 .0) l₅ 0))) (ref-back 𝓤 H A W X (μ′ ∷ []) ε′ (xs .1 .1 .0) l₅ 0) $ await ! tt $
+        use3 W (later (‵ (mem X .lies (xs .1 .1 .1 .0) l₅ 0))) (ref-back 𝓤 H A W X (μ′ ∷ []) ε′ (xs .1 .1 .1 .0) l₅ 0) $ await ! tt $
         forget ! 11 refl $ forget ! 19 refl $ forget ! 20 refl $ forget ! 21 refl $ forget ! 22 refl $
         keep ! (4 ∷ 2 ∷ 5 ∷ 3 ∷ 6 ∷ 1 ∷ 0 ∷ 7 ∷ 8 ∷ 9 ∷ 10 ∷ 11 ∷ 12 ∷ 13 ∷ 14 ∷ 15 ∷ 16 ∷ 17 ∷ 18 ∷ 19 ∷ 20 ∷ 21 ∷ 22 ∷ 23 ∷ 24 ∷ 25 ∷ 26 ∷ 27 ∷ 28 ∷ 29 ∷ 30 ∷ 31 ∷ 32 ∷ 33 ∷ 34 ∷ 35 ∷ 36 ∷ 37
-        ∷ 38 ∷ 39 ∷ 40 ∷ 41 ∷ 42 ∷ 43 ∷ 44 ∷ 45 ∷ 46 ∷ 47 ∷ 48 ∷ []) $
-        ending y s w e z t (xs .0) (xs .1 .0) (xs .1 .1 .0) p ln (is-state t it)))))))))))
+        ∷ 38 ∷ 39 ∷ 40 ∷ 41 ∷ 42 ∷ 43 ∷ 44 ∷ 45 ∷ 46 ∷ 47 ∷ 48 ∷ 49 ∷ 50 ∷ []) $
+        ending y s w e z t (xs .1 .0) (xs .1 .1 .0) (xs .1 .1 .1 .0) p ln (is-state t it)))))))))))
 
     -- what is had once the parameters are passed
     abbrev Entry : List (Item 𝓤)
@@ -495,13 +501,13 @@ module _ {M : Type 1} (𝓤 : URA M) (H : Heap 𝓤) (A : Atoms 𝓤) (W : Given
         ∷ ‵ (froom word l₉ 0) ∷ ‵ (fdies word l₉) ∷ ‵ (froom word l₈ 0) ∷ ‵ (fdies word l₈) ∷ ‵ (froom S′.mir l₇ 0) ∷ ‵ (fdies S′.mir l₇)
         ∷ ‵ (froom An′.mir l₆ 0) ∷ ‵ (fdies An′.mir l₆) ∷ ‵ (froom words l₅ 0) ∷ ‵ (fdies words l₅) ∷ ‵ (froom bytes l₄ 0) ∷ ‵ (fdies bytes l₄)
         ∷ ‵ (fat fullShare output l₃ 0 (sliceVal (b₂, o₂) n₂)) ∷ ‵ (fdies output l₃) ∷ ‵ (fat fullShare slice l₂ 0 (sliceVal (b, o) n)) ∷ ‵ (fdies slice l₂)
-        ∷ ‵ (fat fullShare shared l₁ 0 v₁) ∷ ‵ (fdies shared l₁) ∷ ‵ (froom An′.mir l₀ 0) ∷ ‵ (fdies An′.mir l₀)
+        ∷ ‵ (fat fullShare word lₘ 0 (vint w64 mains)) ∷ ‵ (fdies word lₘ) ∷ ‵ (fat fullShare shared l₁ 0 v₁) ∷ ‵ (fdies shared l₁) ∷ ‵ (froom An′.mir l₀ 0) ∷ ‵ (fdies An′.mir l₀)
         ∷ (‵ (flft κ q) ⊛ ‵ (flft κ₁ q₁) ⊛ ‵ (flft κ₂ q₂) ⊛ ‵ ftrue)
-        ∷ ‵ (owns (ShrSlice (named 0) κ u8 ∷ MutSlice (named 1) κ₁ R ∷ MutSlice (named 2) κ₂ u8 ∷ []) x vals) ∷ []
+        ∷ ‵ (owns (ShrSlice (named 0) κ u8 ∷ u64 ∷ MutSlice (named 1) κ₁ R ∷ MutSlice (named 2) κ₂ u8 ∷ []) x vals) ∷ []
 
     body : Sq W Entry (runs C Λ En parts.t-1 (atRet En Post))
     body =
-        move ! (45 ∷ []) $ fsplit ! $ move ! (1 ∷ []) $ fsplit ! $ move ! (1 ∷ []) $ fsplit ! $ move ! (1 ∷ []) $ drop ! $ move ! (47 ∷ []) $ split ! $
+        move ! (47 ∷ []) $ fsplit ! $ move ! (1 ∷ []) $ fsplit ! $ drop ! $ fsplit ! $ move ! (1 ∷ []) $ fsplit ! $ move ! (1 ∷ []) $ drop ! $ move ! (49 ∷ []) $ split ! $
         move ! (1 ∷ []) $ split ! $ move ! (1 ∷ []) $ split ! $ move ! (1 ∷ []) $ drop ! $
         -- the two arrays are laid, and lie in memory
         owned ! u8 (Is u8) (uint-makes 𝓤 H A W w8) 0 _ (refl, lit< tt) $
@@ -532,64 +538,68 @@ module _ {M : Type 1} (𝓤 : URA M) (H : Heap 𝓤) (A : Atoms 𝓤) (W : Given
         move ! (5 ∷ 0 ∷ []) $ join ! $ move ! (7 ∷ 0 ∷ []) $ join ! $ move ! (3 ∷ 1 ∷ []) $ fjoin ! $ move ! (1 ∷ 8 ∷ 0 ∷ []) $
         use3 W (raw (Begin 𝓤 H A mem₀ run .pre (asks-begin l₄ l₅ ν ν′ δ δ′))) (goes-begin l₄ l₅ ν ν′ δ δ′) $
         calls-at ! (fmOf 𝓤 H (W .laws) 𝓣) (Begin 𝓤 H A mem₀ run) begins (asks-begin l₄ l₅ ν ν′ δ δ′)
+        (and-then ! (load ! (from ! (stop !)) (look ! 47 refl))
         (and-then ! (load ! (from ! (stop !)) (look ! 45 refl))
         (and-then ! (load ! (from ! (stop !)) (look ! 33 refl))
-        (and-then ! (load ! (from ! (stop !)) (look ! 31 refl)) (and-then ! (load ! (from ! (stop !)) (look ! 29 refl)) (and-then ! (load ! (from ! (stop !)) (look ! 27 refl)) (no-more !))))))
+        (and-then ! (load ! (from ! (stop !)) (look ! 31 refl)) (and-then ! (load ! (from ! (stop !)) (look ! 29 refl)) (and-then ! (load ! (from ! (stop !)) (look ! 27 refl)) (no-more !)))))))
         (λ wb.
         use1 W (later (some (λ (y : Answer). ((‵ (flft κ q) ⊛ ‵ (flft (ν ∷ []) fullShare) ⊛ ‵ (flft (ν′ ∷ []) fullShare) ⊛ ‵ ftrue) ⊛ ‵ (An.the-row .own y (wb ∷ []))) ⊛ raw
         (Begins ν ν′ δ δ′ l₄ l₅ y))))
         (id⊢ 𝓤 _) $ await ! tt $ pick ! (λ y. split ! $ move ! (1 ∷ []) $
-        use1 W (some (λ (zs : Unit {0} × (Unit {0} × (Unit {0} × (List ℕ × (List ℕ × Unit {0}))))). ‵ (lasts begin.ended (κ, (ν ∷ [], (ν′ ∷ [], tt))) (begin-args l₄ l₅ δ δ′) zs) ⊛ raw
-        (fact 𝓤 (Begun (img .now) n n₂ y (zs .1 .1 .1 .0) (zs .1 .1 .1 .1 .0)))))
-        (id⊢ 𝓤 _) $ pick ! (λ zs. split ! $ move ! (1 ∷ []) $ heard ! (Begun (img .now) n n₂ y (zs .1 .1 .1 .0) (zs .1 .1 .1 .1 .0)) (λ e. fsplit ! $ drop ! $
-        fsplit ! $ drop ! $ fsplit ! $ drop ! $ fsplit ! $ move ! (1 ∷ []) $ fsplit ! $ move ! (1 ∷ []) $ drop ! $ move ! (2 ∷ []) $ split ! $ move ! (1 ∷ []) $
+        use1 W (some (λ (zs : Unit {0} × (Unit {0} × (Unit {0} × (Unit {0} × (List ℕ × (List ℕ × Unit {0})))))). ‵ (lasts begin.ended (κ, (ν ∷ [], (ν′ ∷ [], tt))) (begin-args l₄ l₅ δ δ′) zs) ⊛ raw
+        (fact 𝓤 (Begun (img .now) mains n n₂ y (zs .1 .1 .1 .1 .0) (zs .1 .1 .1 .1 .1 .0)))))
+        (id⊢ 𝓤 _) $ pick ! (λ zs. split ! $ move ! (1 ∷ []) $ heard ! (Begun (img .now) mains n n₂ y (zs .1 .1 .1 .1 .0) (zs .1 .1 .1 .1 .1 .0)) (λ e. fsplit ! $ drop ! $
+        fsplit ! $ drop ! $ fsplit ! $ drop ! $ fsplit ! $ drop ! $ fsplit ! $ move ! (1 ∷ []) $ fsplit ! $ move ! (1 ∷ []) $ drop ! $ move ! (2 ∷ []) $ split ! $ move ! (1 ∷ []) $
         peeks ! An.the-row (Is An.the-row) (shows 𝓤 H A An.the-row) y (wb ∷ []) (λ is.
         land ! (from ! (stop !)) (init ! 40 refl (LL.lawful An.the-type An′.the-laws 𝓤 H A W .typed y _ is .0)) $
         rewrite ! 40 (λ (z : Val). ‵ (fat fullShare An′.mir l₆ 0 z)) (ap only (LL.tells An.the-type An′.the-laws y _ is)) refl $ drop ! $ split ! $
         move ! (1 ∷ []) $ split ! $ move ! (1 ∷ []) $ split ! $ move ! (1 ∷ []) $ drop ! $ move ! (1 ∷ []) $ lft-end ! tt $ move ! (0 ∷ 6 ∷ 4 ∷ []) $
-        use3 W (later (‵ (mem B .lies (zs .1 .1 .1 .0) l₄ 0))) (ref-back 𝓤 H A W B (ν ∷ []) δ (zs .1 .1 .1 .0) l₄ 0) $ await ! tt $ move ! (1 ∷ []) $ lft-end ! tt $
+        use3 W (later (‵ (mem B .lies (zs .1 .1 .1 .1 .0) l₄ 0))) (ref-back 𝓤 H A W B (ν ∷ []) δ (zs .1 .1 .1 .1 .0) l₄ 0) $ await ! tt $ move ! (1 ∷ []) $ lft-end ! tt $
         move ! (0 ∷ 4 ∷ 3 ∷ []) $
-        use3 W (later (‵ (mem X .lies (zs .1 .1 .1 .1 .0) l₅ 0))) (ref-back 𝓤 H A W X (ν′ ∷ []) δ′ (zs .1 .1 .1 .1 .0) l₅ 0) $ await ! tt $
+        use3 W (later (‵ (mem X .lies (zs .1 .1 .1 .1 .1 .0) l₅ 0))) (ref-back 𝓤 H A W X (ν′ ∷ []) δ′ (zs .1 .1 .1 .1 .1 .0) l₅ 0) $ await ! tt $
         assigns ! (bin ! (load ! (from ! (fld ! refl (stop !))) (look-in ! 37 (sub ! 0 refl (whole !)))) (lit ! tt) tt) (from ! (stop !)) (init ! 25 refl (tt, tt)) $
         first ! $ branches ! (load ! (from ! (stop !)) (look ! 25 refl))
         (λ yes.
         forget ! 33 refl $ forget ! 31 refl $ forget ! 29 refl $ forget ! 27 refl $ forget ! 25 refl $
-        keep ! (2 ∷ 4 ∷ 3 ∷ 6 ∷ 5 ∷ 1 ∷ 0 ∷ 47 ∷ 45 ∷ 43 ∷ 41 ∷ 37 ∷ 35 ∷ 33 ∷ 31 ∷ 29 ∷ 27 ∷ 25 ∷ 23 ∷ 21 ∷ 19 ∷ 17 ∷ 15 ∷ 13 ∷ 11 ∷ 9 ∷ 7 ∷ 48 ∷ 46 ∷ 44 ∷ 42 ∷ 40 ∷ 39 ∷ 38 ∷ 36 ∷ 34 ∷ 32 ∷ 30
-        ∷ 28 ∷ 26 ∷ 24 ∷ 22 ∷ 20 ∷ 18 ∷ 16 ∷ 14 ∷ 12 ∷ 10 ∷ 8 ∷ []) $
-        works y (zs .1 .1 .1 .0) (zs .1 .1 .1 .1 .0) e (eqb→eq (y .number) 0 yes) (is-answer y is))
+        keep ! (2 ∷ 4 ∷ 3 ∷ 6 ∷ 5 ∷ 1 ∷ 0 ∷ 49 ∷ 47 ∷ 43 ∷ 41 ∷ 37 ∷ 35 ∷ 33 ∷ 31 ∷ 29 ∷ 27 ∷ 25 ∷ 23 ∷ 21 ∷ 19 ∷ 17 ∷ 15 ∷ 13 ∷ 11 ∷ 9 ∷ 7 ∷ 50 ∷ 48 ∷ 44 ∷ 42 ∷ 40 ∷ 39 ∷ 38 ∷ 36 ∷ 34 ∷ 32 ∷ 30
+        ∷ 28 ∷ 26 ∷ 24 ∷ 22 ∷ 20 ∷ 18 ∷ 16 ∷ 14 ∷ 12 ∷ 10 ∷ 8 ∷ 45 ∷ 46 ∷ []) $
+        works y (zs .1 .1 .1 .1 .0) (zs .1 .1 .1 .1 .1 .0) e (eqb→eq (y .number) 0 yes) (is-answer y is))
         (λ no.
         forget ! 33 refl $ forget ! 31 refl $ forget ! 29 refl $ forget ! 27 refl $ forget ! 25 refl $
-        keep ! (2 ∷ 4 ∷ 3 ∷ 6 ∷ 5 ∷ 1 ∷ 0 ∷ 47 ∷ 45 ∷ 43 ∷ 41 ∷ 37 ∷ 35 ∷ 33 ∷ 31 ∷ 29 ∷ 27 ∷ 25 ∷ 23 ∷ 21 ∷ 19 ∷ 17 ∷ 15 ∷ 13 ∷ 11 ∷ 9 ∷ 7 ∷ 48 ∷ 46 ∷ 44 ∷ 42 ∷ 40 ∷ 39 ∷ 38 ∷ 36 ∷ 34 ∷ 32 ∷ 30
-        ∷ 28 ∷ 26 ∷ 24 ∷ 22 ∷ 20 ∷ 18 ∷ 16 ∷ 14 ∷ 12 ∷ 10 ∷ 8 ∷ []) $
-        refuses y (zs .1 .1 .1 .0) (zs .1 .1 .1 .1 .0) e (λ z. T-not (eqb (y .number) 0) no (subst (λ (k : ℕ). Holds (eqb k 0)) (sym z) (eqb-refl 0))) (is-answer y is)))))))))))))
+        keep ! (2 ∷ 4 ∷ 3 ∷ 6 ∷ 5 ∷ 1 ∷ 0 ∷ 49 ∷ 47 ∷ 43 ∷ 41 ∷ 37 ∷ 35 ∷ 33 ∷ 31 ∷ 29 ∷ 27 ∷ 25 ∷ 23 ∷ 21 ∷ 19 ∷ 17 ∷ 15 ∷ 13 ∷ 11 ∷ 9 ∷ 7 ∷ 50 ∷ 48 ∷ 44 ∷ 42 ∷ 40 ∷ 39 ∷ 38 ∷ 36 ∷ 34 ∷ 32 ∷ 30
+        ∷ 28 ∷ 26 ∷ 24 ∷ 22 ∷ 20 ∷ 18 ∷ 16 ∷ 14 ∷ 12 ∷ 10 ∷ 8 ∷ 45 ∷ 46 ∷ []) $
+        refuses y (zs .1 .1 .1 .1 .0) (zs .1 .1 .1 .1 .1 .0) e (λ z. T-not (eqb (y .number) 0) no (subst (λ (k : ℕ). Holds (eqb k 0)) (sym z) (eqb-refl 0))) (is-answer y is)))))))))))))
 
   -- the locals are made, and the parameters passed
   walk : (𝓣 : Tables 𝓤 H) → Triple 𝓤 (𝓣 .C #begin) (Begin 𝓤 H A mem₀ run) → Triple 𝓤 (𝓣 .C #post-all) (All 𝓤 H A mem₀ run) → Triple 𝓤 (𝓣 .C #finish) (Finish 𝓤 H A mem₀ run)
       → Is (ShrSlice (named 0) κ u8) img (v₁ ∷ []) → ent 𝓤 (onEntry 𝓤 H A f.signature (κ, (κ₁, (κ₂, tt))) (q, (q₁, (q₂, tt))) x vals)
-      (WpFn 𝓤 H (𝓣 .C) (𝓣 .Λ) code.function (v₁ ∷ sliceVal (b, o) n ∷ sliceVal (b₂, o₂) n₂ ∷ []) Post)
+      (WpFn 𝓤 H (𝓣 .C) (𝓣 .Λ) code.function (v₁ ∷ vint w64 mains ∷ sliceVal (b, o) n ∷ sliceVal (b₂, o₂) n₂ ∷ []) Post)
   walk 𝓣 begins alls finishes p =
-      qed W ((‵ (flft κ q) ⊛ ‵ (flft κ₁ q₁) ⊛ ‵ (flft κ₂ q₂) ⊛ ‵ ftrue) ∷ ‵ (owns (ShrSlice (named 0) κ u8 ∷ MutSlice (named 1) κ₁ R ∷ MutSlice (named 2) κ₂ u8 ∷ []) x vals) ∷ []) ∵
-      enter ! (𝓣 .C) (𝓣 .Λ) code.function (v₁ ∷ sliceVal (b, o) n ∷ sliceVal (b₂, o₂) n₂ ∷ []) _ $
-      alloc1 ! (λ l₀. alloc1 ! (λ l₁. alloc1 ! (λ l₂. alloc1 ! (λ l₃. alloc1 ! (λ l₄. alloc1 ! (λ l₅. alloc1 ! (λ l₆. alloc1 ! (λ l₇. alloc1 ! (λ l₈.
+      qed W ((‵ (flft κ q) ⊛ ‵ (flft κ₁ q₁) ⊛ ‵ (flft κ₂ q₂) ⊛ ‵ ftrue) ∷ ‵ (owns (ShrSlice (named 0) κ u8 ∷ u64 ∷ MutSlice (named 1) κ₁ R ∷ MutSlice (named 2) κ₂ u8 ∷ []) x vals) ∷ []) ∵
+      enter ! (𝓣 .C) (𝓣 .Λ) code.function (v₁ ∷ vint w64 mains ∷ sliceVal (b, o) n ∷ sliceVal (b₂, o₂) n₂ ∷ []) _ $
+      alloc1 ! (λ l₀. alloc1 ! (λ l₁. alloc1 ! (λ lₘ. alloc1 ! (λ l₂. alloc1 ! (λ l₃. alloc1 ! (λ l₄. alloc1 ! (λ l₅. alloc1 ! (λ l₆. alloc1 ! (λ l₇. alloc1 ! (λ l₈.
       alloc1 ! (λ l₉. alloc1 ! (λ l₁₀. alloc1 ! (λ l₁₁. alloc1 ! (λ l₁₂. alloc1 ! (λ l₁₃. alloc1 ! (λ l₁₄. alloc1 ! (λ l₁₅. alloc1 ! (λ l₁₆. alloc1 ! (λ l₁₇.
       alloc1 ! (λ l₁₈. alloc1 ! (λ l₁₉. alloc1 ! (λ l₂₀. alloc1 ! (λ l₂₁. alloc0 ! $ params1 ! $
-      pass1 ! (init ! 40 refl (shr-slice-lawful 𝓤 H A W (named 0) κ u8 .typed img (v₁ ∷ []) p .0)) $
+      pass1 ! (init ! 42 refl (shr-slice-lawful 𝓤 H A W (named 0) κ u8 .typed img (v₁ ∷ []) p .0)) $ pass1 ! (init ! 40 refl (tt, record { fits = m-fits })) $
       pass1 ! (init ! 38 refl (tt, (tt, (record { fits = room .0 }, tt)))) $ pass1 ! (init ! 36 refl (tt, (tt, (record { fits = room₂ .0 }, tt)))) $ pass0 ! $
-      body 𝓣 begins alls finishes l₀ l₁ l₂ l₃ l₄ l₅ l₆ l₇ l₈ l₉ l₁₀ l₁₁ l₁₂ l₁₃ l₁₄ l₁₅ l₁₆ l₁₇ l₁₈ l₁₉ l₂₀ l₂₁))))))))))))))))))))))
+      body 𝓣 begins alls finishes l₀ l₁ lₘ l₂ l₃ l₄ l₅ l₆ l₇ l₈ l₉ l₁₀ l₁₁ l₁₂ l₁₃ l₁₄ l₁₅ l₁₆ l₁₇ l₁₈ l₁₉ l₂₀ l₂₁)))))))))))))))))))))))
 
 module _ {M : Type 1} (𝓤 : URA M) (H : Heap 𝓤) (A : Atoms 𝓤) (W : Given 𝓤 H A) (mem₀ : Memory → SProp 𝓤) (run : Routine → Fun 𝓤) (𝓣 : Tables 𝓤 H)
     (begins : Triple 𝓤 (𝓣 .C #begin) (Begin 𝓤 H A mem₀ run)) (alls : Triple 𝓤 (𝓣 .C #post-all) (All 𝓤 H A mem₀ run)) (finishes : Triple 𝓤 (𝓣 .C #finish) (Finish 𝓤 H A mem₀ run)) where
   post-walks : Walks 𝓤 H A f.ended stayed (WpFn 𝓤 H (𝓣 .C) (𝓣 .Λ) code.function) (f.clauses 𝓤 H A mem₀ run)
-  post-walks = walked 𝓤 H A f.ended stayed (f.clauses 𝓤 H A mem₀ run) (WpFn 𝓤 H (𝓣 .C) (𝓣 .Λ) code.function) (λ κs. (slice-vals, (slice-vals, (slice-vals, tt))))
-      (λ κs. (shr-slice-tells (named 0) (κs .0) u8, (mut-slice-tells (named 1) (κs .1 .0) R, (mut-slice-tells (named 2) (κs .1 .1 .0) u8, tt))))
-      (λ κs qs bounds a g are. via 𝓤 _ (fst∗ 𝓤 _ (emp 𝓤)) (walk 𝓤 H A W mem₀ run (κs .0) (κs .1 .0) (κs .1 .1 .0) (qs .0) (qs .1 .0) (qs .1 .1 .0) (a .0)
-      (a .1 .0 .ptr .0) (a .1 .0 .ptr .1) (a .1 .0 .name) (a .1 .0 .now) (a .1 .1 .0 .ptr .0) (a .1 .1 .0 .ptr .1) (a .1 .1 .0 .name) (a .1 .1 .0 .now)
-      (are .1 .0 .0 .1) (are .1 .1 .0 .0 .1) 𝓣 begins alls finishes (are .0)))
+  post-walks = walked 𝓤 H A f.ended stayed (f.clauses 𝓤 H A mem₀ run) (WpFn 𝓤 H (𝓣 .C) (𝓣 .Λ) code.function) (λ κs. (slice-vals, (uint-vals w64, (slice-vals, (slice-vals, tt)))))
+      (λ κs. (shr-slice-tells (named 0) (κs .0) u8, (uint-tells w64, (mut-slice-tells (named 1) (κs .1 .0) R, (mut-slice-tells (named 2) (κs .1 .1 .0) u8, tt)))))
+      (λ κs qs bounds a g are. via 𝓤 _ (fst∗ 𝓤 _ (emp 𝓤)) (walk 𝓤 H A W mem₀ run (κs .0) (κs .1 .0) (κs .1 .1 .0) (qs .0) (qs .1 .0) (qs .1 .1 .0) (a .0) (a .1 .0)
+      (a .1 .1 .0 .ptr .0) (a .1 .1 .0 .ptr .1) (a .1 .1 .0 .name) (a .1 .1 .0 .now) (a .1 .1 .1 .0 .ptr .0) (a .1 .1 .1 .0 .ptr .1) (a .1 .1 .1 .0 .name) (a .1 .1 .1 .0 .now)
+      (are .1 .0 .1) (are .1 .1 .0 .0 .1) (are .1 .1 .1 .0 .0 .1) 𝓣 begins alls finishes (are .0)))
 
   post-meets : Meets 𝓤 H A f.signature (WpFn 𝓤 H (𝓣 .C) (𝓣 .Λ) code.function) (f.spec 𝓤 H A mem₀ run)
   post-meets = walk-meets 𝓤 H A f.ended stayed W (
     goes-dropped 𝓤 H A W 3 (shrSliceOf (0 ∷ []) tt (plain (λ _. u8))) yes (λ κs x f. refl),
-    (goes-gave-slice 𝓤 H A W 3 1 tt (plain (λ _. R)), (goes-gave-slice 𝓤 H A W 3 2 tt (plain (λ _. u8)), tt)),
+    (
+      goes-dropped 𝓤 H A W 3 (plain (λ _. u64)) yes (λ κs x f. refl),
+      (goes-gave-slice 𝓤 H A W 3 1 tt (plain (λ _. R)), (goes-gave-slice 𝓤 H A W 3 2 tt (plain (λ _. u8)), tt)),
+    ),
   ) (f.clauses 𝓤 H A mem₀ run) (WpFn 𝓤 H (𝓣 .C) (𝓣 .Λ) code.function) (WpFn-mono 𝓤 H (W .laws) 𝓣 code.function) post-walks
 
 pub post-spec : {M : Type 1} → stated.statement M

@@ -90,10 +90,13 @@ X = Array u64 indexLength
 
 abbrev stayed : Stays (f.ended .signature .params) (f.ended .kept)
 stayed = (
-  stay-slice (0 ∷ []) tt (plain (λ _. R)),
+  stay-none (λ _. u64) yes,
   (
-    stay-ref (1 ∷ []) tt (ArrayOf (plain (λ _. u8)) (λ _. tt) (longestImage newest)),
-    (stay-ref (2 ∷ []) tt (ArrayOf (plain (λ _. u64)) (λ _. tt) indexLength), (stay-none (λ _. usize) yes, tt)),
+    stay-slice (0 ∷ []) tt (plain (λ _. R)),
+    (
+      stay-ref (1 ∷ []) tt (ArrayOf (plain (λ _. u8)) (λ _. tt) (longestImage newest)),
+      (stay-ref (2 ∷ []) tt (ArrayOf (plain (λ _. u64)) (λ _. tt) indexLength), (stay-none (λ _. usize) yes, tt)),
+    ),
   ),
 )
 
@@ -136,8 +139,8 @@ module _ {M : Type 1} (𝓤 : URA M) (H : Heap 𝓤) (A : Atoms 𝓤) (mem : Mem
   Next = tripleOf 𝓤 H A next.signature (next.spec 𝓤 H A mem run)
 
 module _ {M : Type 1} (𝓤 : URA M) (H : Heap 𝓤) (A : Atoms 𝓤) (W : Given 𝓤 H A) (mem : Memory → SProp 𝓤) (run : Routine → Fun 𝓤) (κ κ₁ κ₂ : Lft) (q q₁ q₂ : Share)
-    (b o : ℕ) (γ : GName) (ys : List Request) (b₁ o₁ : ℕ) (γ₁ : GName) (buf₀ : List ℕ) (b₂ o₂ : ℕ) (γ₂ : GName) (words₀ : List ℕ) (len : ℕ)
-    (room : Room R (length ys)) (len-fits : len < 2 ^ 64) where
+    (mains b o : ℕ) (γ : GName) (ys : List Request) (b₁ o₁ : ℕ) (γ₁ : GName) (buf₀ : List ℕ) (b₂ o₂ : ℕ) (γ₂ : GName) (words₀ : List ℕ) (len : ℕ)
+    (m-fits : mains < 2 ^ 64) (room : Room R (length ys)) (len-fits : len < 2 ^ 64) where
   abbrev n : ℕ
   n = length ys
 
@@ -152,13 +155,13 @@ module _ {M : Type 1} (𝓤 : URA M) (H : Heap 𝓤) (A : Atoms 𝓤) (W : Given
   index δ s = record { ptr = (b₂, o₂); name = δ; now = s }
 
   abbrev Arg : Type 0
-  Arg = RefT (List Request) × (RefT (List ℕ) × (RefT (List ℕ) × (ℕ × Unit {0})))
+  Arg = ℕ × (RefT (List Request) × (RefT (List ℕ) × (RefT (List ℕ) × (ℕ × Unit {0}))))
 
   abbrev x : Arg
-  x = (at-list ys, (book γ₁ buf₀, (index γ₂ words₀, (len, tt))))
+  x = (mains, (at-list ys, (book γ₁ buf₀, (index γ₂ words₀, (len, tt)))))
 
-  abbrev vals : List Val × (List Val × (List Val × (List Val × Unit {0})))
-  vals = (sliceVal (b, o) n ∷ [], (vptr b₁ o₁ ∷ [], (vptr b₂ o₂ ∷ [], (vint w64 len ∷ [], tt))))
+  abbrev vals : List Val × (List Val × (List Val × (List Val × (List Val × Unit {0}))))
+  vals = (vint w64 mains ∷ [], (sliceVal (b, o) n ∷ [], (vptr b₁ o₁ ∷ [], (vptr b₂ o₂ ∷ [], (vint w64 len ∷ [], tt)))))
 
   abbrev Bk : List ℕ → Fml
   Bk s = MutRef (named 1) κ₁ B .own (book γ₁ s) (vptr b₁ o₁ ∷ [])
@@ -172,17 +175,18 @@ module _ {M : Type 1} (𝓤 : URA M) (H : Heap 𝓤) (A : Atoms 𝓤) (W : Given
   abbrev Left : List Request → List ℕ → List ℕ → List (Item 𝓤)
   Left zs s w = ‵ (fobs γ (codedHoleys R .code (heres R zs))) ∷ ‵ (fbor κ (Held R (length zs) b o γ)) ∷ ‵ (flft κ q) ∷ ‵ (Bk s) ∷ ‵ (flft κ₁ q₁) ∷ ‵ (Ix w) ∷ ‵ (flft κ₂ q₂) ∷ []
 
-  exits : (zs : List Request) (s w : List ℕ) (r : State) → PostedAll ys buf₀ len r zs s w → length zs ≡ n → r .length < 2 ^ 64 → ent 𝓤 (⋆ 𝓤 H A (Left zs s w))
+  exits : (zs : List Request) (s w : List ℕ) (r : State) → PostedAll mains ys buf₀ len r zs s w → length zs ≡ n → r .length < 2 ^ 64 → ent 𝓤 (⋆ 𝓤 H A (Left zs s w))
       (Post (S′.lowered r))
   exits zs s w r e l fits =
       qed W (Left zs s w) ∵
       suffices ! _ (ends-at 𝓤 H A f.ended stayed (f.clauses 𝓤 H A mem run) W (((κ, (κ₁, (κ₂, tt))), (q, (q₁, (q₂, tt))), tt, x, vals), tt)
-      (S′.lowered r) r (zs, (s, (w, (tt, tt)))) (l, (tt, (tt, (tt, tt))))) $ says ! e $
+      (S′.lowered r) r (tt, (zs, (s, (w, (tt, tt))))) (tt, (l, (tt, (tt, (tt, tt)))))) $ says ! e $
       nothing ! $ move ! (7 ∷ 0 ∷ []) $ join ! $ move ! (5 ∷ 0 ∷ []) $ join ! $ move ! (3 ∷ 0 ∷ []) $ join ! $ frame ! $
       -- [obs; the borrow; the book; the index]
-      fjoin ! $ pureI ! (at-slice R (at-list zs) (vals .0)) (tt, (tt, tt)) (ap (λ (m : ℕ). sliceVal (b, o) m ∷ []) (sym l), subst (Room R) (sym l) room) $ fjoin ! $
+      fjoin ! $ pureI ! (at-slice R (at-list zs) (vals .1 .0)) (tt, (tt, tt)) (ap (λ (m : ℕ). sliceVal (b, o) m ∷ []) (sym l), subst (Room R) (sym l) room) $ fjoin ! $
       nothing ! $ owned ! usize (Is usize) (uint-makes 𝓤 H A W w64) len _ (refl, len-fits) $ fjoin ! $
       move ! (3 ∷ 0 ∷ []) $ fjoin ! $ move ! (2 ∷ 0 ∷ []) $ fjoin ! $ move ! (1 ∷ 0 ∷ []) $ fjoin ! $
+      owned ! u64 (Is u64) (uint-makes 𝓤 H A W w64) mains _ (refl, m-fits) $ fjoin ! $
       owned ! S.the-row (Is S.the-row) ((LL.makes S.the-type S′.the-plain) 𝓤 H A) r _ (is-state r fits) $ move ! (1 ∷ 0 ∷ []) $ done !
 
   -- what `answer_next` is asked at: the book and the index lent again for the lifetimes ν and ν′
@@ -198,8 +202,8 @@ module _ {M : Type 1} (𝓤 : URA M) (H : Heap 𝓤) (A : Atoms 𝓤) (W : Given
       (ν ∷ [], (ν′ ∷ [], tt)),
       (fullShare, (fullShare, tt)),
       tt,
-      (book δ s, (index δ′ w, (t, (r, tt)))),
-      (vptr b₁ o₁ ∷ [], (vptr b₂ o₂ ∷ [], (S′.lowered t ∷ [], (T′.lowered r ∷ [], tt)))),
+      (mains, (book δ s, (index δ′ w, (t, (r, tt))))),
+      (vint w64 mains ∷ [], (vptr b₁ o₁ ∷ [], (vptr b₂ o₂ ∷ [], (S′.lowered t ∷ [], (T′.lowered r ∷ [], tt))))),
     ),
     tt,
   )
@@ -212,11 +216,12 @@ module _ {M : Type 1} (𝓤 : URA M) (H : Heap 𝓤) (A : Atoms 𝓤) (W : Given
       nothing ! $ owned ! R (Is R) ((LL.makes T.the-type T′.the-plain) 𝓤 H A) r _ is $ fjoin ! $
       owned ! S.the-row (Is S.the-row) ((LL.makes S.the-type S′.the-plain) 𝓤 H A) t _ (is-state t fits) $ fjoin ! $
       -- [the state's and the record's; the tokens; the book; the index]
-      move ! (3 ∷ 0 ∷ []) $ fjoin ! $ move ! (2 ∷ 0 ∷ []) $ fjoin ! $ move ! (1 ∷ 0 ∷ []) $ done !
+      move ! (3 ∷ 0 ∷ []) $ fjoin ! $ move ! (2 ∷ 0 ∷ []) $ fjoin ! $ owned ! u64 (Is u64) (uint-makes 𝓤 H A W w64) mains _ (refl, m-fits) $ fjoin ! $
+      move ! (1 ∷ 0 ∷ []) $ done !
 
   -- what a turn starts from, by what is left
   abbrev M′ : Type 0
-  M′ = Mid ys buf₀ len
+  M′ = Mid mains ys buf₀ len
 
   abbrev Nearer : M′ → M′ → Type 0
   Nearer j m = n - j .i < n - m .i
@@ -224,7 +229,7 @@ module _ {M : Type 1} (𝓤 : URA M) (H : Heap 𝓤) (A : Atoms 𝓤) (W : Given
   Nearer-wf : WellFounded Nearer
   Nearer-wf = InvImage·wf (λ (m : M′). n - m .i) (Nat·lt-wfRel .wf)
 
-  module _ (𝓣 : Tables 𝓤 H) (known : Triple 𝓤 (𝓣 .C #answer-next) (Next 𝓤 H A mem run)) (l₀ l₁ l₂ l₃ l₄ l₅ l₆ l₇ l₈ l₉ l₁₀ l₁₁ l₁₂ l₁₃ l₁₄ : ℕ) where
+  module _ (𝓣 : Tables 𝓤 H) (known : Triple 𝓤 (𝓣 .C #answer-next) (Next 𝓤 H A mem run)) (l₀ lₘ l₁ l₂ l₃ l₄ l₅ l₆ l₇ l₈ l₉ l₁₀ l₁₁ l₁₂ l₁₃ l₁₄ : ℕ) where
     abbrev C : Calls 𝓤 H
     C = 𝓣 .C
 
@@ -232,7 +237,7 @@ module _ {M : Type 1} (𝓤 : URA M) (H : Heap 𝓤) (A : Atoms 𝓤) (W : Given
     Λ = 𝓣 .Λ
 
     abbrev En : Env 𝓤 H
-    En = (S′.mir, l₀) ∷ (slice, l₁) ∷ (tyRef (named 1) mut bytes, l₂) ∷ (tyRef (named 2) mut words, l₃) ∷ (word, l₄) ∷ (S′.mir, l₅) ∷ (word, l₆) ∷ (P′.mir, l₇)
+    En = (S′.mir, l₀) ∷ (word, lₘ) ∷ (slice, l₁) ∷ (tyRef (named 1) mut bytes, l₂) ∷ (tyRef (named 2) mut words, l₃) ∷ (word, l₄) ∷ (S′.mir, l₅) ∷ (word, l₆) ∷ (P′.mir, l₇)
         ∷ (word, l₈) ∷ (tyBool, l₉) ∷ (lent, l₁₀) ∷ (lent′, l₁₁) ∷ (tyPtr, l₁₂) ∷ (T′.mir, l₁₃) ∷ (tyPtr, l₁₄) ∷ []
 
     -- what no turn touches: the parameters, the result, the open borrow, and that each local dies
@@ -244,7 +249,7 @@ module _ {M : Type 1} (𝓤 : URA M) (H : Heap 𝓤) (A : Atoms 𝓤) (W : Given
         ∷ ‵ (fdies S′.mir l₀) ∷ ‵ (fdies slice l₁) ∷ ‵ (fdies (tyRef (named 1) mut bytes) l₂) ∷ ‵ (fdies (tyRef (named 2) mut words) l₃) ∷ ‵ (fdies word l₄)
         ∷ ‵ (fdies S′.mir l₅) ∷ ‵ (fdies word l₆)
         ∷ ‵ (fdies P′.mir l₇) ∷ ‵ (fdies word l₈) ∷ ‵ (fdies tyBool l₉) ∷ ‵ (fdies lent l₁₀) ∷ ‵ (fdies lent′ l₁₁) ∷ ‵ (fdies tyPtr l₁₂) ∷ ‵ (fdies T′.mir l₁₃)
-        ∷ ‵ (fdies tyPtr l₁₄) ∷ []
+        ∷ ‵ (fdies tyPtr l₁₄) ∷ ‵ (fat fullShare word lₘ 0 (vint w64 mains)) ∷ ‵ (fdies word lₘ) ∷ []
 
     -- [the row; the book; its token; the index; its token; i; the state; room for _7 .. _14; the frame]
     abbrev At : M′ → List (Item 𝓤)
@@ -270,7 +275,7 @@ module _ {M : Type 1} (𝓤 : URA M) (H : Heap 𝓤) (A : Atoms 𝓤) (W : Given
         assigns ! (bin ! (load ! (from ! (fld ! refl (stop !))) (look-in ! 15 (sub ! 0 refl (whole !)))) (load ! (from ! (stop !)) (look ! 8 refl)) tt) (from ! (stop !))
         (init ! 12 refl (tt, tt)) $
         rewrite ! 12 (λ (p : ℕ). ‵ (fat fullShare tyPtr l₁₂ 0 (vptr b p))) (sym (place-is 10 o (m .i))) refl $
-        elem-out ! R (Is R) (shows 𝓤 H A R) (LL.vals T.the-type T′.the-laws) (LL.tells T.the-type T′.the-laws) fullShare (m .cur) (m .i) none b o (within ys buf₀ len m l) (λ was.
+        elem-out ! R (Is R) (shows 𝓤 H A R) (LL.vals T.the-type T′.the-laws) (LL.tells T.the-type T′.the-laws) fullShare (m .cur) (m .i) none b o (within mains ys buf₀ len m l) (λ was.
         -- [the record's cell; what it owns; the others; the book; its token; the index; its token; i; the state; _7 .. _14; the parameters; …]
         assigns ! (of-opd ! (load ! (from ! (hop ! (look ! 14 refl) (stop !))) (look-raw ! 0 refl))) (from ! (stop !))
         (init ! 15 refl (LL.lawful T.the-type T′.the-laws 𝓤 H A W .typed r _ was .0)) $
@@ -288,27 +293,28 @@ module _ {M : Type 1} (𝓤 : URA M) (H : Heap 𝓤) (A : Atoms 𝓤) (W : Given
         use3 W (raw (Next 𝓤 H A mem run .pre (asked ν ν′ δ δ′))) (goes ν ν′ δ δ′ (m .buf) (m .words) (m .state) r (m .standing) (m .small) was) $
         -- [what is asked; what waits for the index; for the book; the record's cell; what it owns; the others; i; the state; _7 .. _14; the parameters; …]
         calls-at ! (fmOf 𝓤 H (W .laws) 𝓣) (Next 𝓤 H A mem run) known (asked ν ν′ δ δ′)
+        (and-then ! (load ! (from ! (stop !)) (look ! 39 refl))
         (and-then ! (load ! (from ! (stop !)) (look ! 11 refl))
         (and-then ! (load ! (from ! (stop !)) (look ! 12 refl))
-        (and-then ! (load ! (from ! (stop !)) (look ! 7 refl)) (and-then ! (load ! (from ! (stop !)) (look ! 14 refl)) (no-more !))))) (λ w.
+        (and-then ! (load ! (from ! (stop !)) (look ! 7 refl)) (and-then ! (load ! (from ! (stop !)) (look ! 14 refl)) (no-more !)))))) (λ w.
         use1 W (later (some (λ (y : Answered). ((‵ (flft (ν ∷ []) fullShare) ⊛ ‵ (flft (ν′ ∷ []) fullShare) ⊛ ‵ ftrue) ⊛ ‵ (P.the-row .own y (w ∷ [])))
-        ⊛ raw (ensured 𝓤 H A next.ended (next.clauses 𝓤 H A mem run) (ν ∷ [], (ν′ ∷ [], tt)) (book δ (m .buf), (index δ′ (m .words), (m .state, (r, tt)))) tt y)))) (id⊢ 𝓤 _) $
+        ⊛ raw (ensured 𝓤 H A next.ended (next.clauses 𝓤 H A mem run) (ν ∷ [], (ν′ ∷ [], tt)) (mains, (book δ (m .buf), (index δ′ (m .words), (m .state, (r, tt))))) tt y)))) (id⊢ 𝓤 _) $
         await ! tt $ pick ! (λ y.
         -- what `answer_next` ensures, at some last bytes and words
         split ! $ move ! (1 ∷ []) $
-        use1 W (some (λ (zs : List ℕ × (List ℕ × (Unit {0} × (Unit {0} × Unit {0})))).
-        ‵ (lasts next.ended (ν ∷ [], (ν′ ∷ [], tt)) (book δ (m .buf), (index δ′ (m .words), (m .state, (r, tt)))) zs)
-        ⊛ raw (fact 𝓤 (AnsweredNext (m .buf) (m .state) (theRequest r) y (zs .0) (zs .1 .0))))) (id⊢ 𝓤 _) $ pick ! (λ zs.
-        split ! $ move ! (1 ∷ []) $ heard ! (AnsweredNext (m .buf) (m .state) (theRequest r) y (zs .0) (zs .1 .0)) (λ e. fsplit ! $ move ! (1 ∷ []) $ fsplit ! $
+        use1 W (some (λ (zs : Unit {0} × (List ℕ × (List ℕ × (Unit {0} × (Unit {0} × Unit {0}))))).
+        ‵ (lasts next.ended (ν ∷ [], (ν′ ∷ [], tt)) (mains, (book δ (m .buf), (index δ′ (m .words), (m .state, (r, tt))))) zs)
+        ⊛ raw (fact 𝓤 (AnsweredNext mains (m .buf) (m .state) (theRequest r) y (zs .1 .0) (zs .1 .1 .0))))) (id⊢ 𝓤 _) $ pick ! (λ zs.
+        split ! $ move ! (1 ∷ []) $ heard ! (AnsweredNext mains (m .buf) (m .state) (theRequest r) y (zs .1 .0) (zs .1 .1 .0)) (λ e. fsplit ! $ drop ! $ fsplit ! $ move ! (1 ∷ []) $ fsplit ! $
         -- [the last words; …; the last bytes; the tokens and the result; what waits for the index; for the book; the record's cell; …]
         move ! (3 ∷ []) $ split ! $ move ! (1 ∷ []) $ peeks ! P.the-row (Is P.the-row) (shows 𝓤 H A P.the-row) y (w ∷ []) (λ is.
         land ! (from ! (stop !)) (init ! 12 refl (LL.lawful P.the-type P′.the-laws 𝓤 H A W .typed y _ is .0)) $
         rewrite ! 12 (λ (z : Val). ‵ (fat fullShare P′.mir l₇ 0 z)) (ap only (LL.tells P.the-type P′.the-laws y _ is)) refl $
         -- ν and ν′ are ended, and the book and the index come back
         drop ! $ split ! $ lft-end ! tt $ move ! (0 ∷ 6 ∷ 4 ∷ []) $
-        use3 W (later (‵ (Bk (zs .0)) ⊛ ‵ (flft κ₁ q₁))) (comes-back 𝓤 H A W B (named 1) κ₁ (ν ∷ []) q₁ γ₁ b₁ o₁ δ (m .buf) (zs .0)) $ await ! tt $ split ! $
+        use3 W (later (‵ (Bk (zs .1 .0)) ⊛ ‵ (flft κ₁ q₁))) (comes-back 𝓤 H A W B (named 1) κ₁ (ν ∷ []) q₁ γ₁ b₁ o₁ δ (m .buf) (zs .1 .0)) $ await ! tt $ split ! $
         move ! (2 ∷ []) $ split ! $ lft-end ! tt $ move ! (0 ∷ 6 ∷ 4 ∷ []) $
-        use3 W (later (‵ (Ix (zs .1 .0)) ⊛ ‵ (flft κ₂ q₂))) (comes-back 𝓤 H A W X (named 2) κ₂ (ν′ ∷ []) q₂ γ₂ b₂ o₂ δ′ (m .words) (zs .1 .0)) $ await ! tt $ split ! $
+        use3 W (later (‵ (Ix (zs .1 .1 .0)) ⊛ ‵ (flft κ₂ q₂))) (comes-back 𝓤 H A W X (named 2) κ₂ (ν′ ∷ []) q₂ γ₂ b₂ o₂ δ′ (m .words) (zs .1 .1 .0)) $ await ! tt $ split ! $
         move ! (2 ∷ 5 ∷ []) $ drop ! $ drop ! $ move ! (4 ∷ 5 ∷ 6 ∷ 2 ∷ 3 ∷ 0 ∷ 1 ∷ []) $
         -- the answer is stored, and the record is put back
         assigns ! (bin ! (load ! (from ! (stop !)) (look ! 7 refl)) (lit ! tt) (record { fits = before })) (from ! (stop !)) (store ! 10 refl (tt, record { fits = before })) $
@@ -318,14 +324,14 @@ module _ {M : Type 1} (𝓤 : URA M) (H : Heap 𝓤) (A : Atoms 𝓤) (W : Given
         assigns ! (of-opd ! (load ! (from ! (fld ! refl (stop !))) (look-in ! 9 (sub ! 0 refl (whole !))))) (from ! (hop ! (look ! 16 refl) (fld ! refl (stop !))))
         (store-in ! 0 (sub ! 6 refl (whole !)) (tt, record { fits = a-fits y w is })) $
         move ! (1 ∷ []) $ drop ! $ owned ! R (Is R) ((LL.makes T.the-type T′.the-plain) 𝓤 H A) (withAnswer r (y .answer)) _ (made y was (a-fits y w is)) $ move ! (1 ∷ 0 ∷ []) $
-        elem-put ! R fullShare (m .cur) (m .i) (withAnswer r (y .answer)) (T′.lowered (withAnswer r (y .answer)) ∷ []) b o (within ys buf₀ len m l) $
+        elem-put ! R fullShare (m .cur) (m .i) (withAnswer r (y .answer)) (T′.lowered (withAnswer r (y .answer)) ∷ []) b o (within mains ys buf₀ len m l) $
         -- [the row; the book; its token; the index; its token; i; the state; _7 .. _14; the parameters; …]
         assigns ! (of-opd ! (load ! (from ! (fld ! refl (stop !))) (look-in ! 7 (sub ! 1 refl (whole !))))) (from ! (stop !))
         (store ! 6 refl (tt, (record { fits = s-fits y w is }, (tt, tt)))) $
         assigns-last ! (bin ! (load ! (from ! (stop !)) (look ! 5 refl)) (lit ! tt) (record { fits = next-fits (room .0) l })) (from ! (stop !))
         (store ! 5 refl (tt, record { fits = next-fits (room .0) l })) $
         forget ! 7 refl $ forget ! 8 refl $ forget ! 9 refl $ forget ! 10 refl $ forget ! 11 refl $ forget ! 12 refl $ forget ! 13 refl $ forget ! 14 refl $
-        again ! Nearer At m (goes-on ys buf₀ len m l y (zs .0) (zs .1 .0) e (s-fits y w is)) (nearer l)))))))))))
+        again ! Nearer At m (goes-on mains ys buf₀ len m l y (zs .1 .0) (zs .1 .1 .0) e (s-fits y w is)) (nearer l)))))))))))
       where
         r : Request
         r = at (m .cur) (m .i)
@@ -359,12 +365,12 @@ module _ {M : Type 1} (𝓤 : URA M) (H : Heap 𝓤) (A : Atoms 𝓤) (W : Given
         move ! (0 ∷ 20 ∷ 21 ∷ 22 ∷ []) $ closes-slice ! tt R ys (m .cur) (m .long) b o $
         -- [obs; the borrow; the token; the book; its token; the index; its token; i; the state; _7 .. _14; the parameters; the result; and that each local dies]
         returns ! (look ! 21 refl) $ forget ! 7 refl $ forget ! 8 refl $ forget ! 10 refl $ forget ! 11 refl $ forget ! 17 refl $ forget ! 18 refl $ forget ! 19 refl $
-        forget ! 20 refl $ forget ! 21 refl $
-        move ! (21 ∷ 22 ∷ []) $ free1 ! $ move ! (17 ∷ 21 ∷ []) $ free1 ! $ move ! (17 ∷ 20 ∷ []) $ free1 ! $ move ! (17 ∷ 19 ∷ []) $ free1 ! $ move ! (17 ∷ 18 ∷ []) $ free1 ! $
+        forget ! 20 refl $ forget ! 21 refl $ forget ! 37 refl $
+        move ! (21 ∷ 22 ∷ []) $ free1 ! $ move ! (35 ∷ 36 ∷ []) $ free1 ! $ move ! (17 ∷ 21 ∷ []) $ free1 ! $ move ! (17 ∷ 20 ∷ []) $ free1 ! $ move ! (17 ∷ 19 ∷ []) $ free1 ! $ move ! (17 ∷ 18 ∷ []) $ free1 ! $
         move ! (8 ∷ 17 ∷ []) $ free1 ! $ move ! (7 ∷ 16 ∷ []) $ free1 ! $ move ! (7 ∷ 15 ∷ []) $ free1 ! $ move ! (7 ∷ 14 ∷ []) $ free1 ! $ move ! (7 ∷ 13 ∷ []) $ free1 ! $
         move ! (7 ∷ 12 ∷ []) $ free1 ! $
         move ! (7 ∷ 11 ∷ []) $ free1 ! $ move ! (7 ∷ 10 ∷ []) $ free1 ! $ move ! (7 ∷ 9 ∷ []) $ free1 ! $ move ! (7 ∷ 8 ∷ []) $ free1 ! $ free0 ! $
-        by ! (exits (m .cur) (m .buf) (m .words) (m .state) (ends ys buf₀ len m l) (m .long) (m .small))
+        by ! (exits (m .cur) (m .buf) (m .words) (m .state) (ends mains ys buf₀ len m l) (m .long) (m .small))
 
     turns-by : (m : M′) (t : Bool) → ltb (m .i) n ≡ t → Sq W (At m) (runs C Λ En parts.turn-1 (anyQ (Turned m)))
     turns-by m true e = more m (ltb-true (m .i) n e) e
@@ -382,8 +388,8 @@ module _ {M : Type 1} (𝓤 : URA M) (H : Heap 𝓤) (A : Atoms 𝓤) (W : Given
         ∷ ‵ (froom word l₆ 0) ∷ ‵ (fdies word l₆) ∷ ‵ (froom S′.mir l₅ 0) ∷ ‵ (fdies S′.mir l₅) ∷ ‵ (fat fullShare word l₄ 0 (vint w64 len)) ∷ ‵ (fdies word l₄)
         ∷ ‵ (fat fullShare (tyRef (named 2) mut words) l₃ 0 (vptr b₂ o₂)) ∷ ‵ (fdies (tyRef (named 2) mut words) l₃)
         ∷ ‵ (fat fullShare (tyRef (named 1) mut bytes) l₂ 0 (vptr b₁ o₁)) ∷ ‵ (fdies (tyRef (named 1) mut bytes) l₂)
-        ∷ ‵ (fat fullShare slice l₁ 0 (sliceVal (b, o) n)) ∷ ‵ (fdies slice l₁) ∷ ‵ (froom S′.mir l₀ 0) ∷ ‵ (fdies S′.mir l₀)
-        ∷ (‵ (flft κ q) ⊛ ‵ (flft κ₁ q₁) ⊛ ‵ (flft κ₂ q₂) ⊛ ‵ ftrue) ∷ ‵ (owns (MutSlice (named 0) κ R ∷ MutRef (named 1) κ₁ B ∷ MutRef (named 2) κ₂ X ∷ usize ∷ []) x vals) ∷ []
+        ∷ ‵ (fat fullShare slice l₁ 0 (sliceVal (b, o) n)) ∷ ‵ (fdies slice l₁) ∷ ‵ (fat fullShare word lₘ 0 (vint w64 mains)) ∷ ‵ (fdies word lₘ)
+        ∷ ‵ (froom S′.mir l₀ 0) ∷ ‵ (fdies S′.mir l₀) ∷ (‵ (flft κ q) ⊛ ‵ (flft κ₁ q₁) ⊛ ‵ (flft κ₂ q₂) ⊛ ‵ ftrue) ∷ ‵ (owns (u64 ∷ MutSlice (named 0) κ R ∷ MutRef (named 1) κ₁ B ∷ MutRef (named 2) κ₂ X ∷ usize ∷ []) x vals) ∷ []
 
     -- the body up to the loop: the borrow is opened once, before it
     body : Standing buf₀ len words₀ → Sq W Entry (runs C Λ En parts.t-1 (atRet En Post))
@@ -391,42 +397,45 @@ module _ {M : Type 1} (𝓤 : URA M) (H : Heap 𝓤) (A : Atoms 𝓤) (W : Given
         assigns ! (agg ! (and-then ! (load ! (from ! (stop !)) (look ! 20 refl)) (and-then ! (false-lit !) (no-more !)))) (from ! (stop !))
         (init ! 18 refl (tt, (record { fits = len-fits }, (tt, tt)))) $
         assigns ! (of-opd ! (lit ! tt)) (from ! (stop !)) (init ! 16 refl (tt, record { fits = lit< tt })) $
-        move ! (31 ∷ []) $ fsplit ! $ fsplit ! $ move ! (1 ∷ []) $ fsplit ! $ move ! (3 ∷ []) $ fsplit ! $ move ! (1 ∷ []) $ fsplit ! $
-        move ! (36 ∷ []) $ split ! $ move ! (1 ∷ []) $ split ! $ move ! (1 ∷ []) $ split ! $ move ! (7 ∷ 8 ∷ 3 ∷ []) $ opens-slice ! tt R ys b o $
-        keep ! (0 ∷ 9 ∷ 6 ∷ 7 ∷ 4 ∷ 27 ∷ 29 ∷ 25 ∷ 23 ∷ 21 ∷ 19 ∷ 17 ∷ 15 ∷ 13 ∷ 11 ∷ 37 ∷ 35 ∷ 33 ∷ 31 ∷ 39 ∷ 1 ∷ 2 ∷ 3 ∷ 40 ∷ 38 ∷ 36 ∷ 34 ∷ 32 ∷ 30 ∷ 28 ∷ 26 ∷ 24 ∷ 22
-        ∷ 20 ∷ 18 ∷ 16 ∷ 14 ∷ 12 ∷ []) $
-        first ! $ blocks ! $ loops ! 𝓣 Nearer Nearer-wf At turns (begins ys buf₀ len words₀ len-fits stands)
+        move ! (33 ∷ []) $ fsplit ! $ drop ! $ fsplit ! $ fsplit ! $ move ! (1 ∷ []) $ fsplit ! $ move ! (3 ∷ []) $ fsplit ! $ move ! (1 ∷ []) $ fsplit ! $
+        move ! (38 ∷ []) $ split ! $ move ! (1 ∷ []) $ split ! $ move ! (1 ∷ []) $ split ! $ move ! (7 ∷ 8 ∷ 3 ∷ []) $ opens-slice ! tt R ys b o $
+        keep ! (0 ∷ 9 ∷ 6 ∷ 7 ∷ 4 ∷ 27 ∷ 29 ∷ 25 ∷ 23 ∷ 21 ∷ 19 ∷ 17 ∷ 15 ∷ 13 ∷ 11 ∷ 37 ∷ 35 ∷ 33 ∷ 31 ∷ 41 ∷ 1 ∷ 2 ∷ 3 ∷ 42 ∷ 38 ∷ 36 ∷ 34 ∷ 32 ∷ 30 ∷ 28 ∷ 26 ∷ 24 ∷ 22
+        ∷ 20 ∷ 18 ∷ 16 ∷ 14 ∷ 12 ∷ 39 ∷ 40 ∷ []) $
+        first ! $ blocks ! $ loops ! 𝓣 Nearer Nearer-wf At turns (begins mains ys buf₀ len words₀ len-fits stands)
 
   -- the locals are made, and the parameters passed
   walk : (𝓣 : Tables 𝓤 H) → Triple 𝓤 (𝓣 .C #answer-next) (Next 𝓤 H A mem run) → Standing buf₀ len words₀
       → ent 𝓤 (onEntry 𝓤 H A f.signature (κ, (κ₁, (κ₂, tt))) (q, (q₁, (q₂, tt))) x vals)
-      (WpFn 𝓤 H (𝓣 .C) (𝓣 .Λ) code.function (sliceVal (b, o) n ∷ vptr b₁ o₁ ∷ vptr b₂ o₂ ∷ vint w64 len ∷ []) Post)
+      (WpFn 𝓤 H (𝓣 .C) (𝓣 .Λ) code.function (vint w64 mains ∷ sliceVal (b, o) n ∷ vptr b₁ o₁ ∷ vptr b₂ o₂ ∷ vint w64 len ∷ []) Post)
   walk 𝓣 known stands =
       qed W ((‵ (flft κ q) ⊛ ‵ (flft κ₁ q₁) ⊛ ‵ (flft κ₂ q₂) ⊛ ‵ ftrue)
-      ∷ ‵ (owns (MutSlice (named 0) κ R ∷ MutRef (named 1) κ₁ B ∷ MutRef (named 2) κ₂ X ∷ usize ∷ []) x vals) ∷ []) ∵
-      enter ! (𝓣 .C) (𝓣 .Λ) code.function (sliceVal (b, o) n ∷ vptr b₁ o₁ ∷ vptr b₂ o₂ ∷ vint w64 len ∷ []) _ $
-      alloc1 ! (λ l₀. alloc1 ! (λ l₁. alloc1 ! (λ l₂. alloc1 ! (λ l₃. alloc1 ! (λ l₄. alloc1 ! (λ l₅. alloc1 ! (λ l₆. alloc1 ! (λ l₇. alloc1 ! (λ l₈.
+      ∷ ‵ (owns (u64 ∷ MutSlice (named 0) κ R ∷ MutRef (named 1) κ₁ B ∷ MutRef (named 2) κ₂ X ∷ usize ∷ []) x vals) ∷ []) ∵
+      enter ! (𝓣 .C) (𝓣 .Λ) code.function (vint w64 mains ∷ sliceVal (b, o) n ∷ vptr b₁ o₁ ∷ vptr b₂ o₂ ∷ vint w64 len ∷ []) _ $
+      alloc1 ! (λ l₀. alloc1 ! (λ lₘ. alloc1 ! (λ l₁. alloc1 ! (λ l₂. alloc1 ! (λ l₃. alloc1 ! (λ l₄. alloc1 ! (λ l₅. alloc1 ! (λ l₆. alloc1 ! (λ l₇. alloc1 ! (λ l₈.
       alloc1 ! (λ l₉. alloc1 ! (λ l₁₀. alloc1 ! (λ l₁₁. alloc1 ! (λ l₁₂. alloc1 ! (λ l₁₃. alloc1 ! (λ l₁₄. alloc0 ! $ params1 ! $
-      pass1 ! (init ! 26 refl (tt, (tt, (record { fits = room .0 }, tt)))) $ pass1 ! (init ! 24 refl (tt, tt)) $ pass1 ! (init ! 22 refl (tt, tt)) $
+      pass1 ! (init ! 28 refl (tt, record { fits = m-fits })) $ pass1 ! (init ! 26 refl (tt, (tt, (record { fits = room .0 }, tt)))) $ pass1 ! (init ! 24 refl (tt, tt)) $ pass1 ! (init ! 22 refl (tt, tt)) $
       pass1 ! (init ! 20 refl (tt, record { fits = len-fits })) $ pass0 ! $
-      body 𝓣 known l₀ l₁ l₂ l₃ l₄ l₅ l₆ l₇ l₈ l₉ l₁₀ l₁₁ l₁₂ l₁₃ l₁₄ stands)))))))))))))))
+      body 𝓣 known l₀ lₘ l₁ l₂ l₃ l₄ l₅ l₆ l₇ l₈ l₉ l₁₀ l₁₁ l₁₂ l₁₃ l₁₄ stands))))))))))))))))
 
 module _ {M : Type 1} (𝓤 : URA M) (H : Heap 𝓤) (A : Atoms 𝓤) (W : Given 𝓤 H A) (mem : Memory → SProp 𝓤) (run : Routine → Fun 𝓤) (𝓣 : Tables 𝓤 H)
     (known : Triple 𝓤 (𝓣 .C #answer-next) (Next 𝓤 H A mem run)) where
   post-all-walks : Walks 𝓤 H A f.ended stayed (WpFn 𝓤 H (𝓣 .C) (𝓣 .Λ) code.function) (f.clauses 𝓤 H A mem run)
-  post-all-walks = walked 𝓤 H A f.ended stayed (f.clauses 𝓤 H A mem run) (WpFn 𝓤 H (𝓣 .C) (𝓣 .Λ) code.function) (λ κs. (slice-vals, (ptr-vals, (ptr-vals, (uint-vals w64, tt)))))
-      (λ κs. (mut-slice-tells (named 0) (κs .0) R, (mut-tells (named 1) (κs .1 .0) B, (mut-tells (named 2) (κs .1 .1 .0) X, (uint-tells w64, tt)))))
-      (λ κs qs bounds a g are. needs 𝓤 (Standing (a .1 .0 .now) (a .1 .1 .1 .0) (a .1 .1 .0 .now)) _
-      (walk 𝓤 H A W mem run (κs .0) (κs .1 .0) (κs .1 .1 .0) (qs .0) (qs .1 .0) (qs .1 .1 .0) (a .0 .ptr .0) (a .0 .ptr .1) (a .0 .name) (a .0 .now)
-      (a .1 .0 .ptr .0) (a .1 .0 .ptr .1) (a .1 .0 .name) (a .1 .0 .now) (a .1 .1 .0 .ptr .0) (a .1 .1 .0 .ptr .1) (a .1 .1 .0 .name) (a .1 .1 .0 .now)
-      (a .1 .1 .1 .0) (are .0 .0 .1) (are .1 .1 .1 .0 .1) 𝓣 known))
+  post-all-walks = walked 𝓤 H A f.ended stayed (f.clauses 𝓤 H A mem run) (WpFn 𝓤 H (𝓣 .C) (𝓣 .Λ) code.function) (λ κs. (uint-vals w64, (slice-vals, (ptr-vals, (ptr-vals, (uint-vals w64, tt))))))
+      (λ κs. (uint-tells w64, (mut-slice-tells (named 0) (κs .0) R, (mut-tells (named 1) (κs .1 .0) B, (mut-tells (named 2) (κs .1 .1 .0) X, (uint-tells w64, tt))))))
+      (λ κs qs bounds a g are. needs 𝓤 (Standing (a .1 .1 .0 .now) (a .1 .1 .1 .1 .0) (a .1 .1 .1 .0 .now)) _
+      (walk 𝓤 H A W mem run (κs .0) (κs .1 .0) (κs .1 .1 .0) (qs .0) (qs .1 .0) (qs .1 .1 .0) (a .0) (a .1 .0 .ptr .0) (a .1 .0 .ptr .1) (a .1 .0 .name) (a .1 .0 .now)
+      (a .1 .1 .0 .ptr .0) (a .1 .1 .0 .ptr .1) (a .1 .1 .0 .name) (a .1 .1 .0 .now) (a .1 .1 .1 .0 .ptr .0) (a .1 .1 .1 .0 .ptr .1) (a .1 .1 .1 .0 .name) (a .1 .1 .1 .0 .now)
+      (a .1 .1 .1 .1 .0) (are .0 .1) (are .1 .0 .0 .1) (are .1 .1 .1 .1 .0 .1) 𝓣 known))
 
   post-all-meets : Meets 𝓤 H A f.signature (WpFn 𝓤 H (𝓣 .C) (𝓣 .Λ) code.function) (f.spec 𝓤 H A mem run)
   post-all-meets = walk-meets 𝓤 H A f.ended stayed W (
-    goes-slice 𝓤 H A W 3 0 tt (plain (λ _. R)),
+    goes-none 𝓤 H A W 3 (λ _. u64) yes (λ κs x f. refl),
     (
-      goes-ref 𝓤 H A W 3 1 tt (ArrayOf (plain (λ _. u8)) (λ _. tt) (longestImage newest)),
-      (goes-ref 𝓤 H A W 3 2 tt (ArrayOf (plain (λ _. u64)) (λ _. tt) indexLength), (goes-none 𝓤 H A W 3 (λ _. usize) yes (λ κs x f. refl), tt)),
+      goes-slice 𝓤 H A W 3 0 tt (plain (λ _. R)),
+      (
+        goes-ref 𝓤 H A W 3 1 tt (ArrayOf (plain (λ _. u8)) (λ _. tt) (longestImage newest)),
+        (goes-ref 𝓤 H A W 3 2 tt (ArrayOf (plain (λ _. u64)) (λ _. tt) indexLength), (goes-none 𝓤 H A W 3 (λ _. usize) yes (λ κs x f. refl), tt)),
+      ),
     ),
   ) (f.clauses 𝓤 H A mem run) (WpFn 𝓤 H (𝓣 .C) (𝓣 .Λ) code.function) (WpFn-mono 𝓤 H (W .laws) 𝓣 code.function) post-all-walks
 

@@ -18,6 +18,8 @@ const OLDER_CHANGED: &str = "older versions written in the newest by a change";
 const SECOND_OPENED: &str = "second routes opened";
 const BOTH_CLOSED: &str = "streams closed with both their routes";
 const HEARD_FURTHER: &str = "calls done on a book that hears further than its links";
+const KEPT: &str = "books that keep to a mains set";
+const NOT_KEPT: &str = "books that do not keep to a mains set";
 const EMPTY_LIST: &str = "postings of an empty list";
 const NONE_DONE: &str = "postings of which no record was done";
 const ALL_DONE: &str = "postings of which every record was done";
@@ -26,7 +28,7 @@ const LONGEST_LIST: &str = "postings of 64 records";
 const NO_LINKS: &str = "nodes without a link";
 const MOST_LINKS: &str = "nodes with 63 links";
 
-pub const EVENTS: [&str; 17] = [
+pub const EVENTS: [&str; 19] = [
     NO_ROUTE,
     FEW_ROUTES,
     ALL_LISTED,
@@ -37,6 +39,8 @@ pub const EVENTS: [&str; 17] = [
     SECOND_OPENED,
     BOTH_CLOSED,
     HEARD_FURTHER,
+    KEPT,
+    NOT_KEPT,
     EMPTY_LIST,
     NONE_DONE,
     ALL_DONE,
@@ -59,6 +63,7 @@ pub fn events(request: &Request, answer: &Answer) -> Vec<&'static str> {
         Call::Rewrite if older => vec![OLDER_KEPT],
         Call::Open | Call::Close if older => vec![OLDER_CHANGED],
         Call::Post => post_events(answer),
+        Call::KeepsTo => vec![if answer.counts[0] == 1 { KEPT } else { NOT_KEPT }],
         Call::Links => links_event(answer),
         _ => Vec::new(),
     };

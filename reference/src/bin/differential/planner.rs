@@ -175,9 +175,10 @@ fn show(exchange: &Exchange) -> String {
              second {second}"
         ),
     };
-    let Request { bytes, further, room, fill, .. } = &exchange.request;
+    let Request { bytes, further, mains, room, fill, .. } = &exchange.request;
     format!(
-        "family {}: {call:?} with {arguments}, buffer of {room} bytes {fill:02X}\n\
+        "family {}: {call:?} with {arguments}, mains {mains:016X}, \
+         buffer of {room} bytes {fill:02X}\n\
          {} bytes {}\nand {} bytes {}\n",
         exchange.family,
         bytes.len(),

@@ -4,6 +4,7 @@ use reference::book::Book;
 use reference::calls::MAX_RECORDS;
 use reference::frame::{Answer, Call, Request};
 use reference::image;
+use reference::node_set::NodeSet;
 use reference::record::{RECORD_BYTES, Record};
 use reference::refusal::DONE;
 use reference::version::Version;
@@ -72,6 +73,7 @@ fn done_events(request: &Request, answer: &Answer) -> Vec<&'static str> {
     let records = records_of(answer);
     let done: Vec<usize> = (0..records.len()).filter(|&at| records[at].answer == DONE).collect();
     let last = done.last().map(|&at| records[at]);
+    let mains = NodeSet(request.mains);
     let older = version < Version::NEWEST;
     let between = |pair: &[usize]| pair[0] + 1 < pair[1];
     let mut events = which([
@@ -82,7 +84,7 @@ fn done_events(request: &Request, answer: &Answer) -> Vec<&'static str> {
         (last.is_some() && answer.written() == image::write(Version::NEWEST, &book), AS_IT_WAS),
     ]);
     events.extend(done.iter().flat_map(|&at| change_events(&book, &records, at)));
-    events.extend(records.iter().flat_map(|record| beside_alone(&book, record)));
+    events.extend(records.iter().flat_map(|record| beside_alone(&book, mains, record)));
     events
 }
 
@@ -105,8 +107,8 @@ fn change_events(book: &Book, records: &[Record], at: usize) -> Vec<&'static str
 }
 
 /// A record whose answer is another than alone on the first book.
-fn beside_alone(book: &Book, record: &Record) -> Option<&'static str> {
-    let alone = record.change(book).map_or_else(|refusal| refusal as u8, |_| DONE);
+fn beside_alone(book: &Book, mains: NodeSet, record: &Record) -> Option<&'static str> {
+    let alone = record.change(book, mains).map_or_else(|refusal| refusal as u8, |_| DONE);
     match (alone, record.answer) {
         (DONE, 2) => Some(SPOILT_2),
         (DONE, 3) => Some(SPOILT_3),
@@ -124,7 +126,7 @@ fn beside_alone(book: &Book, record: &Record) -> Option<&'static str> {
 fn refused_events(request: &Request, number: u8) -> Vec<&'static str> {
     let short = usize::from(request.room) < Version::NEWEST.longest_image();
     let roomy = with_room(request);
-    let is_image = ![12, 26].contains(&number);
+    let is_image = ![12, 25, 26].contains(&number);
     which([
         (is_image && records_of(&roomy).len() > MAX_RECORDS, IMAGE_FIRST),
         (number == 26 && short, LIST_FIRST),

@@ -2,8 +2,10 @@
 
 use crate::dice::Dice;
 use reference::frame::{Call, Request};
+use reference::node_set::NodeSet;
 use reference::plan::{PERIODS, Plan};
 use reference::record::Record;
+use reference::topology::NODES;
 
 /// A new book whose hearing is its links.
 pub fn new(plan: &Plan, nodes: u8, links: &[u8]) -> Request {
@@ -61,18 +63,36 @@ pub fn links(book: &[u8], node: u8) -> Request {
     Request { node, ..on(Call::Links, book) }
 }
 
-pub fn routes(book: &[u8], source: u8, destination: u8) -> Request {
-    Request { node: source, destination, ..on(Call::Routes, book) }
+/// All nodes of a book that has, or claims, the N of its header.
+fn all_nodes(book: &[u8]) -> u64 {
+    NodeSet::all(nodes_of(book).min(*NODES.end())).0
 }
 
-/// A posting of these records.
+/// The list of routes, all nodes on mains.
+pub fn routes(book: &[u8], source: u8, destination: u8) -> Request {
+    routes_within(book, all_nodes(book), source, destination)
+}
+
+pub fn routes_within(book: &[u8], mains: u64, source: u8, destination: u8) -> Request {
+    Request { mains, node: source, destination, ..on(Call::Routes, book) }
+}
+
+/// A posting of these records, all nodes on mains.
 pub fn post(book: &[u8], records: &[Record]) -> Request {
+    post_within(book, all_nodes(book), records)
+}
+
+pub fn post_within(book: &[u8], mains: u64, records: &[Record]) -> Request {
     let further = records.iter().flat_map(Record::write).collect();
-    Request { further, ..on(Call::Post, book) }
+    Request { mains, further, ..on(Call::Post, book) }
+}
+
+pub fn keeps_to(book: &[u8], mains: u64) -> Request {
+    Request { mains, ..on(Call::KeepsTo, book) }
 }
 
 /// The calls on a book.
-pub const BOOK_CALLS: [Call; 9] = [
+pub const BOOK_CALLS: [Call; 10] = [
     Call::Check,
     Call::Rewrite,
     Call::Open,
@@ -81,13 +101,18 @@ pub const BOOK_CALLS: [Call; 9] = [
     Call::Balance,
     Call::Routes,
     Call::Post,
+    Call::KeepsTo,
     Call::Links,
 ];
 
-/// This call on a book that has, or claims, the N of its header; the other
-/// arguments are thrown.
+/// N as the header has it, or claims it.
+fn nodes_of(book: &[u8]) -> u8 {
+    book.get(11).copied().unwrap_or(4)
+}
+
+/// This call on a book; the other arguments are thrown.
 pub fn any(dice: &mut Dice, call: Call, book: &[u8], ids: &[u16]) -> Request {
-    let nodes = book.get(11).copied().unwrap_or(4);
+    let nodes = nodes_of(book);
     match call {
         Call::New => unreachable!("a new book is not made from a book"),
         Call::Check => check(book),
@@ -99,13 +124,28 @@ pub fn any(dice: &mut Dice, call: Call, book: &[u8], ids: &[u16]) -> Request {
         Call::Links => links(book, any_node(dice, nodes)),
         Call::Routes => {
             let (source, destination) = any_ends(dice, nodes);
-            routes(book, source, destination)
+            routes_within(book, any_mains(dice, nodes), source, destination)
         }
         Call::Post => {
             let length = dice.below(6);
             let records: Vec<Record> = (0..length).map(|_| any_record(dice, nodes, ids)).collect();
-            post(book, &records)
+            post_within(book, any_mains(dice, nodes), &records)
         }
+        Call::KeepsTo => keeps_to(book, any_mains(dice, nodes)),
+    }
+}
+
+/// Mostly all nodes or nearly all, sometimes any of them, now and then one from
+/// N up.
+pub fn any_mains(dice: &mut Dice, nodes: u8) -> u64 {
+    let nodes = nodes.min(*NODES.end());
+    let all = NodeSet::all(nodes).0;
+    match dice.below(16) {
+        0 => dice.bits(),
+        1 => all | 1 << dice.below(64),
+        2..=6 => all & dice.bits(),
+        7..=10 => all & (dice.bits() | dice.bits() | dice.bits()),
+        _ => all,
     }
 }
 

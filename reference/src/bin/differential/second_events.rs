@@ -3,6 +3,7 @@
 use reference::book::{Book, MAX_ROWS, MAX_SHORT_HOPS};
 use reference::frame::{Answer, Call, Request};
 use reference::image;
+use reference::node_set::NodeSet;
 use reference::placing::first_placing;
 use reference::refusal::{DONE, Refusal};
 use reference::route::planners_route;
@@ -85,7 +86,10 @@ fn refused_event(request: &Request, number: u8, book: &Book) -> Vec<&'static str
 /// Another route keeps off the middle nodes of the first, whatever its length.
 fn other_route(book: &Book, source: u8, destination: u8) -> bool {
     let mut topology = book.topology.clone();
-    let Ok(first) = planners_route(&topology, source, destination) else { return false };
+    let all = NodeSet::all(topology.nodes());
+    let Ok(first) = planners_route(&topology, all, source, destination) else {
+        return false;
+    };
     // The first route's own links go too, or one of one link were found again.
     for pair in first.windows(2) {
         let (a, b) = (usize::from(pair[0]), usize::from(pair[1]));
@@ -96,7 +100,7 @@ fn other_route(book: &Book, source: u8, destination: u8) -> bool {
         topology.links.iter_mut().for_each(|row| *row &= !(1 << node));
         topology.links[usize::from(node)] = 0;
     }
-    planners_route(&topology, source, destination) != Err(Refusal::NoRoute)
+    planners_route(&topology, all, source, destination) != Err(Refusal::NoRoute)
 }
 
 fn table_events(answer: &Answer) -> Vec<&'static str> {

@@ -4,6 +4,7 @@ use crate::dice::Dice;
 use reference::book::{Book, MAX_HOPS, MAX_ROUTE_HOPS, MAX_ROWS};
 use reference::change::{self, Open};
 use reference::image;
+use reference::node_set::NodeSet;
 use reference::placing::first_placing;
 use reference::plan::{PERIODS, PLAN_TILES, Plan};
 use reference::route::planners_route;
@@ -181,7 +182,10 @@ pub fn ids(book: &Book) -> Vec<u16> {
 /// Opens a stream as the planner does, past the limits of a book if need be;
 /// false where it has no route or placing.
 pub fn add_stream(book: &mut Book, id: u16, source: u8, destination: u8, period: u8) -> bool {
-    let Ok(nodes) = planners_route(&book.topology, source, destination) else { return false };
+    let mains = NodeSet::all(book.topology.nodes());
+    let Ok(nodes) = planners_route(&book.topology, mains, source, destination) else {
+        return false;
+    };
     let Some(offsets) = first_placing(book, &nodes, period) else { return false };
     book.add(Row { id, route: FIRST_ROUTE, period, nodes, offsets });
     true
@@ -190,7 +194,7 @@ pub fn add_stream(book: &mut Book, id: u16, source: u8, destination: u8, period:
 /// Opens a stream with a second route; false where it is refused.
 pub fn add_with_second(book: &mut Book, id: u16, source: u8, destination: u8, period: u8) -> bool {
     let asked = Open { id, source, destination, period: u16::from(period), second: true };
-    let opened = change::open(book, asked);
+    let opened = change::open(book, NodeSet::all(book.topology.nodes()), asked);
     let done = opened.is_ok();
     *book = opened.unwrap_or_else(|_| book.clone());
     done

@@ -7,7 +7,6 @@ use lib.Seq.{length-take-le}
 use borrow.Author.Tests.{not-true, not-false}
 use Rattle.rules.specs.Periods.{theAsked}
 use Rattle.opening.proofs.Routed.{routed-new, second-refused}
-use Rattle.opening.proofs.Planned.{any-route}
 use Rattle.opening.proofs.Seconds.{second-asked, second-few, second-missing, second-planned, second-routes}
 use borrow.Author.Needs.{needs}
 use Rattle.opening.proofs.ways.open_beside.Statement.{statement}
@@ -23,7 +22,7 @@ returns : tie.Need-returns
 returns c =
     let a = c .before .before .before .before .before .before .before .before .before in
     let w = a .pre .planned in
-    second-refused (a .args .image .now) (theAsked (a .args .q)) (a .args .first .now) (a .pre .asked-two) (any-route (w .new .asked .image .newest .lawful) _ (w .planned))
+    second-refused (a .args .image .now) (a .args .mains) (theAsked (a .args .q)) (a .args .first .now) (a .pre .asked-two) (w .planned)
     (second-missing (a .pre) (c .before .before .before .before .second .ensures) (not-true _ (c .before .if1 .taken))) (c .refused .ensures .0) (w .new .asked .image .index)
 
 array-share-prefix-nodes : tie.Need-array-share-prefix-nodes
@@ -45,7 +44,7 @@ open-both-requires c κs = second-routes (c .before .before .before .before .bef
 returns-2 : tie.Need-returns-2
 returns-2 c =
     let a = c .before .before .before .before .before .before .before .before .before .before .before .before in
-    routed-new (a .args .image .now) (theAsked (a .args .q)) _
+    routed-new (a .args .image .now) (a .args .mains) (theAsked (a .args .q)) _
     (second-planned (a .pre) (c .before .before .before .before .before .before .before .second .ensures) (not-false _ (c .before .before .before .before .if1 .left))) (c .open-both .ensures)
 
 pub open-beside-spec : {M : Type 1} → statement M

@@ -9,7 +9,7 @@ use Rattle.rules.specs.Placing.Planned.{one}
 use Rattle.image.proofs.Stands.{stored-length}
 use Rattle.image.proofs.Topologies.{hearing-inside, hearing-nodes, hearing-rows}
 use Rattle.opening.proofs.Routed.{routed-new}
-use Rattle.opening.proofs.Planned.{nodes-most, any-route}
+use Rattle.opening.proofs.Planned.{nodes-most}
 use Rattle.opening.proofs.ways.open_routed.Statement.{statement}
 use Rattle.opening.proofs.ways.open_routed.Tie as tie
 
@@ -51,7 +51,7 @@ returns c = c .open-beside .ensures
 returns-2 : tie.Need-returns-2
 returns-2 c =
     let a = c .before .before .before .before .before .before .before .before .before .before in
-    routed-new (a .args .image .now) (theAsked (a .args .q)) _ (one (c .before .before .before .if1 .left) (any-route (a .pre .new .asked .image .newest .lawful) _ (a .pre .planned)))
+    routed-new (a .args .image .now) (a .args .mains) (theAsked (a .args .q)) _ (one (c .before .before .before .if1 .left) (a .pre .planned))
     (c .open-one .ensures)
 
 pub open-routed-spec : {M : Type 1} → statement M

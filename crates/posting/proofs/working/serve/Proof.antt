@@ -9,7 +9,7 @@ returns : tie.Need-returns
 returns c = asks-open (c .before .before .before .before .before .args .q) (c .before .before .before .if1 .taken) (c .open-on .ensures)
 
 returns-2 : tie.Need-returns-2
-returns-2 c = asks-close (c .before .before .before .before .before .args .q) (c .before .before .before .if1 .left) (c .close-on .ensures)
+returns-2 c = asks-close (c .before .before .before .before .before .args .q) (c .before .before .before .if1 .left) (c .close-on .ensures _)
 
 pub serve-spec : {M : Type 1} → statement M
 serve-spec = tie.close (tie.spec (λ c κs. search needs) (λ c κs. search needs) returns returns-2)

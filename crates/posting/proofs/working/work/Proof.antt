@@ -44,7 +44,7 @@ take-over-requires c κs =
     let id = small-id (start .args .q) (small start) in
     let most = size-most (start .pre) (serve .ensures) id done in
     let inside = starts (start .pre) (serve .ensures) id done (start-is first) in
-    let long = length-take-le (serve .result .length) (serve .last .1 .1 .1 .0) (serve .ensures .done done .laid .fits) in
+    let long = length-take-le (serve .result .length) (serve .last .1 .1 .1 .1 .0) (serve .ensures .done done .laid .fits) in
     (inside .0, omega (arith, inside .2, long), omega (arith, long, most, start .pre .room))
 
 returns : tie.Need-returns

@@ -3,6 +3,7 @@ use native.Mathlib.Omega.{arith}
 use Rattle.rules.specs.Topology.{Beside}
 use Rattle.rules.proofs.Tests.{said-no}
 use Rattle.image.specs.Places.{rowAt}
+use Rattle.rows.proofs.Walks.{nodes-few}
 use Rattle.rows.proofs.Pairs.{not-another, tests-beside}
 use Rattle.rows.proofs.pair.is_beside.Statement.{statement}
 use Rattle.rows.proofs.pair.is_beside.Tie as tie
@@ -36,7 +37,7 @@ is-beside-spec =
     (λ c κs. c .before .before .before .pre .1 .whole)
     (λ c. omega arith)
     returns-2
-    (λ c κs. let start = c .before .before .before .before .before in (start .pre .0, start .pre .1))
-    (λ c κs. let start = c .before .before .before .before .before .before in (start .pre .0, start .pre .2))
+    (λ c κs. let start = c .before .before .before .before .before in (nodes-few (start .pre .0), start .pre .1))
+    (λ c κs. let start = c .before .before .before .before .before .before in (nodes-few (start .pre .0), start .pre .2))
     (λ c κs. omega arith)
     returns-3)

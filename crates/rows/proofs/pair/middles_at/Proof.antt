@@ -2,7 +2,7 @@
 use Prim.Native.Nat.{_≤_, _-_}
 use native.Mathlib.Omega.{arith}
 use Rattle.image.specs.Places.{rowAt}
-use Rattle.rows.proofs.Walks.{node-small}
+use Rattle.image.proofs.Hops.{node-known}
 use Rattle.rows.proofs.Pairs.{Gathered, gathered-none, gathered-more, gathered-done}
 use Rattle.rows.proofs.pair.middles_at.Statement.{statement}
 use Rattle.rows.proofs.pair.middles_at.Tie as tie
@@ -30,7 +30,8 @@ insert-requires c κs =
     omega (
       arith,
       c .before .node-at .ensures,
-      node-small (start .pre .0) (start .pre .1) (here .loop .i) (omega (arith, here .before .hops-at .ensures)),
+      start .pre .0,
+      node-known (start .pre .1 .lawful) (here .loop .i) (omega (arith, here .before .hops-at .ensures)),
     )
 
 loop-again : tie.Need-loop-again Inv-loop μ-loop

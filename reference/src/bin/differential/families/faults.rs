@@ -2,7 +2,7 @@
 
 use crate::driver::{Driver, Room};
 use crate::requests::{
-    balance, check, close, expand, links, open, open_with_second, rewrite, routes,
+    balance, check, close, expand, keeps_to, links, open, open_with_second, rewrite, routes,
 };
 use crate::site::{add_stream, empty_book, line, of_links, open_plan, plan_a, versions};
 use reference::book::{Book, MAX_ROWS};
@@ -89,6 +89,7 @@ fn ask_all(driver: &mut Driver, image: &[u8], room: Room) {
         driver.ask(open_with_second(image, id, source, destination, period), room);
         driver.ask(routes(image, source, destination), room);
         driver.ask(close(image, id), room);
+        driver.ask(keeps_to(image, u64::from(source) << 32), room);
         driver.ask(expand(image, source), room);
         driver.ask(balance(image, source), room);
         driver.ask(links(image, source), room);

@@ -5,6 +5,7 @@ mod changes;
 mod examples;
 mod faults;
 mod limits;
+mod mains;
 mod near_misses;
 mod noise;
 mod pairs;
@@ -50,6 +51,8 @@ pub fn fixed(driver: &mut Driver, dice: &mut Dice) {
     second_routes::ask(driver, dice);
     driver.family("lists of routes");
     route_lists::ask(driver);
+    driver.family("mains sets");
+    mains::ask(driver, dice);
     driver.family("postings around their limits");
     postings::fixed(driver, dice);
 }

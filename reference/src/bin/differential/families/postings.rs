@@ -2,7 +2,7 @@
 
 use crate::dice::Dice;
 use crate::driver::{Driver, Room};
-use crate::requests::{any_record, post};
+use crate::requests::{any_mains, any_record, post, post_within};
 use crate::site::{
     add_stream, add_with_second, any_image, any_plan, any_topology, empty_book, grid, ids, images,
     line, load, of_links, open_plan, plan_a, ring,
@@ -205,7 +205,8 @@ pub fn thrown(driver: &mut Driver, dice: &mut Dice) {
         };
         let list = thrown_list(dice, &book, &mut known, length);
         let room = if dice.chance(80) { Room::Exact } else { Room::any(dice) };
-        let answer = driver.ask(post(&image, &list), room);
+        let mains = any_mains(dice, book.topology.nodes());
+        let answer = driver.ask(post_within(&image, mains, &list), room);
         if !answer.written().is_empty() {
             image = answer.written().to_vec();
         }

@@ -8,6 +8,7 @@ use crate::requests::{check, rewrite};
 use crate::site::{any_image, any_plan, any_topology, empty_book};
 use reference::book::{Book, MAX_HOPS, MAX_SHORT_HOPS};
 use reference::hop::hops_of;
+use reference::node_set::NodeSet;
 use reference::placing::serving_offsets;
 use reference::plan::PERIODS;
 use reference::route::{have_common_middle, short_routes};
@@ -56,7 +57,8 @@ fn add_unusual_second(dice: &mut Dice, book: &mut Book) {
     }
     let Row { id, period, nodes: first, .. } = firsts[dice.below(firsts.len())].clone();
     let (source, destination) = (first[0], first[first.len() - 1]);
-    let mut others = short_routes(&book.topology, source, destination, 200);
+    let all = NodeSet::all(book.topology.nodes());
+    let mut others = short_routes(&book.topology, all, source, destination, 200);
     others.retain(|nodes| *nodes != first && !have_common_middle(nodes, &first));
     if others.is_empty() {
         return;
