@@ -74,6 +74,17 @@ int main(void) {
         printf("Node %u: %" PRIu32 " data slots, %" PRIu32 " used, %" PRIu32 " free\n", node, data, used, free_slots);
     }
 
+    /* Stream 2 goes by nodes 1 and 2: it keeps to the set, and not to one without node 2. The site has no node 4. */
+    const uint64_t sets[] = {mains, 1u << 1, mains | 1u << 4};
+    for (size_t i = 0; i < 3; i++) {
+        uint8_t keeps;
+        number = lindurask_keeps_to(next, next_length, sets[i], &keeps);
+        if (number == 0)
+            printf("With set %" PRIu64 " on mains: %s\n", sets[i], keeps ? "every relay is" : "some relay is not");
+        else
+            printf("With set %" PRIu64 " on mains: refused %u\n", sets[i], number);
+    }
+
     /* Where no request is done the number is 0 all the same, and no book is written: the old one is still the book. */
     struct lindurask_request again[] = {
         {.opens = false, .id = 1},

@@ -2,6 +2,7 @@
 import itertools
 import os
 import pty
+import select
 import shutil
 import subprocess
 
@@ -147,7 +148,9 @@ def slow(room, programs):
     run = subprocess.Popen([tool.TOOL, "statement", *PAIR, "--raw"], stdout=subprocess.PIPE, stderr=terminal, cwd=room.path, env=env)
     out, status = run.stdout.read().decode(), run.wait(20)
     run.stdout.close()
-    said = os.read(controller, 65536).decode()
+    said = ""
+    while select.select([controller], [], [], 1)[0]:
+        said += os.read(controller, 65536).decode()
     os.close(terminal), os.close(controller)
     check(status == 0 and out == right and "\r\x1b[Klindurask: 1 of 1 site" in said and said.endswith("\r\x1b[K"), "a slow program on a terminal: %r" % said)
 
