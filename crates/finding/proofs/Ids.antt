@@ -4,6 +4,7 @@ use mathlib.Core.Logic.{_⊎_, inl, inr, ⊎-elim}
 use mathlib.Core.List.{List, [], _∷_, _++_}
 use Prim.Native.Nat.{ℕ, _-_, _<_, _≤_}
 use native.Mathlib.Omega.{arith}
+use native.Mathlib.Nat.{lt-of-not-le, le-of-suc-le-suc, le-antisymm}
 use lib.ListN.{length}
 use Rattle.rules.specs.Words.{_∈_, With}
 use Rattle.rules.specs.Words.With.{here, there}
@@ -13,16 +14,13 @@ use Rattle.rules.proofs.Lists.{in-append, in-right}
 use Rattle.rules.proofs.Reading.{bookIn, LawfulImage}
 use Rattle.image.specs.Header.{HeaderOf}
 use Rattle.image.specs.declared.Book as head
-use Rattle.image.specs.Places.{rowAt, nextAt, rowsFrom, Stands}
-use Rattle.image.proofs.Stands.{stored-length, stands-start, stands-split, stands-row, stands-next}
+use Rattle.image.specs.Places.{rowAt, nextAt, rowsFrom, Whole, Stands}
+use Rattle.image.proofs.Stands.{stored-length, stands-start, stands-split, stands-row, stands-end}
 use Rattle.image.proofs.Walks.{rows-start}
+use Rattle.reader.specs.Seeks.{Passed, Reached}
 use Rattle.finding.specs.Spot.{Vacant, Taken}
 
--- the rows before the place have lower ids
-pub record Passed (s : List ℕ) (id at left : ℕ) : Type 0 where
-  pub stands : Stands s at left
-  pub lower : (r : Row) → r ∈ stands .before → r .id < id
-
+-- a search starts at the first row
 pub passed-start : {s : List ℕ} {b : head.Book} {id at left : ℕ} → LawfulImage s → HeaderOf s b → at ≡ rowsStart (b .version) (b .nodes) → left ≡ b .streams → Passed s id at left
 passed-start {s} {id = id} {at} {left} w h e f =
     subst (λ (n : ℕ). Passed s id at n) (sym (f ∙ h .streams))
@@ -50,43 +48,48 @@ module _ {s : List ℕ} {at left : ℕ} (more : 0 < left) (w : Stands s at left)
   rest-higher {id} l r (inl e) = subst (λ (x : Row). id < x .id) (sym e) l
   rest-higher l r (inr m) = omega (arith, rest-rises .0 r m, rest-lawful r (inr m) .way-most)
 
-module _ {s : List ℕ} {id at left : ℕ} (more : 0 < left) (p : Passed s id at left) where
-  pub passed-next : {to : ℕ} → to ≡ nextAt s at → rowAt s at .id < id → Passed s id to (left - 1)
-  passed-next e l = subst (λ (n : ℕ). Passed s id n (left - 1)) (sym e) record {
-    stands = stands-next more (p .stands);
-    lower = λ r m. ⊎-elim (λ k. p .lower r k)
-        (λ (k : r ∈ (rowAt s at ∷ [])). ⊎-elim (λ (e : r ≡ rowAt s at). subst (λ (x : Row). x .id < id) (sym e) l) (λ (x : ⊥). absurd x) k)
-        (in-append r (p .stands .before) (rowAt s at ∷ []) m);
+-- WHERE a search ends: no row is left where the image ends, and elsewhere one stands there
+module _ {s : List ℕ} {id at : ℕ} (w : Reached s id at) where
+  abbrev before : List Row
+  before = w .passed .stands .before
+
+  abbrev rest : List Row
+  rest = w .passed .stands .rest
+
+  vacant : ((r : Row) → r ∈ rest → id < r .id) → Vacant s id at
+  vacant higher = record {
+    before = before;
+    rest = rest;
+    all = w .passed .stands .all;
+    inside = w .passed .stands .inside;
+    bytes = w .passed .stands .bytes;
+    lower = w .passed .lower;
+    higher = higher;
   }
 
-  pub vacant-here : id < rowAt s at .id → Vacant s id at
-  vacant-here l = record {
-    before = p .stands .before;
-    rest = p .stands .rest;
-    all = p .stands .all;
-    inside = p .stands .inside;
-    bytes = p .stands .bytes;
-    lower = p .lower;
-    higher = λ r m. rest-higher more (p .stands) l r (subst (λ (rows : List Row). r ∈ rows) (stands-split more (p .stands)) m);
-  }
+  none-left : length s ≤ at → w .left ≤ 0
+  none-left e = le-of-suc-le-suc (lt-of-not-le (λ (more : 0 < w .left). omega (arith, stands-row more (w .passed .stands) .whole .front)))
 
-  pub taken-here : rowAt s at .id ≡ id → Taken s id at
-  taken-here e = record { left = left; more = more; stands = p .stands; lower = p .lower; named = e }
+  pub vacant-end : length s ≤ at → Vacant s id at
+  vacant-end e = vacant (λ r m. nothing rest (w .passed .stands .count) (none-left e) r m)
+    where
+      nothing : (rows : List Row) → length rows ≡ w .left → w .left ≤ 0 → (r : Row) → r ∈ rows → id < r .id
+      nothing [] e none r m = absurd m
+      nothing (x ∷ rows) e none r m = absurd (omega arith)
 
-pub vacant-end : {s : List ℕ} {id at left : ℕ} → left ≤ 0 → Passed s id at left → Vacant s id at
-vacant-end {s} {id} {at} {left} none p = record {
-  before = p .stands .before;
-  rest = p .stands .rest;
-  all = p .stands .all;
-  inside = p .stands .inside;
-  bytes = p .stands .bytes;
-  lower = p .lower;
-  higher = λ r m. nothing (p .stands .rest) (p .stands .count) r m;
-}
-  where
-    nothing : (rest : List Row) → length rest ≡ left → (r : Row) → r ∈ rest → id < r .id
-    nothing [] e r m = absurd m
-    nothing (x ∷ rest) e r m = absurd (omega arith)
+  one-left : at < length s → 0 < w .left
+  one-left l = lt-of-not-le (λ (none : w .left ≤ 0). omega (arith, stands-end none (w .passed .stands)))
+
+  pub whole-there : at < length s → Whole s at
+  whole-there l = stands-row (one-left l) (w .passed .stands) .whole
+
+  pub vacant-there : at < length s → (rowAt s at .id ≡ id → ⊥) → Vacant s id at
+  vacant-there l other =
+      vacant (λ r m. rest-higher (one-left l) (w .passed .stands) (lt-of-not-le (λ (k : rowAt s at .id ≤ id). other (le-antisymm k (w .stops (one-left l))))) r
+      (subst (λ (rows : List Row). r ∈ rows) (stands-split (one-left l) (w .passed .stands)) m))
+
+  pub taken-there : at < length s → rowAt s at .id ≡ id → Taken s id at
+  taken-there l e = record { left = w .left; more = one-left l; stands = w .passed .stands; lower = w .passed .lower; named = e }
 
 -- a lawful image has a header
 pub stored-long : {s : List ℕ} → LawfulImage s → 16 ≤ length s

@@ -2,7 +2,6 @@
 ghost use Rattle.rules.proofs.Reading.{LawfulImage};
 ghost use Rattle.finding.specs.Spot.{SpotOf};
 use image::Book;
-use reader::Cut;
 
 // Where the first row of an id stands, or between which rows it would.
 pub enum Spot {
@@ -16,20 +15,12 @@ pub fn find(image: &[u8], id: u16) -> Spot
     ensures { λ r. ⌜ SpotOf (now (image .entry)) id r ⌝ }
 {
     let book = Book::read(image);
-    let mut at = book.rows_start();
-    let mut left = book.streams;
-    while 0 < left {
-        let Cut::Row { id: here, next } = reader::row_here(image, at) else {
-            return Spot::Between(at);
-        };
-        if id < here {
-            return Spot::Between(at);
-        }
-        if here == id {
-            return Spot::Here(at);
-        }
-        at = next;
-        left -= 1;
+    let at = reader::seek(image, id, book.rows_start(), book.streams);
+    if image.len() <= at {
+        return Spot::Between(at);
     }
-    Spot::Between(at)
+    if image::id_at(image, at) != id {
+        return Spot::Between(at);
+    }
+    Spot::Here(at)
 }

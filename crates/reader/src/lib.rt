@@ -1,32 +1,23 @@
-// A reader over an image, with a place kept: it takes the row at its place. Whoever wants no reader calls `row_here`.
+// A reader over the rows of an image, with its place kept: it goes on from row to row. Whoever wants no reader calls `seek`.
 ghost use mathlib.Core.Path.{_≡_};
-ghost use Rattle.reader.specs.Cuts.{CutAt};
+ghost use Rattle.rules.specs.Words.{Tests};
+ghost use Rattle.image.specs.Places.{nextAt, Whole, Stands};
+ghost use Rattle.reader.specs.Seeks.{Lower, Passed, Reached};
 
 pub struct Reader<'a> {
     pub image: &'a [u8],
     pub at: usize,
 }
 
-// What is at a place: a whole row, or nothing.
-pub enum Cut {
-    Row { id: u16, next: usize },
-    Nothing,
-}
-
-// What is at a place of an image.
-pub fn cut_at(image: &[u8], at: usize) -> Cut
-    ensures { λ r. ⌜ CutAt (now (image .entry)) at r ⌝ }
+// Whether of the last rows of an image, which stand from a place on, the first has a lower id.
+fn is_lower(image: &[u8], at: usize, id: u16, left: usize) -> bool
+    requires { ⌜ Stands (now image) at left ⌝ }
+    ensures { λ r. ⌜ Tests r (Lower (now (image .entry)) id at left) ⌝ }
 {
-    if image.len() < at {
-        return Cut::Nothing;
+    if left == 0 {
+        return false;
     }
-    if !image::is_whole(image, at) {
-        return Cut::Nothing;
-    }
-    Cut::Row {
-        id: image::id_at(image, at),
-        next: image::next(image, at),
-    }
+    image::id_at(image, at) < id
 }
 
 // A reader at a place of an image.
@@ -36,16 +27,36 @@ pub fn start<'a>(image: &'a [u8], at: usize) -> Reader<'a>
     Reader { image, at }
 }
 
-// What is at its place.
-pub fn row<'a>(r: Reader<'a>) -> Cut
-    ensures { λ c. ⌜ CutAt (now (r .entry .image)) (r .entry .at) c ⌝ }
+// Whether it stands at a row of a lower id.
+pub fn passes<'a>(r: Reader<'a>, id: u16, left: usize) -> bool
+    requires { ⌜ Stands (now (r .image)) (r .at) left ⌝ }
+    ensures { λ b. ⌜ Tests b (Lower (now (r .entry .image)) id (r .entry .at) left) ⌝ }
 {
-    cut_at(r.image, r.at)
+    is_lower(r.image, r.at, id, left)
 }
 
-// The row at a place of an image.
-pub fn row_here(image: &[u8], at: usize) -> Cut
-    ensures { λ c. ⌜ CutAt (now (image .entry)) at c ⌝ }
+// The reader behind its row.
+pub fn on<'a>(r: Reader<'a>) -> Reader<'a>
+    requires { ⌜ Whole (now (r .image)) (r .at) ⌝ }
+    ensures { λ q. ⌜ (q .image ≡ r .entry .image) × (q .at ≡ nextAt (now (r .entry .image)) (r .entry .at)) ⌝ }
 {
-    row(start(image, at))
+    Reader {
+        image: r.image,
+        at: image::next(r.image, r.at),
+    }
+}
+
+// From a place that only lower ids stand before, with so many rows left: the place of the first row whose id is not
+// lower, or the image's end.
+pub fn seek(image: &[u8], id: u16, at: usize, rows: usize) -> usize
+    requires { ⌜ Passed (now image) id at rows ⌝ }
+    ensures { λ r. ⌜ Reached (now (image .entry)) id r ⌝ }
+{
+    let mut r = start(image, at);
+    let mut left = rows;
+    while passes(r, id, left) {
+        r = on(r);
+        left -= 1;
+    }
+    r.at
 }
