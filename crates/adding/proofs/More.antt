@@ -106,9 +106,9 @@ module _ {s : List ℕ} {id at : ℕ} {bytes : List ℕ} {new : List Row} (h : N
         (arith, ap length parts, length-append (headed s at n k ++ bytes) (drop at s), length-append (headed s at n k) bytes, long, length-drop at s, f .vacant .inside)
 
     pub put-in : (d o₁ o₂ o₃ tail : List ℕ) (e start len : ℕ) → start ≡ rowsPlace s → length d ≡ longestImage newest → length s + length bytes ≤ longestImage newest
-        → len ≡ length s + length bytes → o₁ ≡ over (over d 0 (headed s headerLength n k)) start (take (at - start) (drop start s)) → o₂ ≡ over o₁ at bytes
+        → len ≡ length s + length bytes → o₂ ≡ over o₁ at bytes → o₁ ≡ over (over d 0 (headed s headerLength n k)) start (take (at - start) (drop start s))
         → e ≡ at + length bytes → tail ≡ drop at s → o₃ ≡ over o₂ e tail → PutIn s new len o₃
-    put-in d o₁ o₂ o₃ tail e start len g a l b p q z t u =
+    put-in d o₁ o₂ o₃ tail e start len g a l b q p z t u =
         let front : List ℕ = take (at - start) (drop start s) in
         let under : List ℕ = over d 0 (headed s headerLength n k) in
         let behind = place-low h (f .vacant) in

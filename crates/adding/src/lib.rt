@@ -38,11 +38,12 @@ fn put_in(
     ensures { λ r. ⌜ PutsRows (now (image .entry)) at (now (new .entry)) rows hops r (now (out .exit)) ⌝ }
 {
     let book = Book::read(image);
+    let start = book.rows_start();
     let size = new.len();
     writer::put_head(
         image,
         out,
-        book.rows_start(),
+        start,
         at,
         (book.streams + rows) as u8,
         (book.hops + hops) as u16,

@@ -23,14 +23,15 @@ put-head-requires c κs =
     let start = c .before .before .before .before .before .before .before in
     let v = start .pre .0 .1 .1 in
     let room = put-fits _ _ _ (start .pre .0 .0) (start .pre .0 .2) (start .pre .1 .0) (start .pre .1 .1) in
-    let first = rows-start (c .before .before .before .before .read .ensures) (c .before .before .rows-start .ensures) in
+    let first = rows-start (c .before .before .before .before .read .ensures) (c .before .before .before .rows-start .ensures) in
     (omega (arith, first), omega (arith, first, place-low (start .pre .0 .0) v), v .inside, omega (arith, v .inside, room))
 
 put-part-requires : tie.Need-put-part-requires
 put-part-requires c κs =
     let start = c .before .before .before .before .before .before .before .before .before in
     let room = put-fits _ _ _ (start .pre .0 .0) (start .pre .0 .2) (start .pre .1 .0) (start .pre .1 .1) in
-    omega (arith, start .pre .0 .1 .1 .inside, room, c .before .put-head .kept)
+    let first = rows-start (c .before .before .before .before .before .before .read .ensures) (c .before .before .before .before .before .rows-start .ensures) in
+    omega (arith, start .pre .0 .1 .1 .inside, first, place-low (start .pre .0 .0) (start .pre .0 .1 .1), room, c .before .put-head .kept)
 
 sub-put-part : tie.Need-sub-put-part
 sub-put-part c = c .before .before .before .before .before .before .before .before .before .before .pre .0 .1 .1 .inside
@@ -62,12 +63,12 @@ returns c =
     let start = c .before .before .before .before .before .before .before .before .before .before .before .before .before in
     let s : List ℕ = start .args .image .now in
     let read = c .before .before .before .before .before .before .before .before .before .before .read in
-    let first = rows-start (read .ensures) (c .before .before .before .before .before .before .before .before .rows-start .ensures) in
+    let first = rows-start (read .ensures) (c .before .before .before .before .before .before .before .before .before .rows-start .ensures) in
     let room = put-fits _ _ _ (start .pre .0 .0) (start .pre .0 .2) (start .pre .1 .0) (start .pre .1 .1) in
     let long : length (start .args .out .now) ≡ longestImage newest = search needs in
     λ id new f n k.
     put-in (start .pre .0 .0) f (read .result .streams + start .args .rows) (read .result .hops + start .args .hops) (omega (arith, read .ensures .streams, n)) (omega (arith, read .ensures .hops, k))
-    (start .args .out .now) _ _ _ _ _ _ _ first long room refl (c .before .before .before .before .before .put-head .ensures) (c .before .before .before .put-part .ensures) refl
+    (start .args .out .now) _ _ _ _ _ _ _ first long room refl (c .before .before .before .put-part .ensures) (c .before .before .before .before .before .put-head .ensures) refl
     (take-all (length s - start .args .at) (drop (start .args .at) s) (omega (arith, length-drop (start .args .at) s))) (c .put-part2 .ensures)
 
 pub put-in-spec : {M : Type 1} → statement M
