@@ -1,17 +1,15 @@
 -- A search for an id, as it is between two turns: plain lists and numbers, with no memory.
-use mathlib.Core.Path.{_≡_, refl, sym, subst}
+use mathlib.Core.Path.{_≡_, sym, subst}
 use mathlib.Core.Logic.{⊎-elim}
-use mathlib.Core.Bool.{Bool, true, false}
 use mathlib.Core.List.{List, [], _∷_}
-use Prim.Native.Nat.{ℕ, _<_, _≤_, _-_, _^_}
-use native.Mathlib.Omega.{arith}
+use Prim.Native.Nat.{ℕ, _<_, _-_, _^_}
 use native.Mathlib.Nat.{lt-of-not-le, le-of-suc-le-suc}
 use lib.Dec.{ltb}
 use Rattle.rules.specs.Words.{_∈_, Tests}
 use Rattle.rules.specs.Book.{Row}
 use Rattle.rules.proofs.Lists.{in-append}
-use Rattle.rules.proofs.Tests.{alike, tests-lt, fails}
-use Rattle.image.specs.Places.{rowAt, nextAt, Whole, Stands}
+use Rattle.rules.proofs.Tests.{alike, tests-lt}
+use Rattle.image.specs.Places.{rowAt, nextAt, Whole}
 use Rattle.image.proofs.Stands.{stands-row, stands-next}
 use Rattle.reader.specs.Seeks.{Lower, Passed, Reached}
 

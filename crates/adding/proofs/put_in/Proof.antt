@@ -1,13 +1,11 @@
 -- The image with rows more is its front with other counts, the rows, and what stands behind them.
 use mathlib.Core.Path.{_≡_, refl}
 use mathlib.Core.List.{List}
-use Prim.Native.Nat.{ℕ, _-_, _+_, _*_, _≤_}
+use Prim.Native.Nat.{ℕ, _-_, _+_}
 use native.Mathlib.Omega.{arith}
 use lib.ListN.{length, drop, length-drop}
 use lib.Seq.{take-all}
-use Rattle.rules.specs.Image.{newest, rowLength, longestImage, streamsOf, hopsOf}
-use Rattle.rules.specs.Book.{mostStreams, mostHops}
-use Rattle.rules.proofs.Reading.{NewestImage}
+use Rattle.rules.specs.Image.{newest, longestImage}
 use Rattle.image.proofs.Walks.{rows-start}
 use Rattle.finding.proofs.Ids.{stored-long}
 use Rattle.adding.proofs.More.{place-low, put-in, put-fits}
