@@ -21,7 +21,6 @@ use prog.Memory.{Memory}
 use prog.Routine.{Routine}
 use prog.Wp.{Heap, Out, Env, afterSeq, afterBlock, afterTurn, Calls, Loops, Wp, atReturn, WpFn, Tables}
 use ghost.Atoms.{Atoms, sem}
-use contract.Lifetimes.{Lfts}
 use contract.Monad.{Fun, fact}
 use contract.Running.{givenOf, tables, tablesOf}
 use types.Kit.{Given, Item, ‵, raw, _⊛_, ⋆, some, later, runs, anyQ, atRet, Sq, _$_, _∵_, !, qed, by, move, keep, drop, use1, use2, split, join, pick, rewrite, fsplit, fjoin}
@@ -30,15 +29,14 @@ use types.Part.{whole, sub, look-in}
 use types.Run.{look, store, init, forget, stop, fld, from, load, lit, of-opd, bin, and-then, no-more, assigns, assigns-last, land, first, blocks, branches, skips, jumps}
 use types.Run.{returns, enter, alloc1, alloc0, params1, pass1, pass0, free1, free0, exec, Below, again, loops}
 use sound.WpLaws.{fmOf, WpFn-mono}
-use denote.RattleType.{RattleType, owns}
+use denote.RattleType.{owns}
 use denote.Laws.{Is, shows}
 use denote.Plain.{uint-vals, uint-tells, uint-makes, bool-lawful}
 use denote.Builtin.{u8, u16, usize, bool}
 use denote.Ref.{RefT, NamedLft, now}
-use denote.Signature.{plain, namedLft}
+use denote.Signature.{plain}
 use denote.Slice.{sliceTy, sliceVal, ShrSlice, slice-vals, shr-slice-tells, shr-slice-lawful, shr-slice-copy}
 use denote.Steps.{only, owned, peeks, heard, nothing}
-use denote.Struct.Declared.{Declared}
 use denote.Struct.Laws as LL
 use denote.Triple.Statement.{Contract, Triple}
 use denote.Triple.Call.{calls-at}
@@ -54,6 +52,7 @@ use Rattle.image.specs.Places.{nextAt, Whole}
 use Rattle.reader.specs.Seeks.{Lower, Passed, Reached}
 use Rattle.reader.specs.declared.Reader.{Reader}
 use Rattle.reader.proofs.Turns.{Mid, goes-on, whole-row, ends}
+use Rattle.reader.proofs.Held.{B, D, L, Own, twice}
 use Rattle.reader.proofs.Reader as T
 use Rattle.reader.proofs.Reader.Laws as T′
 use Rattle.reader.proofs.start as start
@@ -73,10 +72,6 @@ use Rattle.reader.proofs.seek as f
 use Rattle.reader.proofs.seek.Statement as stated
 use Rattle.reader.proofs.seek.Code as code
 use Rattle.reader.proofs.seek.Code.Mir as parts
-
--- the struct's type, over the signature's lifetimes
-abbrev B : Lfts 1 → RattleType
-B κs = T.the-row (namedLft 1 0 tt κs)
 
 abbrev stayed : Stays (f.ended .signature .params) (f.ended .kept)
 stayed = (stay-none-slice (0 ∷ []) tt (plain (λ _. u8)) yes, (stay-none (λ _. u16) yes, (stay-none (λ _. usize) yes, (stay-none (λ _. usize) yes, tt))))
@@ -153,22 +148,16 @@ module _ {M : Type 1} (𝓤 : URA M) (H : Heap 𝓤) (A : Atoms 𝓤) (W : Given
   abbrev Token : Item 𝓤
   Token = ‵ (flft κ q) ⊛ ‵ ftrue
 
-  -- the struct's type and laws: in a signature, and as a local of a body has it
-  abbrev D : Declared
-  D = T.the-type (namedLft 1 0 tt (κ, tt))
-
+  -- the lifetime as the type of a local has it
   abbrev αᵉ : NamedLft
   αᵉ = record { mir = erased; lft = κ }
 
-  -- the reader at a place, its machine value, and what it owns
+  -- the reader at a place, and its machine value
   abbrev reader : ℕ → Reader
   reader a = record { image = s; at = a }
 
   abbrev mach : ℕ → Val
   mach a = T′.lowered (reader a)
-
-  abbrev Own : ℕ → Fml
-  Own a = B (κ, tt) .own (reader a) (mach a ∷ [])
 
   abbrev IsAt : ℕ → Val → Type 0
   IsAt a u = Is (B (κ, tt)) (reader a) (u ∷ [])
@@ -177,10 +166,10 @@ module _ {M : Type 1} (𝓤 : URA M) (H : Heap 𝓤) (A : Atoms 𝓤) (W : Given
   typed a u is = LL.lawful (T.the-type αᵉ) (T′.the-laws αᵉ) 𝓤 H A W .typed (reader a) (u ∷ []) is .0
 
   tells : (a : ℕ) (u : Val) → IsAt a u → u ∷ [] ≡ mach a ∷ []
-  tells a u is = LL.tells D (T′.the-laws (namedLft 1 0 tt (κ, tt))) (reader a) (u ∷ []) is
+  tells a u is = LL.tells (D κ) (L κ) (reader a) (u ∷ []) is
 
   at-fits : (a : ℕ) (u : Val) → IsAt a u → a < 2 ^ 64
-  at-fits a u is = LL.owed D (T′.the-laws (namedLft 1 0 tt (κ, tt))) (reader a) (u ∷ []) is .1 .0 .1
+  at-fits a u is = LL.owed (D κ) (L κ) (reader a) (u ∷ []) is .1 .0 .1
 
   exits : (a : ℕ) → Reached (now s) id a → a < 2 ^ 64 → ent 𝓤 (⋆ 𝓤 H A (Token ∷ ‵ Slice ∷ [])) (Post (vint w64 a))
   exits a e fits =
@@ -220,9 +209,9 @@ module _ {M : Type 1} (𝓤 : URA M) (H : Heap 𝓤) (A : Atoms 𝓤) (W : Given
   abbrev to-passes : M′ → Passes 𝓤 H A mem run .Ghost
   to-passes m = (((κ, tt), (q, tt), tt, (reader (m .at), (id, (m .left, tt))), (mach (m .at) ∷ [], (vint w16 id ∷ [], (vint w64 (m .left) ∷ [], tt)))), tt)
 
-  goes-passes : (m : M′) → ent 𝓤 (⋆ 𝓤 H A (‵ (Own (m .at)) ∷ Token ∷ [])) (Passes 𝓤 H A mem run .pre (to-passes m))
+  goes-passes : (m : M′) → ent 𝓤 (⋆ 𝓤 H A (‵ (Own κ (reader (m .at))) ∷ Token ∷ [])) (Passes 𝓤 H A mem run .pre (to-passes m))
   goes-passes m =
-      qed W (‵ (Own (m .at)) ∷ Token ∷ []) ∵ says ! (m .passed .stands) $ nothing ! $ owned ! usize (Is usize) (uint-makes 𝓤 H A W w64) (m .left) _ (refl, m .few) $ fjoin ! $
+      qed W (‵ (Own κ (reader (m .at))) ∷ Token ∷ []) ∵ says ! (m .passed .stands) $ nothing ! $ owned ! usize (Is usize) (uint-makes 𝓤 H A W w64) (m .left) _ (refl, m .few) $ fjoin ! $
       owned ! u16 (Is u16) (uint-makes 𝓤 H A W w16) id _ (refl, id-fits) $ fjoin ! $ move ! (1 ∷ 0 ∷ []) $ fjoin ! $ move ! (1 ∷ 0 ∷ []) $ done !
 
   abbrev Told : M′ → Bool → Type 0
@@ -235,8 +224,8 @@ module _ {M : Type 1} (𝓤 : URA M) (H : Heap 𝓤) (A : Atoms 𝓤) (W : Given
   abbrev to-on : M′ → On 𝓤 H A mem run .Ghost
   to-on m = (((κ, tt), (q, tt), tt, (reader (m .at), tt), (mach (m .at) ∷ [], tt)), tt)
 
-  goes-moved : (m : M′) → Whole (now s) (m .at) → ent 𝓤 (⋆ 𝓤 H A (‵ (Own (m .at)) ∷ Token ∷ [])) (On 𝓤 H A mem run .pre (to-on m))
-  goes-moved m row = qed W (‵ (Own (m .at)) ∷ Token ∷ []) ∵ says ! row $ nothing ! $ move ! (1 ∷ 0 ∷ []) $ fjoin ! $ move ! (1 ∷ 0 ∷ []) $ done !
+  goes-moved : (m : M′) → Whole (now s) (m .at) → ent 𝓤 (⋆ 𝓤 H A (‵ (Own κ (reader (m .at))) ∷ Token ∷ [])) (On 𝓤 H A mem run .pre (to-on m))
+  goes-moved m row = qed W (‵ (Own κ (reader (m .at))) ∷ Token ∷ []) ∵ says ! row $ nothing ! $ move ! (1 ∷ 0 ∷ []) $ fjoin ! $ move ! (1 ∷ 0 ∷ []) $ done !
 
   abbrev Moved : M′ → Reader → Type 0
   Moved m r = (r .image ≡ s) × (r .at ≡ nextAt (now s) (m .at))
@@ -263,12 +252,12 @@ module _ {M : Type 1} (𝓤 : URA M) (H : Heap 𝓤) (A : Atoms 𝓤) (W : Given
 
     -- [what the reader owns; the token; the reader; left; room for _7 .. _9; the frame]
     abbrev At : M′ → List (Item 𝓤)
-    At m = ‵ (Own (m .at)) ∷ Token ∷ ‵ (fat fullShare held l₅ 0 (mach (m .at))) ∷ ‵ (fat fullShare word l₆ 0 (vint w64 (m .left)))
+    At m = ‵ (Own κ (reader (m .at))) ∷ Token ∷ ‵ (fat fullShare held l₅ 0 (mach (m .at))) ∷ ‵ (fat fullShare word l₆ 0 (vint w64 (m .left)))
         ∷ ‵ (froom tyBool l₇ 0) ∷ ‵ (froom held l₈ 0) ∷ ‵ (froom held l₉ 0) ∷ Frame
 
     -- the same behind the test
     abbrev Tested : M′ → Bool → List (Item 𝓤)
-    Tested m b = Token ∷ ‵ (Own (m .at)) ∷ ‵ (fat fullShare held l₅ 0 (mach (m .at))) ∷ ‵ (fat fullShare word l₆ 0 (vint w64 (m .left)))
+    Tested m b = Token ∷ ‵ (Own κ (reader (m .at))) ∷ ‵ (fat fullShare held l₅ 0 (mach (m .at))) ∷ ‵ (fat fullShare word l₆ 0 (vint w64 (m .left)))
         ∷ ‵ (fat fullShare tyBool l₇ 0 (vbool b)) ∷ ‵ (fat fullShare held l₈ 0 (mach (m .at))) ∷ ‵ (froom held l₉ 0) ∷ Frame
 
     -- a turn ends with fewer rows left, or the loop is left and the rest of the body runs
@@ -314,7 +303,7 @@ module _ {M : Type 1} (𝓤 : URA M) (H : Heap 𝓤) (A : Atoms 𝓤) (W : Given
     turns m =
         peeks ! (B (κ, tt)) (Is (B (κ, tt))) (shows 𝓤 H A (B (κ, tt))) (reader (m .at)) (mach (m .at) ∷ []) (λ is.
         assigns ! (of-opd ! (load ! (from ! (stop !)) (look ! 2 refl))) (from ! (stop !)) (init ! 5 refl (typed (m .at) (mach (m .at)) is)) $
-        use1 W (‵ (Own (m .at)) ⊛ ‵ (Own (m .at))) (LL.copy D (T′.the-copy (namedLft 1 0 tt (κ, tt))) 𝓤 H A W .twice (reader (m .at)) (mach (m .at) ∷ [])) $ split ! $
+        use1 W (‵ (Own κ (reader (m .at))) ⊛ ‵ (Own κ (reader (m .at)))) (twice 𝓤 H A W κ (reader (m .at))) $ split ! $
         move ! (0 ∷ 2 ∷ []) $ use2 W (raw (Passes 𝓤 H A mem run .pre (to-passes m))) (goes-passes m) $
         -- [what is asked; what the reader owns; _5; _6; …]
         calls-at ! (fmOf 𝓤 H (W .laws) 𝓣) (Passes 𝓤 H A mem run) known-passes (to-passes m)
