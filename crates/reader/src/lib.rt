@@ -46,8 +46,7 @@ pub fn on<'a>(r: Reader<'a>) -> Reader<'a>
     }
 }
 
-// From a place that only lower ids stand before, with so many rows left: the place of the first row whose id is not
-// lower, or the image's end.
+// Where, from a place with so many rows left on, the first row stands whose id is not lower; or the image's end.
 pub fn seek(image: &[u8], id: u16, at: usize, rows: usize) -> usize
     requires { ⌜ Passed (now image) id at rows ⌝ }
     ensures { λ r. ⌜ Reached (now (image .entry)) id r ⌝ }
