@@ -1,5 +1,5 @@
 /*
- * A month's end: opens and closes in one list, worked through in its order, and the book written once.
+ * A month's end: opens and closes in one list, worked through in its order, the book written once, and the index by slot.
  *
  * examples/run posting builds this program with the planner's library and runs it; it prints examples/posting.said.
  */
@@ -18,6 +18,13 @@ static void print_request(const struct lindurask_request *request) {
         printf("done\n");
     else
         printf("refused %u\n", request->answer);
+}
+
+/* The nodes of a set. */
+static void print_nodes(uint64_t set) {
+    for (unsigned node = 0; node < 64; node++)
+        if (set >> node & 1)
+            printf(" %u", node);
 }
 
 int main(void) {
@@ -56,7 +63,11 @@ int main(void) {
 
     /* Nodes 1 and 2 are on mains: only they may stand in the middle of a route. On this line that asks no more of any route. */
     const uint64_t mains = 1u << 1 | 1u << 2;
-    number = lindurask_post(book, book_length, mains, requests, count, next, sizeof next, &next_length);
+
+    /* The index: two words for each slot of 100 tiles, here 4 slots a tile. What it holds before does not matter. */
+    enum { WORDS = 2 * 100 * 4 };
+    uint64_t index[WORDS];
+    number = lindurask_post(book, book_length, mains, requests, count, index, WORDS, next, sizeof next, &next_length);
     if (number != 0) {
         printf("nothing was posted: refused %u\n", number);
         return 1;
@@ -64,6 +75,16 @@ int main(void) {
     printf("The list was posted, and the book has %zu bytes now:\n", next_length);
     for (size_t i = 0; i < count; i++)
         print_request(&requests[i]);
+
+    /* Who sends and who receives in the first two tiles, which all streams here repeat: nothing of stream 1 is left. */
+    for (unsigned slot = 0; slot < 8; slot++)
+        if (index[2 * slot] != 0) {
+            printf("Slot %u: sending", slot);
+            print_nodes(index[2 * slot]);
+            printf(", receiving");
+            print_nodes(index[2 * slot + 1]);
+            printf("\n");
+        }
 
     /* What is left: streams 2 and 3. */
     uint32_t data, used, free_slots;
@@ -90,14 +111,17 @@ int main(void) {
         {.opens = false, .id = 1},
         {.opens = true, .id = 2, .source = 1, .destination = 0, .period = 5},
     };
-    number = lindurask_post(next, next_length, mains, again, 2, book, sizeof book, &book_length);
+    number = lindurask_post(next, next_length, mains, again, 2, index, WORDS, book, sizeof book, &book_length);
     printf("A list of which none is done: %u, and %zu bytes are written\n", number, book_length);
     print_request(&again[0]);
     print_request(&again[1]);
 
     /* A call that is refused as a whole marks no request: a buffer that does not hold the longest book is too short. */
     again[0].answer = 99;
-    number = lindurask_post(next, next_length, mains, again, 1, book, sizeof book - 1, &book_length);
+    number = lindurask_post(next, next_length, mains, again, 1, index, WORDS, book, sizeof book - 1, &book_length);
     printf("With a shorter buffer: refused %u, and the answer is still %u\n", number, again[0].answer);
+    index[0] = 99;
+    number = lindurask_post(next, next_length, mains, again, 1, index, WORDS - 1, book, sizeof book, &book_length);
+    printf("With an index a word shorter: refused %u, and its first word is still %" PRIu64 "\n", number, index[0]);
     return 0;
 }

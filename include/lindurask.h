@@ -32,7 +32,7 @@
  *   11  links or hearing: wrong length (new book), a bit from N up, a node joined to itself, one way
  *       only, or a link that is missing from the hearing
  *   12  output buffer shorter than the answer; of a call that changes the book, shorter than
- *       LINDURASK_LONGEST_IMAGE
+ *       LINDURASK_LONGEST_IMAGE, or the index of a posting shorter than 200 x S words
  *   13  image: wrong mark or version
  *   14  image: under 16 bytes, or not the length that its header gives
  *   15  image: rows are not lawful, not rising by id and then route, or do not fill it
@@ -56,7 +56,7 @@
  * What is written
  *
  * - Done: the first *length bytes of out are the answer; the bytes behind them are not touched.
- * - Refused: *length is 0, and no byte of out is touched, nor any request of a list.
+ * - Refused: *length is 0, and no byte of out is touched, nor any request of a list, nor any word of its index.
  * - *length is set by every call that has it, whatever the result. lindurask_check always sets
  *   it to 0.
  *
@@ -65,12 +65,13 @@
  *
  * - A pointer is to as many bytes as the length beside it says, or to as many requests as the count,
  *   and not null, also where that is 0. The bools of a request are 0 or 1.
- * - The input, the requests, out, *length, *more, *links, *keeps and the counts of a balance lie apart:
+ * - The input, the requests, the index, out, *length, *more, *links, *keeps and the counts of a balance lie apart:
  *   none of them overlaps another. To make the new image the current one, swap the two buffers.
  * - No image is longer than LINDURASK_LONGEST_IMAGE bytes; an output buffer of that size is never
  *   too short for a book, and a call that changes the book takes none that is shorter. A table
  *   takes 300 x S bytes, S the slots of a tile: at most LINDURASK_LONGEST_TABLE. A list of routes
- *   takes at most LINDURASK_LONGEST_LIST.
+ *   takes at most LINDURASK_LONGEST_LIST. The index of a posting takes 200 x S words: at most
+ *   LINDURASK_LONGEST_INDEX.
  * - A call takes up to 60 KB of stack, and nothing from the heap.
  *
  * Every image is otherwise safe to pass: damaged bytes are refused by number.
@@ -97,6 +98,9 @@ extern "C" {
 
 /* The longest list of routes, in bytes: 32 routes of a hop byte and 7 nodes. */
 #define LINDURASK_LONGEST_LIST 256
+
+/* The longest index of a posting, in words of 64 bits: two for each slot of 100 tiles of 32 slots. */
+#define LINDURASK_LONGEST_INDEX 6400
 
 /*
  * Makes a book without streams, and writes its image of 16 + 16 x n bytes. Refusals: 10, 11, 12.
@@ -146,13 +150,19 @@ struct lindurask_request {
  *
  * A close takes the stream of this id with all its routes out. Its answers: 0, or the first of 1, 3.
  *
- * Refusals of the whole call, which leave every request as it is: those of an image, then 25, 26, 12.
+ * `index` is lent: words of 64 bits, two for each slot of the first 100 tiles, 200 times S of them, and at most
+ * LINDURASK_LONGEST_INDEX; index_len counts them. A call that is not refused as a whole fills them anew, whatever they
+ * held: for each slot the set of nodes sending there, bit b for node b, then the set of nodes receiving, as the streams
+ * of the last book take it. Words behind these are not touched.
+ *
+ * Refusals of the whole call, which leave every request and every word as it is: those of an image, then 25, 26, 12. It is
+ * also 12 where the index is shorter than 200 times S words.
  */
 uint8_t lindurask_post(const uint8_t *book, size_t book_len, uint64_t mains, struct lindurask_request *requests,
-                       size_t count, uint8_t *out, size_t out_len, size_t *length);
+                       size_t count, uint64_t *index, size_t index_len, uint8_t *out, size_t out_len, size_t *length);
 
 /*
- * Opens a stream: a list of one open, with all nodes in the set. Gives the refusal of the whole call, or the answer of the request.
+ * Opens a stream: a list of one open, with all nodes in the set and an index of its own. Gives the refusal of the whole call, or the answer of the request.
  * Refusals: those of an image, then 12, 1, 4, 5, 6, 2, 7, 17, 18, 8, 9.
  */
 uint8_t lindurask_open(const uint8_t *book, size_t book_len, uint16_t id, uint8_t source, uint8_t destination,

@@ -14,13 +14,13 @@
 #include "c_interface_wrong.h"
 #endif
 
-enum { HEAD = 44, REPLY = 13, MOST_BYTES = 4096, MOST_ROOM = 16384, MARGIN = 64 };
+enum { HEAD = 44, REPLY = 13, MOST_BYTES = 4096, MOST_ROOM = 16384, MOST_WORDS = 6500, MARGIN = 64 };
 
 /* The calls that have a name here; those from 10 to 12 are none. */
 enum { NEW = 0, BALANCE = 6, ROUTES = 7, POST = 8, KEEPS = 9, LINKS = 13 };
 
-/* A record of a framed posting, the most of them, and how many requests stand on either side of a list. */
-enum { RECORD = 11, MOST_RECORDS = 100, BESIDE = 4 };
+/* A record of a framed posting, the most of them, and how many requests or words stand on either side of a list or an index. */
+enum { RECORD = 11, MOST_RECORDS = 100, BESIDE = 4, WORD = 8 };
 
 _Static_assert(LINDURASK_LONGEST_IMAGE == 16 + 16 * 64 + 6 * 64 + 3 * 512, "64 nodes, 64 rows, 512 hops");
 _Static_assert(LINDURASK_LONGEST_TABLE == 3 * 100 * 32, "100 tiles of 32 slots");
@@ -66,6 +66,7 @@ static uint8_t input[MARGIN + MOST_BYTES + MARGIN], before[MOST_BYTES];
 static uint8_t hearing[MARGIN + MOST_BYTES + MARGIN], hearing_before[MOST_BYTES];
 static uint8_t output[MARGIN + MOST_ROOM + MARGIN];
 static struct lindurask_request list[BESIDE + MOST_RECORDS + BESIDE];
+static uint64_t words[BESIDE + MOST_WORDS + BESIDE];
 
 static unsigned be16(const uint8_t *p) { return (unsigned)p[0] << 8 | p[1]; }
 
@@ -84,6 +85,11 @@ static void put16(uint8_t *p, unsigned x) {
 static void put32(uint8_t *p, size_t x) {
     for (int i = 0; i < 4; i++)
         p[i] = (uint8_t)(x >> (24 - 8 * i));
+}
+
+static void put64(uint8_t *p, uint64_t x) {
+    for (int i = 0; i < WORD; i++)
+        p[i] = (uint8_t)(x >> (56 - 8 * i));
 }
 
 static void fail(const char *why) {
@@ -134,17 +140,26 @@ static void put_list(uint8_t *records, size_t count) {
     }
 }
 
-/* The requests on either side of the list are as they were. */
-static int is_beside(size_t count) {
-    const uint8_t *bytes = (const uint8_t *)list;
-    size_t start = sizeof list[0] * BESIDE, end = sizeof list[0] * (BESIDE + count);
-    for (size_t i = 0; i < sizeof list; i++)
+/* Fills an index of so many words. */
+static void prepare_index(size_t count, uint8_t filler) {
+    memset(words, AROUND, sizeof words);
+    memset(words + BESIDE, filler, WORD * count);
+}
+
+/* What stands on either side of count entries of the list or of the index is as it was. */
+static int is_beside(const void *all, size_t size, size_t entry, size_t count) {
+    const uint8_t *bytes = all;
+    size_t start = entry * BESIDE, end = entry * (BESIDE + count);
+    for (size_t i = 0; i < size; i++)
         if ((i < start || i >= end) && bytes[i] != AROUND)
             return 0;
     return 1;
 }
 
-/* Makes the call of a frame; book has len bytes, hearing has heard, out has room, and the list has count requests. */
+/*
+ * Makes the call of a frame; book has len bytes, hearing has heard, out has room, the list has count requests, and the
+ * index has the words that the frame says.
+ */
 static uint8_t call(const uint8_t *head, const uint8_t *book, size_t len, const uint8_t *hearing, size_t heard, size_t count,
                     uint8_t *out, size_t room, struct reply *r) {
     uint16_t id = be16(head + 1), period = be16(head + 5), kinds = be16(head + 9);
@@ -174,7 +189,7 @@ static uint8_t call(const uint8_t *head, const uint8_t *book, size_t len, const 
     case LINKS:
         return lindurask_links(book, len, source, &r->links);
     default:
-        return lindurask_post(book, len, mains, list + BESIDE, count, out, room, &r->length);
+        return lindurask_post(book, len, mains, list + BESIDE, count, words + BESIDE, be16(head + 42), out, room, &r->length);
     }
 }
 
@@ -221,8 +236,8 @@ static void give(const uint8_t *bytes, size_t size) {
 /* Answers one frame, whose head is read. */
 static void serve(const uint8_t *head) {
     size_t len = be16(head + 14), room = be16(head + 16), heard = be16(head + 38), further = be16(head + 40);
-    size_t count = further / RECORD;
-    uint8_t reply[REPLY], records[RECORD * MOST_RECORDS];
+    size_t count = further / RECORD, indexed = be16(head + 42);
+    uint8_t reply[REPLY], records[RECORD * MOST_RECORDS], word[WORD];
     struct reply r = {.length = UNSET, .data = UNSET, .used = UNSET, .free_slots = UNSET};
     r.more = r.links = r.keeps = (uint8_t)UNSET;
     if ((head[0] > KEEPS && head[0] != LINKS) || len > MOST_BYTES || room > MOST_ROOM)
@@ -231,6 +246,8 @@ static void serve(const uint8_t *head) {
         fail("is given a hearing that is none");
     if (further % RECORD != 0 || count > MOST_RECORDS || (further != 0 && head[0] != POST))
         fail("is given records that are none");
+    if (indexed > MOST_WORDS || (indexed != 0 && head[0] != POST))
+        fail("is given an index that is none");
     prepare(input, len, 0);
     prepare(hearing, heard, 0);
     prepare(output, room, head[18]);
@@ -240,6 +257,7 @@ static void serve(const uint8_t *head) {
     memcpy(input + MARGIN, before, len);
     memcpy(hearing + MARGIN, hearing_before, heard);
     prepare_list(records, count);
+    prepare_index(indexed, head[18]);
     uint8_t number = call(head, input + MARGIN, len, hearing + MARGIN, heard, count, output + MARGIN, room, &r);
     answer(head, number, &r, reply);
     put_list(records, count);
@@ -249,11 +267,17 @@ static void serve(const uint8_t *head) {
         fail("changes its hearing");
     if (!is_around(output, room))
         fail("writes beside its buffer");
-    if (!is_beside(count))
+    if (!is_beside(list, sizeof list, sizeof list[0], count))
         fail("writes beside its list");
+    if (!is_beside(words, sizeof words, WORD, indexed))
+        fail("writes beside its index");
     give(reply, REPLY);
     give(output + MARGIN, room);
     give(records, further);
+    for (size_t i = 0; i < indexed; i++) {
+        put64(word, words[BESIDE + i]);
+        give(word, WORD);
+    }
 }
 
 int main(void) {

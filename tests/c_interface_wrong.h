@@ -53,11 +53,11 @@
 #define lindurask_post(book, len, mains, list, count, ...) \
     lindurask_post(book, len, mains, list, (count) - ((count) > 0), __VA_ARGS__)
 #elif WRONG == 24 /* a posting: the buffer taken for a byte longer */
-#define lindurask_post(book, len, mains, list, count, out, room, length) \
-    lindurask_post(book, len, mains, list, count, out, (room) + 1, length)
+#define lindurask_post(book, len, mains, list, count, index, words, out, room, length) \
+    lindurask_post(book, len, mains, list, count, index, words, out, (room) + 1, length)
 #elif WRONG == 25 /* a posting: the length is not set */
-#define lindurask_post(book, len, mains, list, count, out, room, length) \
-    lindurask_post(book, len, mains, list, count, out, room, &(size_t){0})
+#define lindurask_post(book, len, mains, list, count, index, words, out, room, length) \
+    lindurask_post(book, len, mains, list, count, index, words, out, room, &(size_t){0})
 #elif WRONG == 26 /* a posting: a request behind the list marked */
 #define lindurask_post(book, len, mains, list, count, ...) \
     ((list)[count].answer = 0, lindurask_post(book, len, mains, list, count, __VA_ARGS__))
@@ -106,6 +106,24 @@
     lindurask_keeps_to(book, len, mains, lindurask_check(book, len, &(size_t){0}) ? &(uint8_t){0} : (keeps))
 #elif WRONG == 46 /* keeps to: the set the other way round */
 #define lindurask_keeps_to(book, len, mains, keeps) lindurask_keeps_to(book, len, ~(mains), keeps)
+#elif WRONG == 47 /* a posting: the index taken for a word longer */
+#define lindurask_post(book, len, mains, list, count, index, words, ...) \
+    lindurask_post(book, len, mains, list, count, index, (words) + 1, __VA_ARGS__)
+#elif WRONG == 48 /* a posting: the index taken for a word shorter */
+#define lindurask_post(book, len, mains, list, count, index, words, ...) \
+    lindurask_post(book, len, mains, list, count, index, (words) - ((words) > 0), __VA_ARGS__)
+#elif WRONG == 49 /* a posting: the length of the index in bytes */
+#define lindurask_post(book, len, mains, list, count, index, words, ...) \
+    lindurask_post(book, len, mains, list, count, index, 8 * (words), __VA_ARGS__)
+#elif WRONG == 50 /* a posting: another index filled */
+#define lindurask_post(book, len, mains, list, count, index, words, ...) \
+    lindurask_post(book, len, mains, list, count, (uint64_t[6500]){*(index)}, words, __VA_ARGS__)
+#elif WRONG == 51 /* a posting: a word behind the index */
+#define lindurask_post(book, len, mains, list, count, index, words, ...) \
+    ((index)[words] = 0, lindurask_post(book, len, mains, list, count, index, words, __VA_ARGS__))
+#elif WRONG == 52 /* a posting: the index a word on */
+#define lindurask_post(book, len, mains, list, count, index, words, ...) \
+    lindurask_post(book, len, mains, list, count, (index) + 1, words, __VA_ARGS__)
 #else
 #error "there is no such wrong interface"
 #endif
@@ -120,10 +138,10 @@ static inline void exchange(void *one, void *two, size_t size) {
 
 /* Every request is amiss for the call, and put right again behind it. */
 static uint8_t amiss_post(const uint8_t *book, size_t len, uint64_t mains, struct lindurask_request *list, size_t count,
-                          uint8_t *out, size_t room, size_t *length) {
+                          uint64_t *index, size_t words, uint8_t *out, size_t room, size_t *length) {
     for (size_t i = 0; i < count; i++)
         AMISS(&list[i]);
-    uint8_t number = lindurask_post(book, len, mains, list, count, out, room, length);
+    uint8_t number = lindurask_post(book, len, mains, list, count, index, words, out, room, length);
     for (size_t i = 0; i < count; i++)
         AMISS(&list[i]);
     return number;

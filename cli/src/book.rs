@@ -10,8 +10,11 @@ pub const MOST_ROUTES: usize = 64;
 pub const MOST_HOPS: usize = 512;
 /// The most nodes of a site.
 pub const MOST_NODES: usize = 64;
-/// Bytes of the head, and the place of the one that states how many nodes there are.
+/// The most slots of a tile.
+const MOST_SLOTS: u8 = 32;
+/// Bytes of the head, and the places of those that state how many slots a tile has, and how many nodes there are.
 const HEAD: usize = 16;
+const SLOTS_AT: usize = 5;
 const NODES_AT: usize = 11;
 
 /// How a version writes what follows the head.
@@ -139,6 +142,11 @@ impl Bytes<'_> {
 /// How many nodes an image states, be it lawful or not; none where it ends before.
 pub fn stated_nodes(image: &[u8]) -> u8 {
     image.get(NODES_AT).copied().unwrap_or(0)
+}
+
+/// How many slots of a tile an image states, be it lawful or not: at most as many as a lawful one; none where it ends before.
+pub fn stated_slots(image: &[u8]) -> u8 {
+    image.get(SLOTS_AT).copied().unwrap_or(0).min(MOST_SLOTS)
 }
 
 /// Every pair of nodes that these rows join once, the lower node first.

@@ -80,11 +80,9 @@ impl Engine {
     fn read_answer(output: &mut ChildStdout, request: &Request) -> Result<Answer, Trouble> {
         let mut head = [0; ANSWER_HEAD];
         Engine::read(output, &mut head)?;
-        let mut out = vec![0; request.room];
-        Engine::read(output, &mut out)?;
-        let mut records = vec![0; request.lent];
-        Engine::read(output, &mut records)?;
-        request.read(&head, out, &records).ok_or_else(|| wrong("says what is no answer"))
+        let mut lent = vec![0; request.answered()];
+        Engine::read(output, &mut lent)?;
+        request.read(&head, &lent).ok_or_else(|| wrong("says what is no answer"))
     }
 
     /// Puts one request.

@@ -1,5 +1,8 @@
 //! Frames: what is put to the engine and what it answers, as bytes. All numbers are big-endian.
 
+use crate::book::{stated_slots, Book};
+use crate::index;
+
 /// Bytes of a request before its book or links; what no call here uses is 0.
 const REQUEST_HEAD: usize = 44;
 /// Bytes of an answer before its output buffer.
@@ -14,6 +17,8 @@ const BOOK_ROOM: u16 = 4096;
 const MOST_REQUESTS: usize = 64;
 /// Bytes of a request in a list; the last is its answer.
 const RECORD: usize = 11;
+/// Bytes of a word of an index.
+const WORD: usize = 8;
 /// Bytes of a table's entry: an operation and a stream's id.
 pub const ENTRY: usize = 3;
 /// Room for the table of 32 slots in each of 100 tiles.
@@ -71,11 +76,14 @@ pub enum Record {
     Close(u16),
 }
 
-/// A call in bytes, the room that it gives for the answer, and how many of its bytes, the last, are records.
+/// A call in bytes, and what it lends: room for the answer, records, and an index.
 pub struct Request {
     pub bytes: Vec<u8>,
-    pub room: usize,
-    pub lent: usize,
+    room: usize,
+    /// How many of its bytes, the last, are records.
+    lent: usize,
+    /// Bytes of the index.
+    index: usize,
 }
 
 /// What a call gave back.
@@ -109,7 +117,7 @@ fn blank(call: Call, bytes: &[u8], room: u16) -> Request {
     head[16..18].copy_from_slice(&room.to_be_bytes());
     head[18] = FILL;
     head.extend(bytes);
-    Request { bytes: head, room: room.into(), lent: 0 }
+    Request { bytes: head, room: room.into(), lent: 0, index: 0 }
 }
 
 impl Record {
@@ -202,8 +210,10 @@ pub fn keeps_to(book: &[u8], mains: u64) -> Request {
 pub fn post(book: &[u8], mains: u64, list: &[Record]) -> Request {
     let mut request = with_set(Call::Post, book, mains, BOOK_ROOM);
     let list = &list[..list.len().min(MOST_REQUESTS + 1)];
-    request.lent = RECORD * list.len();
+    let words = index::words(stated_slots(book));
+    (request.lent, request.index) = (RECORD * list.len(), WORD * words);
     request.bytes[40..42].copy_from_slice(&(request.lent as u16).to_be_bytes());
+    request.bytes[42..44].copy_from_slice(&(words as u16).to_be_bytes());
     request.bytes.extend(list.iter().flat_map(|record| record.bytes()));
     request
 }
@@ -212,7 +222,7 @@ pub fn post(book: &[u8], mains: u64, list: &[Record]) -> Request {
 pub fn end() -> Request {
     let mut bytes = vec![0; REQUEST_HEAD];
     bytes[0] = Call::End as u8;
-    Request { bytes, room: 0, lent: 0 }
+    Request { bytes, room: 0, lent: 0, index: 0 }
 }
 
 impl Request {
@@ -220,15 +230,17 @@ impl Request {
         self.bytes[0] == call as u8
     }
 
-    /// Reads the answer to this request, with the records behind it; none where the bytes cannot be one.
-    pub fn read(
-        &self,
-        head: &[u8; ANSWER_HEAD],
-        mut out: Vec<u8>,
-        records: &[u8],
-    ) -> Option<Answer> {
+    /// The bytes of its answer behind the head: what it was lent.
+    pub fn answered(&self) -> usize {
+        self.room + self.lent + self.index
+    }
+
+    /// Reads the answer to this request; none where the bytes cannot be one.
+    pub fn read(&self, head: &[u8; ANSWER_HEAD], lent: &[u8]) -> Option<Answer> {
         let count = |at: usize| u32::from_be_bytes(head[at..at + 4].try_into().expect("four"));
         let counts = [count(1), count(5), count(9)];
+        let (out, lent) = lent.split_at_checked(self.room)?;
+        let (records, index) = lent.split_at_checked(self.lent)?;
         let answers = self.read_records(head[0], records)?;
         let answer = Answer { number: head[0], counts, bytes: vec![], answers };
         let judged = self.is(Call::KeepsTo);
@@ -250,8 +262,19 @@ impl Request {
         {
             return None;
         }
-        out.truncate(length);
-        Some(Answer { bytes: out, ..answer })
+        let answer = Answer { bytes: out[..length].into(), ..answer };
+        self.bears_out(index, &answer).then_some(answer)
+    }
+
+    /// The index is what the rows say of the book that a list leaves; a list that is refused leaves it alone.
+    fn bears_out(&self, index: &[u8], answer: &Answer) -> bool {
+        if answer.number != 0 || !self.is(Call::Post) {
+            return index.iter().all(|&b| b == FILL);
+        }
+        let sent = &self.bytes[REQUEST_HEAD..self.bytes.len() - self.lent];
+        let left = if answer.bytes.is_empty() { sent } else { &answer.bytes };
+        let words = |book: Book| index::of(&book).into_iter().flat_map(u64::to_be_bytes);
+        Book::decode(left).is_some_and(|book| words(book).eq(index.iter().copied()))
     }
 
     /// The answers in the records of a list, which otherwise are as they were; a list that is refused has none.

@@ -8,6 +8,7 @@ mod difference;
 mod engine;
 mod files;
 mod frame;
+mod index;
 mod json;
 mod leftovers;
 mod lines;

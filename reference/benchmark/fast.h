@@ -18,7 +18,12 @@ struct fast_request {
 };
 
 uint8_t fast_post(const uint8_t *book, size_t book_len, uint64_t mains, struct fast_request *requests, size_t count,
-                  uint8_t *out, size_t out_len, size_t *length);
+                  uint64_t *index, size_t index_len, uint8_t *out, size_t out_len, size_t *length);
+
+/* The same, but each offset is tested against every hop of the book, and no index is asked. */
+uint8_t fast_post_by_test(const uint8_t *book, size_t book_len, uint64_t mains, struct fast_request *requests, size_t count,
+                          uint64_t *index, size_t index_len, uint8_t *out, size_t out_len, size_t *length);
+
 uint8_t fast_open(const uint8_t *book, size_t book_len, uint16_t id, uint8_t source, uint8_t destination, uint16_t period,
                   bool second, uint8_t *out, size_t out_len, size_t *length);
 uint8_t fast_close(const uint8_t *book, size_t book_len, uint16_t id, uint8_t *out, size_t out_len, size_t *length);

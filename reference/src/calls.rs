@@ -7,6 +7,7 @@
 use crate::book::Book;
 use crate::change::Open;
 use crate::image;
+use crate::index::{index_of, index_words};
 use crate::node_set::NodeSet;
 use crate::plan::Plan;
 use crate::record::Record;
@@ -52,16 +53,29 @@ pub fn rewrite(book: &[u8], out: &mut [u8]) -> (u8, usize) {
 }
 
 /// Works through a list of opens and closes in its order. Each record receives
-/// its answer, and the book is written at the end if one was done.
-pub fn post(book: &[u8], mains: u64, records: &mut [Record], out: &mut [u8]) -> (u8, usize) {
+/// its answer, the index is that of the last book, and the book is written at
+/// the end if one was done.
+pub fn post(
+    book: &[u8],
+    mains: u64,
+    records: &mut [Record],
+    index: &mut [u64],
+    out: &mut [u8],
+) -> (u8, usize) {
     match read_with_mains(book, mains) {
-        Ok(book) => post_on(book, NodeSet(mains), records, out),
+        Ok(book) => post_on(book, NodeSet(mains), records, index, out),
         Err(refusal) => (refusal as u8, 0),
     }
 }
 
-fn post_on(book: Book, mains: NodeSet, records: &mut [Record], out: &mut [u8]) -> (u8, usize) {
-    if let Err(refusal) = is_ready_for(records.len(), out.len()) {
+fn post_on(
+    book: Book,
+    mains: NodeSet,
+    records: &mut [Record],
+    index: &mut [u64],
+    out: &mut [u8],
+) -> (u8, usize) {
+    if let Err(refusal) = is_ready_for(records.len(), &book.plan, index.len(), out.len()) {
         return (refusal as u8, 0);
     }
     let mut book = book;
@@ -74,6 +88,7 @@ fn post_on(book: Book, mains: NodeSet, records: &mut [Record], out: &mut [u8]) -
             Err(refusal) => refusal as u8,
         };
     }
+    index[..index_words(&book.plan)].copy_from_slice(&index_of(&book));
     if records.iter().all(|record| record.answer != DONE) {
         return (DONE, 0);
     }
@@ -139,16 +154,17 @@ pub fn keeps_to(book: &[u8], mains: u64) -> (u8, bool) {
     }
 }
 
-/// A list of one, all nodes on mains: the whole call's refusal, or the record's
-/// answer.
+/// A list of one, all nodes on mains, with an index of its own: the whole
+/// call's refusal, or the record's answer.
 fn post_one(book: &[u8], record: Record, out: &mut [u8]) -> (u8, usize) {
     let book = match read(book) {
         Ok(book) => book,
         Err(refusal) => return (refusal as u8, 0),
     };
     let mains = NodeSet::all(book.topology.nodes());
+    let mut index = vec![0; index_words(&book.plan)];
     let mut list = [record];
-    let (number, length) = post_on(book, mains, &mut list, out);
+    let (number, length) = post_on(book, mains, &mut list, &mut index, out);
     if number == DONE { (list[0].answer, length) } else { (number, length) }
 }
 
@@ -182,10 +198,11 @@ fn read(book: &[u8]) -> Result<Book, Refusal> {
     image::read(book).map(|(_, book)| book)
 }
 
-/// A posting may have so many records and so long a buffer.
-fn is_ready_for(records: usize, room: usize) -> Result<(), Refusal> {
+/// A posting may have so many records, so many words and so long a buffer.
+fn is_ready_for(records: usize, plan: &Plan, words: usize, room: usize) -> Result<(), Refusal> {
     refuse_if(records > MAX_RECORDS, Refusal::TooManyRecords)?;
-    refuse_if(room < Version::NEWEST.longest_image(), Refusal::BufferTooShort)
+    refuse_if(room < Version::NEWEST.longest_image(), Refusal::BufferTooShort)?;
+    refuse_if(words < index_words(plan), Refusal::BufferTooShort)
 }
 
 /// Reads a book for a call with a set of its nodes.

@@ -29,10 +29,11 @@
 //! | 34–37 | 0                                                              |
 //! | 38–39 | length of the hearing (new), at most 1,024                     |
 //! | 40–41 | length of the further bytes, which are the records (post)      |
-//! | 42–43 | 0                                                              |
+//! | 42–43 | length of the index (post), in words of 8 bytes, at most 6,500 |
 //!
 //! A field that the call does not use is 0. The planner is called with an
-//! output buffer of the stated length, each byte of it the fill byte.
+//! output buffer and an index of the stated lengths, each byte of them the fill
+//! byte.
 //!
 //! A record has 11 bytes, and a posting has at most 100 records:
 //!
@@ -57,15 +58,15 @@
 //! |       | (routes); otherwise 0                                          |
 //! | 9–12  | free (balance), otherwise 0                                    |
 //! | then  | the output buffer, as long as the request says                 |
-//! | then  | the records (post)                                             |
+//! | then  | the records, then the index (post)                             |
 //!
 //! What is 0 is for document 02's other requests, and so are calls 10 to 12:
 //! 20–21 account (W11); 22–23 first tile and 24–25 tiles (W10); 34–37 amount
 //! (W11); further bytes that are the accounts (W11) or the tables (W9); 42–43
-//! length of a second output buffer, which is the index, in words (W12), or the
-//! report (W7); bytes 8–9 of a record, its account (W11). Call 10 is purchase
-//! (W11), 11 salvage (W7), 12 book of (W9). In an answer the second buffer is
-//! last; bytes 5–8 and 9–12 are salvage's rows and bytes lost.
+//! length of the report, in bytes (W7); bytes 8–9 of a record, its account
+//! (W11). Call 10 is purchase (W11), 11 salvage (W7), 12 book of (W9). In an
+//! answer the report is last; bytes 5–8 and 9–12 are salvage's rows and bytes
+//! lost.
 //!
 //! A request with call 255 is a header only, has no answer and ends the
 //! stream, as does the end of the input between two frames. Answers may be
@@ -80,6 +81,9 @@ pub const REQUEST_HEADER: usize = 44;
 
 /// Bytes of an answer before its output buffer.
 pub const ANSWER_HEADER: usize = 13;
+
+/// Bytes of a word of the index.
+const WORD_BYTES: usize = 8;
 
 /// The call number that ends the stream.
 pub const END: u8 = 255;
@@ -144,6 +148,8 @@ pub struct Answer {
     pub out: Vec<u8>,
     /// The records of a posting.
     pub records: Vec<u8>,
+    /// The index of a posting, in bytes.
+    pub index: Vec<u8>,
 }
 
 impl Answer {
@@ -153,7 +159,8 @@ impl Answer {
             output.write_all(&count.to_be_bytes())?;
         }
         output.write_all(&self.out)?;
-        output.write_all(&self.records)
+        output.write_all(&self.records)?;
+        output.write_all(&self.index)
     }
 
     /// Reads the answer to this request.
@@ -163,11 +170,15 @@ impl Answer {
         let count = |place: usize| {
             u32::from_be_bytes(header[place..place + 4].try_into().expect("four bytes"))
         };
-        let mut out = vec![0; usize::from(request.room)];
-        input.read_exact(&mut out)?;
-        let mut records = vec![0; request.records().len()];
-        input.read_exact(&mut records)?;
-        Ok(Answer { number: header[0], counts: [count(1), count(5), count(9)], out, records })
+        let counts = [count(1), count(5), count(9)];
+        let mut rest = |length: usize| {
+            let mut bytes = vec![0; length];
+            input.read_exact(&mut bytes).map(|()| bytes)
+        };
+        let out = rest(usize::from(request.room))?;
+        let records = rest(request.records().len())?;
+        let index = rest(WORD_BYTES * usize::from(request.words))?;
+        Ok(Answer { number: header[0], counts, out, records, index })
     }
 
     /// The bytes the call wrote: the first `length` of its output buffer.

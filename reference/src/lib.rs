@@ -8,9 +8,10 @@
 //! One subject a file, in document 01's order:
 //! `plan`, `slots` (tiles, slots, periods); `node_set`, `topology`, `route`,
 //! `hop`, `placing` (routes and clashes); `row`, `book`, `law`, `version`,
-//! `image` (the image); `refusal`, `change`, `record`, `calls` (what each call
-//! says back); `table`, `listing` (a node's table and balance); document 02's
-//! `statement` (many sites). `frame` and `request` carry calls between programs.
+//! `image` (the image); `refusal`, `change`, `record`, `index`, `calls` (what
+//! each call says back); `table`, `listing` (a node's table and balance);
+//! document 02's `statement` (many sites). `frame` and `request` carry calls
+//! between programs.
 
 pub mod book;
 pub mod calls;
@@ -18,6 +19,7 @@ pub mod change;
 pub mod frame;
 pub mod hop;
 pub mod image;
+pub mod index;
 pub mod law;
 pub mod listing;
 pub mod node_set;

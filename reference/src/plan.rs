@@ -1,10 +1,13 @@
 //! The tile plan: which slots of the cycle are control and which are data.
 
 use crate::slots::SlotSet;
-use std::ops::Range;
+use std::ops::{Range, RangeInclusive};
 
 /// Tiles in a cycle.
 pub const CYCLE_TILES: usize = 100;
+
+/// The fewest and the most slots of a tile.
+pub const TILE_SLOTS: RangeInclusive<u8> = 1..=32;
 
 /// The periods a stream may have, in tiles.
 pub const PERIODS: [u8; 7] = [1, 2, 5, 10, 20, 50, 100];
@@ -40,7 +43,7 @@ pub struct Plan {
 impl Plan {
     /// Every field is in its range.
     pub fn is_in_range(&self) -> bool {
-        (1..=32).contains(&self.s)
+        TILE_SLOTS.contains(&self.s)
             && PLAN_TILES.contains(&self.c)
             && (self.c..16).all(|tile| !self.is_downlink(tile))
             && self.d <= self.s

@@ -31,7 +31,7 @@ pub enum Refusal {
     /// link missing from the hearing.
     UnsoundTopology = 11,
     /// The output buffer is shorter than the answer; for a posting, than the
-    /// longest book.
+    /// longest book, or the index is too short for 100 tiles.
     BufferTooShort = 12,
     /// Wrong mark or version.
     WrongMark = 13,

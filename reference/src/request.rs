@@ -34,7 +34,9 @@ pub struct Request {
     pub further: Vec<u8>,
     /// Length of the output buffer.
     pub room: u16,
-    /// What every byte of the output buffer is before the call.
+    /// Length of the index, in words.
+    pub words: u16,
+    /// What every byte of the output buffer and the index is before the call.
     pub fill: u8,
 }
 
@@ -59,6 +61,7 @@ impl Request {
             hearing: Vec::new(),
             further: Vec::new(),
             room: 0,
+            words: 0,
             fill: 0,
         }
     }
@@ -81,6 +84,7 @@ impl Request {
         put(26, &self.mains.to_be_bytes());
         put(38, &(self.hearing.len() as u16).to_be_bytes());
         put(40, &(self.further.len() as u16).to_be_bytes());
+        put(42, &self.words.to_be_bytes());
         output.write_all(&header)?;
         output.write_all(&self.bytes)?;
         output.write_all(&self.hearing)?;
@@ -115,6 +119,7 @@ impl Request {
             hearing,
             further,
             room: number(16),
+            words: number(42),
             fill: header[18],
         }))
     }
@@ -124,9 +129,11 @@ impl Request {
         let mut out = vec![self.fill; usize::from(self.room)];
         let mut records: Vec<Record> =
             self.records().chunks_exact(RECORD_BYTES).map(Record::read).collect();
-        let (number, counts) = self.call_reference(&mut out, &mut records);
+        let mut index = vec![u64::from_be_bytes([self.fill; 8]); usize::from(self.words)];
+        let (number, counts) = self.call_reference(&mut out, &mut records, &mut index);
         let records = records.iter().flat_map(Record::write).collect();
-        Answer { number, counts, out, records }
+        let index = index.iter().flat_map(|word| word.to_be_bytes()).collect();
+        Answer { number, counts, out, records, index }
     }
 
     /// The records of a posting; no other call has any.
@@ -135,7 +142,12 @@ impl Request {
     }
 
     /// Makes the call: the number, and the length or the three counts.
-    fn call_reference(&self, out: &mut [u8], records: &mut [Record]) -> (u8, [u32; 3]) {
+    fn call_reference(
+        &self,
+        out: &mut [u8],
+        records: &mut [Record],
+        index: &mut [u64],
+    ) -> (u8, [u32; 3]) {
         let book = &self.bytes;
         let (number, length) = match self.call {
             Call::New => calls::new(&self.site(), out),
@@ -153,7 +165,7 @@ impl Request {
                     calls::routes(book, self.mains, self.node, self.destination, out);
                 return (number, [length as u32, u32::from(more), 0]);
             }
-            Call::Post => calls::post(book, self.mains, records, out),
+            Call::Post => calls::post(book, self.mains, records, index, out),
             Call::KeepsTo => {
                 let (number, keeps) = calls::keeps_to(book, self.mains);
                 return (number, [u32::from(keeps), 0, 0]);

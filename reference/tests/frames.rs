@@ -32,10 +32,11 @@ fn a_request_has_every_field_in_its_place() {
         fill: 0x12,
         second: true,
         mains: 0x2021222324252627,
+        words: 0x2829,
         ..Request::blank(Call::Open)
     };
     let fields = [3, 1, 2, 3, 4, 5, 6, 7, 8, 9, 10, 11, 12, 13, 0, 3, 0x10, 0x11, 0x12, 1];
-    let lengths = [0, 1, 0, 2, 0, 0];
+    let lengths = [0, 1, 0, 2, 0x28, 0x29];
     let bytes = [0xEE, 0xEE, 0xEE, 0xCC, 0xDD, 0xDD];
     let mains = [0x20, 0x21, 0x22, 0x23, 0x24, 0x25, 0x26, 0x27];
     let expected = [&fields[..], &[0; 6], &mains, &[0; 4], &lengths, &bytes].concat();
@@ -133,7 +134,9 @@ fn a_posting_is_answered_with_its_records() {
     let room = Version::NEWEST.longest_image() as u16;
     let further = records.concat();
     let bytes = line_a(4);
-    let post = Request { mains: 0b1111, bytes, further, room, ..Request::blank(Call::Post) };
+    let words = 2 * 100 * 4 + 1;
+    let blank = Request::blank(Call::Post);
+    let post = Request { mains: 0b1111, bytes, further, room, words, fill: FILL, ..blank };
     let bytes = served(std::slice::from_ref(&post));
     let answer = Answer::read(&mut &bytes[..], &post).unwrap();
     assert_eq!((answer.number, answer.written()), (0, &p2()[..]));
@@ -141,6 +144,9 @@ fn a_posting_is_answered_with_its_records() {
     let mut expected = records;
     (expected[0][10], expected[1][10], expected[2][10]) = (0, 3, 18);
     assert_eq!(answer.records, expected.concat());
+    // In slot 2 node 3 sends and node 2 receives; the last word is not written.
+    assert_eq!(answer.index[32..48], [0, 0, 0, 0, 0, 0, 0, 8, 0, 0, 0, 0, 0, 0, 0, 4]);
+    assert_eq!(answer.index[6400..], [FILL; 8]);
     // Refused as a whole, it leaves the records alone.
     let short = Request { room: room - 1, ..post };
     assert_eq!((short.answer().number, short.answer().records), (12, records.concat()));

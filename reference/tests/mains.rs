@@ -18,7 +18,7 @@ fn square() -> Vec<u8> {
 /// The answer to an open under a set, and the book after it.
 fn opened_within(book: &[u8], mains: u64, asked: Open) -> (u8, Vec<u8>) {
     let mut list = [Record::open(asked)];
-    let after = written(|out| calls::post(book, mains, &mut list, out));
+    let after = written(|out| calls::post(book, mains, &mut list, &mut any_index(), out));
     (list[0].answer, after)
 }
 
@@ -95,7 +95,7 @@ fn a_bit_from_n_up_is_25_right_after_the_images() {
     assert_eq!(calls::keeps_to(&book[..15], bad), (14, false));
     assert_eq!(calls::keeps_to(&new_book(OPEN_PLAN, &line(64)), u64::MAX), (0, true));
     // Before 26 and 12, before 4 and 5.
-    let post = |list: &mut [Record]| refused(0, |out| calls::post(&book, bad, list, out));
+    let post = |list: &mut [Record]| refused(0, |out| calls::post(&book, bad, list, &mut [], out));
     assert_eq!(post(&mut vec![Record::close(1); 65]), 25);
     assert_eq!(post(&mut []), 25);
     let list = |out: &mut [u8]| {

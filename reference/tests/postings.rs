@@ -35,7 +35,8 @@ fn unmarked(record: Record) -> Record {
 fn posted(book: &[u8], list: &[Record]) -> (Vec<u8>, Vec<u8>) {
     let mut records = list.to_vec();
     let mut out = vec![FILL; full_size()];
-    let (number, length) = calls::post(book, all_of(book), &mut records, &mut out);
+    let (number, length) =
+        calls::post(book, all_of(book), &mut records, &mut any_index(), &mut out);
     assert_eq!(number, 0);
     assert!(out[length..].iter().all(|&byte| byte == FILL));
     for (before, after) in list.iter().zip(&records) {
@@ -47,7 +48,8 @@ fn posted(book: &[u8], list: &[Record]) -> (Vec<u8>, Vec<u8>) {
 /// Posts a list that is refused as a whole; no record is marked.
 fn post_refused(book: &[u8], list: &[Record], room: usize) -> u8 {
     let mut records = list.to_vec();
-    let number = refused(room, |out| calls::post(book, all_of(book), &mut records, out));
+    let number =
+        refused(room, |out| calls::post(book, all_of(book), &mut records, &mut any_index(), out));
     assert_eq!(records, list);
     number
 }

@@ -7,9 +7,11 @@ import tool
 from tool import check
 
 # Answers each call with what the mode says; a call's room stands in bytes 16 and 17, its bytes in 14 and 15, those of its
-# hearing in 38 and 39, and those of its records, which have 11 each, in 40 and 41.
+# hearing in 38 and 39, those of its records, which have 11 each, in 40 and 41, and the words of its index in 42 and 43. The
+# index is that of the book which a call leaves, out of a file beside new.image or beside the engine.
 FAKE = r'''#!/usr/bin/env python3
 import os, sys
+INDEXES = ("indexnone", "indexkept", "indexturned", "indexbefore", "indexonce", "indexbit", "indexwithout", "indexrefused", "indexagain")
 mode = sys.argv[0].rsplit("-", 1)[1]
 read, write = sys.stdin.buffer.read, sys.stdout.buffer
 while True:
@@ -19,7 +21,7 @@ while True:
     data = read(int.from_bytes(head[14:16], "big"))
     hearing = read(int.from_bytes(head[38:40], "big"))
     records = read(int.from_bytes(head[40:42], "big"))
-    room = int.from_bytes(head[16:18], "big")
+    room, words = int.from_bytes(head[16:18], "big"), int.from_bytes(head[42:44], "big")
     number, counts, out = 0, [0, 0, 0], bytes([head[18]]) * room
     sent = records
     def marked(answer): return b"".join(records[at:at + 10] + bytes([answer]) for at in range(0, len(records), 11))
@@ -31,7 +33,7 @@ while True:
     if mode == "touched" and room: number, out = 9, b"x" + out[1:]
     if mode == "junk" and room: counts[0], out = room, os.urandom(room)
     if mode == "short" and room: counts[0], out = 3, b"SLB" + out[3:]
-    if mode in ("more", "badly", "single", "good", "unmarked", "field", "missing", "odd", "written") and room:
+    if mode in ("more", "badly", "single", "good", "unmarked", "field", "missing", "odd", "written") + INDEXES and room:
         image = open(os.path.join(os.path.dirname(sys.argv[0]), "new.image"), "rb").read()
         counts[0], out = len(image), image + out[len(image):]
     if mode not in ("unmarked", "number", "both"): records = marked({"odd": 99, "written": 9}.get(mode, 0))
@@ -58,12 +60,21 @@ while True:
                           "keepsbeside": (25, [1, 0, 0])}.get(mode, (25, [0, 0, 0]))
     if mode == "stranger" and head[0] in (3, 7, 8): number, counts, out, records = 25, [0, 0, 0], bytes([head[18]]) * room, sent
     if mode == "same" and room: counts[0], out = len(data), data + out[len(data):]
-    answer = bytes([number]) + b"".join(n.to_bytes(4, "big") for n in counts) + out + records
+    if mode == "indexagain" and head[0] == 8 and len(records) > 11: counts[0], out = len(data), data + out[len(data):]
+    index = bytes([head[18]]) * 8 * words
+    if words and number == 0:
+        def kept(name): return open(os.path.join(os.path.dirname(sys.argv[0]), name), "rb").read()
+        right = kept("old.index" if out.startswith(data) or counts[0] == 0 else "new.index")
+        turned = b"".join(right[at + 8:at + 16] + right[at:at + 8] for at in range(0, len(right), 16))
+        index = {"indexnone": bytes(len(right)), "indexkept": index, "indexturned": turned, "indexbefore": kept("old.index"), "indexonce": right[:len(right) // 2] + bytes(len(right) // 2),
+                 "indexbit": right[:-1] + bytes([right[-1] ^ 1]), "indexwithout": right[:-8], "indexagain": bytes(len(right)) if len(records) == 11 else right}.get(mode, right)
+    if words and mode == "indexrefused": number, counts, out, records, index = 26, [0, 0, 0], bytes([head[18]]) * room, sent, bytes(8 * words)
+    answer = bytes([number]) + b"".join(n.to_bytes(4, "big") for n in counts) + out + records + index
     if mode == "half" or mode == "linkshalf" and head[0] == 13:
         answer = answer[:7]
     write.write(answer)
     write.flush()
-    if mode in ("half", "missing") or mode == "linkshalf" and head[0] == 13:
+    if mode in ("half", "missing") or mode == "indexwithout" and words or mode == "linkshalf" and head[0] == 13:
         sys.exit(0)
 if mode == "more":
     write.write(b"more")
@@ -89,6 +100,12 @@ def program(engines, name, text):
     return path
 
 
+def put_new(engines, book):
+    """The book that the engines give, and its index."""
+    engines.put("new.image", book.image())
+    engines.put("new.index", book.index())
+
+
 def no_engines(room, engines):
     """What is missing, is no program, or ends before it has answered."""
     nowhere, ends = engines.at("nowhere"), program(engines, "ends", b"#!/bin/sh\nexit 0\n")
@@ -105,7 +122,8 @@ def no_engines(room, engines):
 def nonsense(room, engines):
     """What is no answer, or comes beside one; two of these engines give the right book first."""
     old = tool.work_out.Book.read(room.get("kiln.book"))
-    engines.put("new.image", old.with_ways(old.opened(8, 1, 2, 5)).image())
+    put_new(engines, old.with_ways(old.opened(8, 1, 2, 5)))
+    engines.put("old.index", old.index())
     fake = {mode: program(engines, "engine-" + mode, FAKE.encode()) for mode in list(WRONG) + ["spilt", "touched", "junk", "short", "same", "sleepy"]}
     for mode, said in WRONG.items():
         for words in COMMANDS[:1] + COMMANDS[2:3] + COMMANDS[12:]:
@@ -139,7 +157,7 @@ def nonsense(room, engines):
 def mains(room, engines):
     """A yes or no that the streams belie, that is none, or with a further count or a refusal beside it; a set refused without cause; a set
     that is not kept to."""
-    right, old = engines.get("new.image"), tool.work_out.Book.read(room.get("kiln.book"))
+    right, old = tool.work_out.Book.read(engines.get("new.image")), tool.work_out.Book.read(room.get("kiln.book"))
     wrong = "says what is no answer; nothing is changed"
     # The relays of the kilns are 1 to 6.
     for mode, nodes in [("keepsyes", "1-5"), ("keepsyes", "none"), ("keepsno", "1-6"), ("keepsodd", "1-6"), ("keepsodd", "1-5"), ("keepsmore", "1-6"), ("keepslast", "1-5"), ("keepsbeside", "1-6"), ("keepsset", "1-6")]:
@@ -153,14 +171,14 @@ def mains(room, engines):
             if more or words[0] in ("routes", "post"):
                 hold(room, program(engines, "engine-stranger", FAKE.encode()), [*words, *more], wrong)
     # Stream 8 from 1 to 3 by 2, opened whatever the set is.
-    engines.put("new.image", old.with_ways(old.opened(8, 1, 3, 5)).image())
+    put_new(engines, old.with_ways(old.opened(8, 1, 3, 5)))
     for words in [["open", "kiln.book", "8", "1", "3", "5"], ["post", "kiln.book", "-"]]:
         got = room.run(*words, "--mains", "1,3-7", data=b"open 8 1 3 5\n", env={"LINDURASK_ENGINE": os.fsdecode(program(engines, "engine-good", FAKE.encode()))})
         check((got.status, got.all) == (2, "lindurask: the engine opened another stream\n"), "%s with an engine that knows no set: %s" % (words, got.all))
     hold(room, program(engines, "engine-listfar", FAKE.encode()), ["routes", "kiln.book", "3", "0", "--mains", "0,1,3"], wrong)
     got = room.run("routes", "kiln.book", "3", "0", "--mains", "1,2", env={"LINDURASK_ENGINE": os.fsdecode(engines.at("engine-listfar"))})
     check(got.status == 0 and "\n   3 3 2 1 0\n" in got.out, "routes with the right list: %s" % got.all)
-    engines.put("new.image", right)
+    put_new(engines, right)
 
 
 def links(room, engines):
@@ -194,6 +212,7 @@ def postings(room, engines):
         posted("good", data, "opened another stream" if data == b"open 9 1 2 5\n" else wrong)
     posted("fickle", one + b"close 8\n", wrong)
     hearing(room, engines, posted)
+    indexes(room, engines, posted)
     engine = program(engines, "engine-good", FAKE.encode())
     got = room.run("post", "kiln.book", "a.list", "--dry-run", env={"LINDURASK_ENGINE": os.fsdecode(engine)})
     book = tool.work_out.Book.read(room.get("kiln.book"))
@@ -202,10 +221,23 @@ def postings(room, engines):
 
 def hearing(room, engines, posted):
     """The stream that was asked for, in a book whose nodes hear others than before."""
-    right = engines.get("new.image")
-    engines.put("new.image", tool.work_out.Book.read(right).but(heard=[(0, 5)]).image())
+    right = tool.work_out.Book.read(engines.get("new.image"))
+    put_new(engines, right.but(heard=[(0, 5)]))
     posted("good", b"open 8 1 2 5\n", "says what is no answer; nothing is changed")
-    engines.put("new.image", right)
+    put_new(engines, right)
+
+
+def indexes(room, engines, posted):
+    """The right book with an index that is empty, untouched, with senders and receivers exchanged, of the book before, of half the
+    tiles, with a wrong bit in its last word or without that word; one that is written where the list is refused; and one that is
+    wrong when it is asked again."""
+    wrong, one = "says what is no answer; nothing is changed", b"open 8 1 2 5\n"
+    for mode in ["indexnone", "indexkept", "indexturned", "indexbefore", "indexonce", "indexbit", "indexrefused"]:
+        posted(mode, one, wrong)
+        for words in [["open", "kiln.book", "8", "1", "2", "5"], ["quote", "kiln.book", "1", "2"]]:
+            hold(room, engines.at("engine-" + mode), [*words, "--mains", "1-6"], wrong)
+    posted("indexwithout", one, "ended before it answered; nothing is changed")
+    posted("indexagain", one + b"close 8\n", wrong)
 
 
 def called_lawful(room, engines):

@@ -9,30 +9,10 @@ use lib.Arith.{lt-one}
 use lib.Bits.{and-le-l, and-le-r}
 use lib.Pow.{pow-pos}
 use Rattle.rules.specs.Words.{bit, Has, NoBitFrom}
-use Rattle.rules.proofs.Sets.{bit-zero, bit-suc, zero-none}
+use Rattle.rules.proofs.Sets.{bit-suc, zero-none, same-members}
+pub use Rattle.rules.proofs.Sets.{set-unique}
 use Rattle.bitset.specs.Sets.{SetOf, Lowest}
 use Rattle.bitset.proofs.Bits.{bit-lt, within, lowest-law, rest-law, difference-law}
-
-alike : (x y : ℕ) → x < 2 → y < 2 → (x ≡ 1 → y ≡ 1) → (y ≡ 1 → x ≡ 1) → x ≡ y
-alike zero zero h l f g = refl
-alike zero (suc y) h l f g = absurd (omega (arith, g (omega arith)))
-alike (suc x) zero h l f g = absurd (omega (arith, f (omega arith)))
-alike (suc x) (suc y) h l f g = omega arith
-
--- two sets with the same members below the width are the same number
-pub same-members : (w a b : ℕ) → NoBitFrom w a → NoBitFrom w b → ((k : ℕ) → k < w → Has a k → Has b k) → ((k : ℕ) → k < w → Has b k → Has a k) → a ≡ b
-same-members zero a b p q f g = lt-one p ∙ sym (lt-one q)
-same-members (suc w) a b p q f g =
-    omega (
-      arith,
-      low,
-      same-members w (a / 2) (b / 2) (omega (arith, pow-suc 2 w)) (omega (arith, pow-suc 2 w))
-          (λ k l h. sym (bit-suc b k) ∙ f (suc k) (omega arith) (bit-suc a k ∙ h))
-          (λ k l h. sym (bit-suc a k) ∙ g (suc k) (omega arith) (bit-suc b k ∙ h)),
-    )
-  where
-    low : a % 2 ≡ b % 2
-    low = sym (bit-zero a) ∙ alike (bit a 0) (bit b 0) (bit-lt a 0) (bit-lt b 0) (f 0 (omega arith)) (g 0 (omega arith)) ∙ bit-zero b
 
 -- a set is 0 exactly if it has no member
 pub none-zero : (n : ℕ) → NoBitFrom 64 n → ((k : ℕ) → k < 64 → Has n k → ⊥) → n ≡ 0
@@ -54,10 +34,6 @@ all-within v zero n h f = subst (λ (x : ℕ). x < 1) (sym zero-is) (omega arith
 all-within zero (suc w) n h f = omega (arith, pow-suc 2 w, all-within zero w n h (λ k i. absurd (omega (arith, within zero n k h i))))
 all-within (suc v) (suc w) n h f =
     omega (arith, pow-suc 2 w, all-within v w (n / 2) (omega (arith, pow-suc 2 v)) (λ k i. omega (arith, f (suc k) (bit-suc n k ∙ i))))
-
--- two sets of the same numbers are one
-pub set-unique : {P Q : ℕ → Type 0} {a b : ℕ} → ((k : ℕ) → P k → Q k) → ((k : ℕ) → Q k → P k) → SetOf P a → SetOf Q b → a ≡ b
-set-unique {a = a} {b} f g s t = same-members 64 a b (s .fits) (t .fits) (λ k l h. t .all k (f k (s .only k h))) (λ k l h. s .all k (g k (t .only k h)))
 
 -- there is one lowest member
 pub lowest-unique : {n a b : ℕ} → Lowest n a → Lowest n b → a ≡ b

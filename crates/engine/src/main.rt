@@ -1,8 +1,8 @@
 // Answers framed calls: reads them on standard input, and writes the answers on standard output.
 ghost use mathlib.Core.Path.{_≡_};
-ghost use Prim.Native.Nat.{_+_, _≤_};
+ghost use Prim.Native.Nat.{_≤_};
 ghost use lib.ListN.{length};
-ghost use Rattle.frames.specs.Lengths.{headLength, replyLength, mostRoom, mostRecords};
+ghost use Rattle.frames.specs.Lengths.{headLength, mostWords, mostPart};
 ghost use Rattle.streams.specs.Streams.{Within};
 use libc::STDOUT_FILENO;
 use streams::Streams;
@@ -12,7 +12,7 @@ const FRAMES: u64 = 4_000_000;
 
 // Answers a call that is no posting, behind the answers that are held; says how many bytes are held then.
 fn answer_call(frame: &[u8], answers: &mut [u8], held: usize) -> usize
-    requires { ⌜ (headLength ≤ length (now frame)) × (held ≤ length (now answers)) × (replyLength + mostRoom + mostRecords ≤ length (now answers)) ⌝ }
+    requires { ⌜ (headLength ≤ length (now frame)) × (held ≤ length (now answers)) × (mostPart ≤ length (now answers)) ⌝ }
     ensures { λ r. ⌜ r ≤ length (now (answers .entry)) ⌝ }
 {
     let room = frames::room(frame);
@@ -25,9 +25,21 @@ fn answer_call(frame: &[u8], answers: &mut [u8], held: usize) -> usize
     end
 }
 
-// Answers a posting as other calls, with its records at the end.
-fn answer_posting(frame: &[u8], answers: &mut [u8], held: usize) -> usize
-    requires { ⌜ (headLength ≤ length (now frame)) × (held ≤ length (now answers)) × (replyLength + mostRoom + mostRecords ≤ length (now answers)) ⌝ }
+// Puts so many words of an index behind the answers that are held; says how many bytes are held then.
+fn hold_index(index: &[u64], words: usize, answers: &mut [u8], held: usize) -> usize
+    requires { ⌜ (words ≤ mostWords) × (held ≤ length (now answers)) × (mostPart ≤ length (now answers)) ⌝ }
+    ensures { λ r. ⌜ r ≤ length (now (answers .entry)) ⌝ }
+{
+    let size = frames::WORD * words;
+    let start = streams::make_room(answers, held, size);
+    let end = start + size;
+    frames::put_index(&mut answers[start..end], index, words);
+    end
+}
+
+// Answers a posting with an index as other calls, with its records at the end.
+fn answer_list(frame: &[u8], index: &mut [u64], answers: &mut [u8], held: usize) -> usize
+    requires { ⌜ (headLength ≤ length (now frame)) × (held ≤ length (now answers)) × (mostPart ≤ length (now answers)) ⌝ }
     ensures { λ r. ⌜ r ≤ length (now (answers .entry)) ⌝ }
 {
     let room = frames::room(frame);
@@ -41,6 +53,7 @@ fn answer_posting(frame: &[u8], answers: &mut [u8], held: usize) -> usize
         frames::book(frame),
         frames::mains(frame),
         list,
+        index,
         room,
         &mut answers[at..last],
     );
@@ -48,9 +61,29 @@ fn answer_posting(frame: &[u8], answers: &mut [u8], held: usize) -> usize
     last
 }
 
+// Answers a posting with an index, which goes behind its records.
+fn answer_indexed(frame: &[u8], index: &mut [u64], answers: &mut [u8], held: usize) -> usize
+    requires { ⌜ (headLength ≤ length (now frame)) × (held ≤ length (now answers)) × (mostPart ≤ length (now answers)) ⌝ }
+    ensures { λ r. ⌜ r ≤ length (now (answers .entry)) ⌝ }
+{
+    let words = frames::words(frame);
+    let last = answer_list(frame, index, answers, held);
+    hold_index(index, words, answers, last)
+}
+
+// Answers a posting: an index of as many words as it asks for is lent.
+fn answer_posting(frame: &[u8], answers: &mut [u8], held: usize) -> usize
+    requires { ⌜ (headLength ≤ length (now frame)) × (held ≤ length (now answers)) × (mostPart ≤ length (now answers)) ⌝ }
+    ensures { λ r. ⌜ r ≤ length (now (answers .entry)) ⌝ }
+{
+    let words = frames::words(frame);
+    let mut index = frames::index(frame);
+    answer_indexed(frame, &mut index[..words], answers, held)
+}
+
 // Answers the call of the frame.
 fn answer(frame: &[u8], answers: &mut [u8], held: usize) -> usize
-    requires { ⌜ (headLength ≤ length (now frame)) × (held ≤ length (now answers)) × (replyLength + mostRoom + mostRecords ≤ length (now answers)) ⌝ }
+    requires { ⌜ (headLength ≤ length (now frame)) × (held ≤ length (now answers)) × (mostPart ≤ length (now answers)) ⌝ }
     ensures { λ r. ⌜ r ≤ length (now (answers .entry)) ⌝ }
 {
     if frame[0] == frames::POST {
@@ -61,7 +94,7 @@ fn answer(frame: &[u8], answers: &mut [u8], held: usize) -> usize
 
 // Reads and answers one call.
 fn turn(input: &mut [u8], answers: &mut [u8], s: Streams) -> Streams
-    requires { ⌜ Within (now input) (now answers) s × (replyLength + mostRoom + mostRecords ≤ length (now answers)) ⌝ }
+    requires { ⌜ Within (now input) (now answers) s × (mostPart ≤ length (now answers)) ⌝ }
     ensures { λ r. ⌜ Within (now (input .entry)) (now (answers .entry)) r ⌝ }
 {
     let head = streams::supply(input, answers, s, frames::HEAD);
@@ -92,7 +125,7 @@ fn turn(input: &mut [u8], answers: &mut [u8], s: Streams) -> Streams
 
 // Answers all calls; says how many bytes of answers are still to be written.
 fn serve(input: &mut [u8], answers: &mut [u8]) -> usize
-    requires { ⌜ replyLength + mostRoom + mostRecords ≤ length (now answers) ⌝ }
+    requires { ⌜ mostPart ≤ length (now answers) ⌝ }
     ensures { λ r. ⌜ r ≤ length (now (answers .entry)) ⌝ }
 {
     let mut streams = streams::first();

@@ -1,5 +1,5 @@
 -- How long the parts of framed calls and of their answers are.
-use Prim.Native.Nat.{ℕ}
+use Prim.Native.Nat.{ℕ, _*_}
 
 -- bytes of a call before its book or topology
 abbrev pub headLength : ℕ
@@ -19,3 +19,13 @@ recordLength = 11
 
 abbrev pub mostRecords : ℕ
 mostRecords = 1100
+
+-- words of the longest index, bytes of a word, and those of the index, which is the longest part of an answer
+abbrev pub mostWords : ℕ
+mostWords = 6500
+
+abbrev pub wordLength : ℕ
+wordLength = 8
+
+abbrev pub mostPart : ℕ
+mostPart = wordLength * mostWords

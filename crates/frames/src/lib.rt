@@ -1,7 +1,7 @@
 // A framed call and its answer: where their parts stand.
-ghost use Prim.Native.Nat.{_+_, _≤_};
+ghost use Prim.Native.Nat.{_+_, _*_, _≤_};
 ghost use lib.ListN.{length};
-ghost use Rattle.frames.specs.Lengths.{headLength, replyLength, mostRoom, mostRecords};
+ghost use Rattle.frames.specs.Lengths.{headLength, replyLength, mostRoom, mostRecords, mostWords, wordLength};
 use answers::Answer;
 
 // Bytes of a call before its book or topology.
@@ -31,6 +31,12 @@ pub const RECORD: usize = 11;
 // and of the longest list, a hundred records.
 const MOST_RECORDS: usize = 1100;
 
+// Words of the longest index: some more than 100 tiles of 32 slots take,
+const MOST_WORDS: usize = 6500;
+
+// and bytes of a word.
+pub const WORD: usize = 8;
+
 // What a call says back: its number, and a length and two zeros, a list's length and its mark, data, used and free slots, links and two zeros, or 1 where a book keeps to a set and two zeros.
 pub struct Reply {
     pub number: u8,
@@ -55,6 +61,31 @@ pub fn room(frame: &[u8]) -> usize
         return 0;
     }
     room
+}
+
+// How many words the index of a posting has; one that is too long is left out.
+pub fn words(frame: &[u8]) -> usize
+    requires { ⌜ headLength ≤ length (now frame) ⌝ }
+    ensures { λ r. ⌜ r ≤ mostWords ⌝ }
+{
+    let words = long(image::word_at(frame, 42));
+    if MOST_WORDS < words {
+        return 0;
+    }
+    words
+}
+
+fn broad(x: u8) -> u64
+    ensures { λ r. ⌜ r ≤ 255 ⌝ }
+{
+    x as u64
+}
+
+// An index before the call: each byte of it is the fill byte.
+pub fn index(frame: &[u8]) -> [u64; MOST_WORDS]
+    requires { ⌜ headLength ≤ length (now frame) ⌝ }
+{
+    [broad(frame[18]) * 72_340_172_838_076_673; MOST_WORDS]
 }
 
 // Whether a number is that of a call; any other ends the stream.
@@ -183,4 +214,26 @@ pub fn put_reply(out: &mut [u8], reply: Reply)
     put_count(out, 1, reply.first);
     put_count(out, 5, reply.second);
     put_count(out, 9, reply.third);
+}
+
+// Puts a word of an index at its place, if the index has so many.
+fn put_at(out: &mut [u8], index: &[u64], i: usize)
+    requires { ⌜ wordLength * i + wordLength ≤ length (now out) ⌝ }
+{
+    if i < index.len() {
+        let word = index[i];
+        put_count(out, WORD * i, (word / 4_294_967_296) as usize);
+        put_count(out, WORD * i + 4, (word % 4_294_967_296) as usize);
+    }
+}
+
+// Puts so many words of an index.
+pub fn put_index(out: &mut [u8], index: &[u64], words: usize)
+    requires { ⌜ wordLength * words ≤ length (now out) ⌝ }
+{
+    let mut i = 0;
+    while i < words {
+        put_at(out, index, i);
+        i += 1;
+    }
 }

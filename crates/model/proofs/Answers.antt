@@ -150,19 +150,43 @@ module _ (q : Asked) where
     new-keys (beside r b) (suc way) ps rs (n .1),
   )
 
+  -- and take the routes
+  new-routes : (b : Book) (way : ℕ) (ps : List (List ℕ)) (rs : List Row) → NewRows b q way ps rs → (r : Row) → r ∈ rs → r .route ∈ ps
+  new-routes b way [] [] n r m = absurd m
+  new-routes b way [] (x ∷ rs) n r m = absurd n
+  new-routes b way (p ∷ ps) [] n r m = absurd n
+  new-routes b way (p ∷ ps) (x ∷ rs) n r (inl e) = inl (ap (λ (v : Row). v .route) e ∙ n .0 .on)
+  new-routes b way (p ∷ ps) (x ∷ rs) n r (inr m) = inr (new-routes (beside x b) (suc way) ps rs (n .1) r m)
+
 -- an open is given at most two routes
 planned-most : {T : Topology} {middle : ℕ} {q : Asked} {ps : List (List ℕ)} → Planned T middle q ps → length ps ≤ 2
 planned-most (one n g) = omega arith
 planned-most (two y g h) = omega arith
+
+-- of nodes that the topology has
+planned-known : {T : Topology} {middle : ℕ} {q : Asked} {ps : List (List ℕ)} → Planned T middle q ps → (p : List ℕ) → p ∈ ps → (a : ℕ) → a ∈ p → a < nodes T
+planned-known (one n g) p (inl e) a m = g .is .between .path .known a (subst (λ (z : List ℕ). a ∈ z) e m)
+planned-known (one n g) p (inr k) a m = absurd k
+planned-known (two y g h) p (inl e) a m = g .is .between .path .known a (subst (λ (z : List ℕ). a ∈ z) e m)
+planned-known (two y g h) p (inr (inl e)) a m = h .is .0 .path .known a (subst (λ (z : List ℕ). a ∈ z) e m)
+planned-known (two y g h) p (inr (inr k)) a m = absurd k
 
 -- what requests need of a book, and leave
 pub record Workable (b : Book) : Type 0 where
   pub links-sound : SoundTopology (b .site .links)
   pub rising : RisingByKey (b .rows)
   pub ways : (r : Row) → r ∈ b .rows → r .way ≤ 2
+  pub few : nodes (b .site .links) ≤ 64
+  pub known : (r : Row) → r ∈ b .rows → (a : ℕ) → a ∈ r .route → a < nodes (b .site .links)
 
 pub workable : {b : Book} → LawfulBook b → Workable b
-workable w = record { links-sound = w .site .topologies .links-sound; rising = w .rising; ways = λ r m. w .rows r m .way-most }
+workable w = record {
+  links-sound = w .site .topologies .links-sound;
+  rising = w .rising;
+  ways = λ r m. w .rows r m .way-most;
+  few = w .site .nodes .1;
+  known = λ r m. w .rows r m .route .known;
+}
 
 -- A REQUEST ON A BOOK
 module _ (middle : ℕ) (b : Book) (w : Workable b) where
@@ -293,14 +317,25 @@ module _ (middle : ℕ) (b : Book) (w : Workable b) where
   made-workable (Close id) c m = record {
     links-sound = subst (λ (site : Site). SoundTopology (site .links)) (m .plus .site) (w .links-sound);
     rising = m .rising;
-    ways = λ r k. w .ways r (reordered-back r (m .plus .rows) (in-right r (m .gone) (c .rows) k));
+    ways = λ r k. w .ways r (there r k);
+    few = subst (λ (site : Site). nodes (site .links) ≤ 64) (m .plus .site) (w .few);
+    known = λ r k. subst (λ (site : Site). (a : ℕ) → a ∈ r .route → a < nodes (site .links)) (m .plus .site) (w .known r (there r k));
   }
+    where
+      there : (r : Row) → r ∈ c .rows → r ∈ b .rows
+      there r k = reordered-back r (m .plus .rows) (in-right r (m .gone) (c .rows) k)
   made-workable (Open q) c m = record {
     links-sound = subst (λ (site : Site). SoundTopology (site .links)) (sym (m .plus .site)) (w .links-sound);
     rising = m .plus .rising;
-    ways = λ r k. ⊎-elim (λ (n : r ∈ m .new). new-way r n) (w .ways r) (in-append r (m .new) (b .rows) (reordered-in r (m .plus .rows) k));
+    ways = λ r k. ⊎-elim (λ (n : r ∈ m .new). new-way r n) (w .ways r) (from r k);
+    few = subst (λ (site : Site). nodes (site .links) ≤ 64) (sym (m .plus .site)) (w .few);
+    known = λ r k. subst (λ (site : Site). (a : ℕ) → a ∈ r .route → a < nodes (site .links)) (sym (m .plus .site))
+        (⊎-elim (λ (n : r ∈ m .new). planned-known (m .planned) (r .route) (new-routes q b 1 (m .routes) (m .new) (m .placed) r n)) (w .known r) (from r k));
   }
     where
+      from : (r : Row) → r ∈ c .rows → (r ∈ m .new) ⊎ (r ∈ b .rows)
+      from r k = in-append r (m .new) (b .rows) (reordered-in r (m .plus .rows) k)
+
       new-way : (r : Row) → r ∈ m .new → r .way ≤ 2
       new-way r n = omega (arith, new-ways q b 1 (m .routes) (m .new) (m .placed) r n .2, planned-most (m .planned))
 
@@ -314,3 +349,8 @@ in-order-computed middle b w [] = refl
 in-order-computed middle b w (q ∷ qs) =
     let h = work-computed middle b w q in
     (bookAfter middle b q, h, in-order-computed middle (bookAfter middle b q) (work-workable middle b w q (requestNumber middle b q) (bookAfter middle b q) h) qs)
+
+pub last-workable : (middle : ℕ) (b : Book) → Workable b → (qs : List Request) → Workable (lastBook middle b qs)
+last-workable middle b w [] = w
+last-workable middle b w (q ∷ qs) =
+    last-workable middle (bookAfter middle b q) (work-workable middle b w q (requestNumber middle b q) (bookAfter middle b q) (work-computed middle b w q)) qs

@@ -6,18 +6,19 @@ use mathlib.Core.List.{List, [], _∷_}
 use Prim.Native.Nat.{ℕ, zero, suc, _*_, _^_}
 use native.Mathlib.Omega.{arith}
 use lib.Dec.{eqb}
-use lib.ListN.{length, getD}
+use lib.ListN.{length, getD, length-replicate}
 use Rattle.rules.specs.Words.{_∈_, Tests}
 use Rattle.rules.specs.Says.{Refusal, Says}
-use Rattle.rules.specs.Tiles.{Plan, PlanInRange}
+use Rattle.rules.specs.Tiles.{Plan, PlanInRange, shortTiles}
 use Rattle.rules.specs.Topology.{nodes, NodesInRange, middles, allNodes}
 use Rattle.rules.specs.Book.{Row, Book}
 use Rattle.rules.specs.Image.{newest, longestImage, encode, topologyAt, versionOf, nodesOf, linksOf, imageRefusals, Stored}
 use Rattle.rules.specs.Table.{tableLength, used, BalanceOf}
+use Rattle.rules.specs.Index.{indexLength, IndexOf, Indexed}
 use Rattle.rules.specs.Calls.{Wrote, Unchanged, Reply, SaysOf, CallOf, ReplyOf, TopologiesGiven, newBook, newRefusals, checkRefusals, rewriteRefusals}
 use Rattle.rules.specs.Calls.{Request, Work, InOrder, mostRequests, Beyond, postRefusals, Posted, expandRefusals, balanceRefusals, keepsRefusals, BookKeepsTo}
 use Rattle.rules.specs.Calls.{New, Check, Rewrite, Post, Serve, Expand, Balance, LinksOf, Links, Keeps}
-use Rattle.rules.proofs.Tests.{never, alike, tests-and, tests-not, tests-eq, tests-le, tests-lt, allOf, tests-every}
+use Rattle.rules.proofs.Tests.{never, alike, tests-and, tests-or, tests-not, tests-eq, tests-le, tests-lt, allOf, tests-every}
 use Rattle.rules.proofs.Counts.{counted}
 use Rattle.rules.proofs.Says.{None, says-none, says-unique}
 use Rattle.rules.proofs.Encoding.{stored-says}
@@ -26,14 +27,16 @@ use Rattle.rules.proofs.Reading.{bookIn, LawfulImage, lawful-stored}
 use Rattle.model.specs.Test.{has, joined}
 use Rattle.model.specs.Answer.{Tested, firstNumber, whenDone, answersOf, lastBook}
 use Rattle.model.specs.Table.{tableOf, dataCount, freeCount}
+use Rattle.model.specs.Index.{indexOf}
 use Rattle.model.specs.Reading.{areSound, imageNumber}
 use Rattle.model.specs.Calls.{Output, put, kept, writes, numberOf, replies, newTests, new, rewriteTests, rewrite, expandTests, expand}
-use Rattle.model.specs.Calls.{isBeyond, postTests, postNumber, imageAfter, someDone, postOutput, post, postOne, serve}
+use Rattle.model.specs.Calls.{isBeyond, postTests, postNumber, imageAfter, someDone, postOutput, indexAfter, post, ownIndex, postOne, serve}
 use Rattle.model.specs.Calls.{balanceTests, balanceNumber, balance, linkCount, links, keepsTests, bookKeeps, keepsNumber, keeps}
 use Rattle.model.proofs.Firsts.{Agree, first-says}
 use Rattle.model.proofs.Tests.{tests-in, tests-has, tests-joined}
-use Rattle.model.proofs.Answers.{workable, in-order-computed}
+use Rattle.model.proofs.Answers.{workable, in-order-computed, last-workable}
 use Rattle.model.proofs.Tables.{table-computed, balance-computed}
+use Rattle.model.proofs.Index.{index-computed}
 use Rattle.model.proofs.Reading.{stable, tests-plan, tests-nodes, tests-topologies, image-says, stored-in}
 
 -- ONE SHAPE
@@ -147,13 +150,26 @@ module _ (image : List ℕ) (bytes : Bytes image) where
       encode (λ v b w e. refl) out
 
   module _ (out : List ℕ) where
-    pub post-computed : (mains : ℕ) (qs : List Request) (before : List ℕ) → let r = post image mains qs out before in
-        Post image mains qs out before (r .whole .number) (r .whole .len) (r .whole .out) (r .answers)
-    post-computed mains qs before =
-        call-of image bytes (postRefusals mains (length qs) (length out)) (postTests mains (length qs) (length out))
-        (λ v b w. (refl, tests-beyond b mains, λ n25. (refl, tests-lt mostRequests (length qs), λ n26. (refl, tests-lt (length out) (longestImage newest), λ n12. tt))))
-        (refused (postNumber image mains qs out))
-        (λ e w. done (postNumber image mains qs out) e (in-order-computed mains (bookIn image) (workable (w .lawful)) qs))
+    pub post-computed : (mains : ℕ) (qs : List Request) (index before : List ℕ) → let r = post image mains qs index out before in
+        Post image mains qs index out before (r .whole .number) (r .whole .len) (r .index) (r .whole .out) (r .answers)
+    post-computed mains qs index before =
+        call-of image bytes (postRefusals mains (length qs) (length out) (length index)) (postTests mains (length qs) (length out) (length index))
+        (λ v b w. (
+          refl,
+          tests-beyond b mains,
+          λ n25. (
+            refl,
+            tests-lt mostRequests (length qs),
+            λ n26. (
+              refl,
+              tests-or (tests-lt (length out) (longestImage newest)) (tests-lt (length index) (indexLength (b .site .plan))),
+              λ n12. tt,
+            ),
+          ),
+        ))
+        (refused (postNumber image mains qs index out))
+        (λ e w. done (postNumber image mains qs index out) e (in-order-computed mains (bookIn image) (workable (w .lawful)) qs)
+        (index-computed last (last-workable mains (bookIn image) (workable (w .lawful)) qs)))
       where
         b : Book
         b = bookIn image
@@ -164,27 +180,38 @@ module _ (image : List ℕ) (bytes : Bytes image) where
         output : ℕ → Output
         output n = whenDone n (postOutput mains b qs out) (kept out)
 
-        refused : (n : ℕ) → (n ≡ 0 → ⊥) → Unchanged out (output n .len) (output n .out) × (whenDone n (answersOf mains b qs) before ≡ before)
+        refused : (n : ℕ) → (n ≡ 0 → ⊥)
+            → Unchanged out (output n .len) (output n .out) × (whenDone n (answersOf mains b qs) before ≡ before) × (whenDone n (indexAfter mains b qs index) index ≡ index)
         refused zero f = absurd (f refl)
-        refused (suc n) f = (record { length-is = refl; buffer = refl }, refl)
+        refused (suc n) f = (record { length-is = refl; buffer = refl }, refl, refl)
 
         posted : (t : Bool) (answers : List ℕ) → Tests t (0 ∈ answers)
             → Posted answers last out (cond t (put (imageAfter mains b qs) out) (kept out) .len) (cond t (put (imageAfter mains b qs) out) (kept out) .out)
         posted true answers h = record { some = λ m. record { length-is = refl; buffer = refl }; none = λ f. absurd (f (h .yes refl)) }
         posted false answers h = record { some = λ m. never (h .back m); none = λ f. record { length-is = refl; buffer = refl } }
 
-        done : (n : ℕ) → n ≡ 0 → InOrder (Work mains) b qs (answersOf mains b qs) last
-            → (c : Book) × InOrder (Work mains) b qs (whenDone n (answersOf mains b qs) before) c × Posted (whenDone n (answersOf mains b qs) before) c out (output n .len) (output n .out)
-        done zero e h = (last, h, posted (someDone (answersOf mains b qs)) (answersOf mains b qs) (tests-in 0 (answersOf mains b qs)))
-        done (suc n) e h = absurd (omega arith)
+        done : (n : ℕ) → n ≡ 0 → InOrder (Work mains) b qs (answersOf mains b qs) last → IndexOf last (indexOf last)
+            → (c : Book) × InOrder (Work mains) b qs (whenDone n (answersOf mains b qs) before) c
+            × Posted (whenDone n (answersOf mains b qs) before) c out (output n .len) (output n .out) × Indexed c index (whenDone n (indexAfter mains b qs index) index)
+        done zero e h i = (
+          last,
+          h,
+          posted (someDone (answersOf mains b qs)) (answersOf mains b qs) (tests-in 0 (answersOf mains b qs)),
+          record { words = indexOf last; index = i; buffer = refl },
+        )
+        done (suc n) e h i = absurd (omega arith)
 
     -- a list of one
     pub serve-computed : (q : Request) → Serve image q out (serve image q out .number) (serve image q out .len) (serve image q out .out)
     serve-computed q = record {
       whole = postOne image q out .whole .number;
       answer = getD (postOne image q out .answers) 0 0;
-      posted = subst (Post image (allNodes (nodesOf image)) (q ∷ []) out (0 ∷ []) (postOne image q out .whole .number) (postOne image q out .whole .len) (postOne image q out .whole .out))
-          (alone (postNumber image (allNodes (nodesOf image)) (q ∷ []) out)) (post-computed (allNodes (nodesOf image)) (q ∷ []) (0 ∷ []));
+      index = ownIndex;
+      index′ = postOne image q out .index;
+      index-holds = length-replicate {A = ℕ} (2 * (shortTiles * 32)) 0;
+      posted = subst (Post image (allNodes (nodesOf image)) (q ∷ []) ownIndex out (0 ∷ []) (postOne image q out .whole .number) (postOne image q out .whole .len)
+          (postOne image q out .index) (postOne image q out .whole .out))
+          (alone (postNumber image (allNodes (nodesOf image)) (q ∷ []) ownIndex out)) (post-computed (allNodes (nodesOf image)) (q ∷ []) ownIndex (0 ∷ []));
       refused = refused (postOne image q out .whole .number) (getD (postOne image q out .answers) 0 0);
       done = done (postOne image q out .whole .number) (getD (postOne image q out .answers) 0 0);
     }

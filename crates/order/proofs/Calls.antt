@@ -1,6 +1,6 @@
 -- A list posted on an image is its requests worked through on the book, and the last image holds the last book.
 use mathlib.Core.Path.{_≡_, refl, sym, ap, _∙_, subst}
-use mathlib.Core.Logic.{inl, inr, ⊎-elim}
+use mathlib.Core.Logic.{_⊎_, inl, inr, ⊎-elim}
 use mathlib.Core.List.{List, [], _∷_, _++_}
 use Prim.Native.Nat.{ℕ, zero, suc, _^_, _<_, _≤_}
 use native.Mathlib.Omega.{arith}
@@ -10,13 +10,15 @@ use Rattle.rules.specs.Words.{NoBitFrom, _∈_}
 use Rattle.rules.specs.Says.{Refusal, _when_, Says}
 use Rattle.rules.specs.Topology.{nodes, allNodes}
 use Rattle.rules.specs.Book.{Book}
-use Rattle.rules.specs.Image.{newest, longestImage, FullSize, encode, nodesOf, Stored}
+use Rattle.rules.specs.Image.{newest, longestImage, FullSize, encode, planOf, nodesOf, Stored}
+use Rattle.rules.specs.Index.{indexLength, Indexed}
 use Rattle.rules.specs.Calls.{OfBook, SaysOf, Wrote, Request, mostRequests, Beyond, Work, InOrder, postRefusals, Posted, Post, Serve}
-use Rattle.rules.specs.Order.{IdInRange, current, Posting}
+use Rattle.rules.specs.Order.{IdInRange, current, Posting, Ample}
 use Rattle.rules.proofs.Tests.{tests-lt}
 use Rattle.rules.proofs.Lists.{in-append, in-left, in-right}
 use Rattle.rules.proofs.Lawful.{same-site, work-site}
 use Rattle.rules.proofs.Encoding.{stored-unique}
+use Rattle.rules.proofs.Index.{stored-index}
 use Rattle.rules.proofs.Mains.{stored-nodes, all-below, post-alike}
 use Rattle.rules.proofs.Bytes.{stored-bytes}
 use Rattle.rules.proofs.Choice.{work-unique, in-order-unique}
@@ -62,16 +64,24 @@ none-done middle b [] (n ∷ ns) c w f = absurd w
 none-done middle b (q ∷ qs) [] c w f = absurd w
 none-done middle b (q ∷ qs) (n ∷ ns) c (d, step, rest) f = none-done middle d qs ns c rest (λ z. f (inr z)) ∙ step .refused (λ e. f (inl (sym e)))
 
+-- buffers that are ample are not too short
+pub enough : {image : List ℕ} {v : ℕ} {b : Book} → Stored image v b → (index out : List ℕ) → Ample image index out
+    → (length out < longestImage newest) ⊎ (length index < indexLength (b .site .plan)) → ⊥
+enough s index out ample (inl l) = omega (arith, l, ample .full)
+enough s index out ample (inr l) = omega (arith, l, ample .tiles, stored-index s)
+
 module _ {image : List ℕ} {v : ℕ} {b : Book} {mains : ℕ} (s : Stored image v b) (low : NoBitFrom (nodes (b .site .links)) mains) (qs : List Request) where
-  -- with a set below N and a full-size buffer a list of at most 64 is not refused as a whole
-  whole-none : length qs ≤ mostRequests → (out : List ℕ) → FullSize out → (n : ℕ) → SaysOf image (postRefusals mains (length qs) (length out)) n → n ≡ 0
-  whole-none few out full n h =
-      says-of-unique image (postRefusals mains (length qs) (length out)) n 0 h (inr (v, b, s, inr (λ f. f low, inr (λ k. omega arith, inr (λ k. omega arith, refl)))))
+  -- with a set below N, a full-size buffer and an index of 100 tiles a list of at most 64 is not refused as a whole
+  whole-none : length qs ≤ mostRequests → (index out : List ℕ) → Ample image index out → (n : ℕ) → SaysOf image (postRefusals mains (length qs) (length out) (length index)) n → n ≡ 0
+  whole-none few index out ample n h =
+      says-of-unique image (postRefusals mains (length qs) (length out) (length index)) n 0 h
+      (inr (v, b, s, inr (λ f. f low, inr (λ k. omega arith, inr (enough s index out ample, refl)))))
 
   module _ (small : (q : Request) → q ∈ qs → IdInRange q) where
-    pub ran : (out before : List ℕ) (len : ℕ) (out′ answers : List ℕ) → Post image mains qs out before 0 len out′ answers → Ran image mains b qs answers (current image len out′)
-    ran out before len out′ answers p =
-        let (c, w, h) = of-stored {P = λ v b. (c : Book) × InOrder (Work mains) b qs answers c × Posted answers c out len out′} s (p .done refl) in
+    pub ran : (index out before : List ℕ) (len : ℕ) (index′ out′ answers : List ℕ) → Post image mains qs index out before 0 len index′ out′ answers
+        → Ran image mains b qs answers (current image len out′)
+    ran index out before len index′ out′ answers p =
+        let (c, w, h, i) = of-stored {P = λ v b. (c : Book) × InOrder (Work mains) b qs answers c × Posted answers c out len out′ × Indexed c index index′} s (p .done refl) in
         go c w h (zero-in answers)
       where
         go : (c : Book) → InOrder (Work mains) b qs answers c → Posted answers c out len out′ → Dec (0 ∈ answers) → Ran image mains b qs answers (current image len out′)
@@ -97,10 +107,11 @@ module _ {image : List ℕ} {v : ℕ} {b : Book} {mains : ℕ} (s : Stored image
               none = λ k. e;
             }
 
-    pub posting-ran : length qs ≤ mostRequests → (n : ℕ) (answers last : List ℕ) → Posting FullSize image mains qs n answers last → (n ≡ 0) × Ran image mains b qs answers last
+    pub posting-ran : length qs ≤ mostRequests → (n : ℕ) (answers last : List ℕ) → Posting Ample image mains qs n answers last → (n ≡ 0) × Ran image mains b qs answers last
     posting-ran few n answers last p =
-        let z = whole-none few (p .out) (p .size) n (p .post .says) in
-        let r = ran (p .out) (p .before) (p .len) (p .out′) answers (subst (λ (k : ℕ). Post image mains qs (p .out) (p .before) k (p .len) (p .out′) answers) z (p .post)) in
+        let z = whole-none few (p .index) (p .out) (p .size) n (p .post .says) in
+        let r = ran (p .index) (p .out) (p .before) (p .len) (p .index′) (p .out′) answers
+        (subst (λ (k : ℕ). Post image mains qs (p .index) (p .out) (p .before) k (p .len) (p .index′) (p .out′) answers) z (p .post)) in
         (z, subst (Ran image mains b qs answers) (sym (p .last-is)) r)
 
 -- where a call that asks 25 first is done, its set has no node from N up
@@ -113,9 +124,14 @@ low-said {v = v} {b} mains rest s (inr o) = below (of-stored {P = λ v b. Says (
     below (inl n) = absurd (omega (arith, n .1))
     below (inr n) = stable (tests-lt mains (2 ^ nodes (b .site .links))) (n .0)
 
-pub low-posted : {Size : List ℕ → Type 0} {image : List ℕ} {v : ℕ} {b : Book} {mains : ℕ} {answers last : List ℕ} (qs : List Request) → Stored image v b
+pub low-post : {image : List ℕ} {v : ℕ} {b : Book} {mains len : ℕ} {index out before index′ out′ answers : List ℕ} (qs : List Request) → Stored image v b
+    → Post image mains qs index out before 0 len index′ out′ answers → NoBitFrom (nodes (b .site .links)) mains
+low-post {mains = mains} {index = index} {out} qs s p =
+    low-said mains (λ v b. (26 when (mostRequests < length qs)) ∷ (12 when ((length out < longestImage newest) ⊎ (length index < indexLength (b .site .plan)))) ∷ []) s (p .says)
+
+pub low-posted : {Size : List ℕ → List ℕ → List ℕ → Type 0} {image : List ℕ} {v : ℕ} {b : Book} {mains : ℕ} {answers last : List ℕ} (qs : List Request) → Stored image v b
     → Posting Size image mains qs 0 answers last → NoBitFrom (nodes (b .site .links)) mains
-low-posted {mains = mains} qs s p = low-said mains (λ v b. (26 when (mostRequests < length qs)) ∷ (12 when (length (p .out) < longestImage newest)) ∷ []) s (p .post .says)
+low-posted qs s p = low-post qs s (p .post)
 
 -- there is one result
 pub ran-unique : {image : List ℕ} {mains : ℕ} {b : Book} {qs : List Request} {ns ms last last′ : List ℕ} → Ran image mains b qs ns last → Ran image mains b qs ms last′
@@ -172,11 +188,12 @@ pub served-ran : {image : List ℕ} {v : ℕ} {b : Book} → Stored image v b �
 served-ran {image} {v} {b} s q small out full n len out′ h =
     let low = all-below (nodes (b .site .links)) in
     let given = post-alike (q ∷ []) (λ w c t. ap allNodes (stored-nodes s)) (h .posted) in
-    let z = whole-none s low (q ∷ []) (omega arith) out full (h .whole) (given .says) in
-    let p : Post image (allNodes (nodes (b .site .links))) (q ∷ []) out (0 ∷ []) 0 len out′ (n ∷ []) =
-    subst (λ (k : ℕ). Post image (allNodes (nodes (b .site .links))) (q ∷ []) out (0 ∷ []) 0 len out′ (k ∷ [])) (sym (h .done z))
-    (subst (λ (k : ℕ). Post image (allNodes (nodes (b .site .links))) (q ∷ []) out (0 ∷ []) k len out′ (h .answer ∷ [])) z given) in
-    ran s low (q ∷ []) (only small) out (0 ∷ []) len out′ (n ∷ []) p
+    let ample : Ample image (h .index) out = record { tiles = omega (arith, h .index-holds, stored-index s, s .lawful .site .plan .most); full = full } in
+    let z = whole-none s low (q ∷ []) (omega arith) (h .index) out ample (h .whole) (given .says) in
+    let p : Post image (allNodes (nodes (b .site .links))) (q ∷ []) (h .index) out (0 ∷ []) 0 len (h .index′) out′ (n ∷ []) =
+    subst (λ (k : ℕ). Post image (allNodes (nodes (b .site .links))) (q ∷ []) (h .index) out (0 ∷ []) 0 len (h .index′) out′ (k ∷ [])) (sym (h .done z))
+    (subst (λ (k : ℕ). Post image (allNodes (nodes (b .site .links))) (q ∷ []) (h .index) out (0 ∷ []) k len (h .index′) out′ (h .answer ∷ [])) z given) in
+    ran s low (q ∷ []) (only small) (h .index) out (0 ∷ []) len (h .index′) out′ (n ∷ []) p
 
 -- a step on the rows, and the image that then holds them
 pub record Alone (mains : ℕ) (b : Book) (q : Request) (answers last : List ℕ) : Type 0 where
@@ -188,7 +205,7 @@ pub record Alone (mains : ℕ) (b : Book) (q : Request) (answers last : List ℕ
   pub holds : Stored last version (on (b .site) rows)
 
 pub alone : {image : List ℕ} {v : ℕ} {b : Book} {mains : ℕ} → Stored image v b → NoBitFrom (nodes (b .site .links)) mains → (q : Request) → IdInRange q
-    → (n : ℕ) (answers last : List ℕ) → Posting FullSize image mains (q ∷ []) n answers last → Alone mains b q answers last
+    → (n : ℕ) (answers last : List ℕ) → Posting Ample image mains (q ∷ []) n answers last → Alone mains b q answers last
 alone {b = b} {mains} s low q small n answers last p =
     let r = posting-ran s low (q ∷ []) (only small) (omega arith) n answers last p .1 in
     let (m, e, w) = ran-one answers r in
@@ -211,19 +228,24 @@ unfolding zeros
 zeros-full = let e : length zeros ≡ longestImage newest = length-replicate {A = ℕ} (longestImage newest) 0 in omega arith
 
 pub some-posting : {image : List ℕ} {v : ℕ} {b : Book} {mains : ℕ} → Stored image v b → NoBitFrom (nodes (b .site .links)) mains → (qs : List Request) → length qs ≤ mostRequests
-    → (answers last : List ℕ) × Posting FullSize image mains qs 0 answers last
+    → (answers last : List ℕ) × Posting Ample image mains qs 0 answers last
 some-posting {image} {v} {b} {mains} s low qs few =
-    let r = post image mains qs zeros [] in
-    let call = post-computed image (stored-bytes image v b s) zeros mains qs [] in (
+    let index : List ℕ = replicate (indexLength (planOf image)) 0 in
+    let r = post image mains qs index zeros [] in
+    let call = post-computed image (stored-bytes image v b s) zeros mains qs index [] in
+    let ample : Ample image index zeros = record { tiles = omega (arith, length-replicate {A = ℕ} (indexLength (planOf image)) 0); full = zeros-full } in (
       r .answers,
       current image (r .whole .len) (r .whole .out),
       record {
+        index = index;
+        index′ = r .index;
         out = zeros;
         out′ = r .whole .out;
         before = [];
         len = r .whole .len;
-        size = zeros-full;
-        post = subst (λ (n : ℕ). Post image mains qs zeros [] n (r .whole .len) (r .whole .out) (r .answers)) (whole-none s low qs few zeros zeros-full (r .whole .number) (call .says)) call;
+        size = ample;
+        post = subst (λ (n : ℕ). Post image mains qs index zeros [] n (r .whole .len) (r .index) (r .whole .out) (r .answers))
+            (whole-none s low qs few index zeros ample (r .whole .number) (call .says)) call;
         last-is = refl;
       },
     )

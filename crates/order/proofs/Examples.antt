@@ -6,16 +6,17 @@ use mathlib.Core.List.{List, [], _∷_, _++_}
 use Prim.Native.Nat.{ℕ, _-_}
 use native.Mathlib.Omega.{arith}
 use lib.Dec.{T}
-use lib.ListN.{length, getD, replicate}
+use lib.ListN.{length, getD, replicate, length-replicate}
 use Rattle.rules.specs.Words.{NoBitFrom, _∈_, With}
 use Rattle.rules.specs.Words.With.{here, there}
 use Rattle.rules.specs.Words.Reordered.{none, put}
 use Rattle.rules.specs.Topology.{nodes}
 use Rattle.rules.specs.Book.{Book}
-use Rattle.rules.specs.Image.{newest, longestImage, FullSize, encode, Stored}
+use Rattle.rules.specs.Image.{newest, longestImage, encode, planOf, Stored}
+use Rattle.rules.specs.Index.{indexLength}
 use Rattle.rules.specs.Calls.{Request}
 use Rattle.rules.specs.Calls.Request.{Close}
-use Rattle.rules.specs.Order.{Room, Posting, InAnyOrder}
+use Rattle.rules.specs.Order.{Room, Posting, InAnyOrder, Ample}
 use Rattle.rules.proofs.Tests.{tests-not, tests-eq, tests-le}
 use Rattle.rules.proofs.Lists.{reordered-same}
 use Rattle.rules.proofs.Mains.{all-below}
@@ -25,7 +26,7 @@ use Rattle.model.proofs.Tests.{tests-same}
 use Rattle.order.specs.Examples.{image, JustFull, before, after, requests, backwards, beforeBoth, afterBoth, onBoth, onBothBack, Met, Kept}
 use Rattle.order.specs.Examples.{twoSquares, mainsBoth, onMains, onMainsBack, acrossMains, overSquare}
 use Rattle.order.specs.Examples.{nearlyFull, fullWith, closes, threes, longOnes, shortAfter, onLong, onLongBack, BothOrders, ring, goneRound, goneAcross, oneMore, Decides}
-use Rattle.order.specs.Needed.{RoomForDone, Needed}
+use Rattle.order.specs.Needed.{RoomForDone, OfBytes, OfWords, Needed}
 use Rattle.order.proofs.Same.{agree-same}
 use Rattle.order.proofs.Calls.{some-posting}
 use Rattle.order.proofs.AnyOrder.{any-order}
@@ -36,21 +37,28 @@ use Rattle.order.proofs.Long.{long-held}
 abbrev zeros : ℕ → List ℕ
 zeros n = replicate n 0
 
-just-full : JustFull (zeros (longestImage newest))
-just-full = tests-eq (length (zeros (longestImage newest))) (longestImage newest) .yes (so tt)
+-- an index of 100 tiles of the image's plan, and a full-size buffer
+abbrev tiles : List ℕ → List ℕ
+tiles image = zeros (indexLength (planOf image))
+
+abbrev page : List ℕ
+page = zeros (longestImage newest)
+
+just-full : (image : List ℕ) → JustFull image (tiles image) page
+just-full image = (length-replicate {A = ℕ} (indexLength (planOf image)) 0, length-replicate {A = ℕ} (longestImage newest) 0)
 
 -- no node of a book is from N up
 below : (b : Book) → NoBitFrom (nodes (b .site .links)) (anyMiddle b)
 below b = all-below (nodes (b .site .links))
 
-full : FullSize (zeros (longestImage newest))
-full = omega (arith, just-full)
+ample : (image : List ℕ) → Ample image (tiles image) page
+ample image = let j = just-full image in record { tiles = omega (arith, j .0); full = omega (arith, j .1) }
 
 -- ALL PREMISES KEPT
 
--- computed with a full-size buffer and no byte more
-justly : (image : List ℕ) (mains : ℕ) (qs : List Request) (ns last : List ℕ) → T (posts (zeros (longestImage newest)) image mains qs 0 ns last) → Posting JustFull image mains qs 0 ns last
-justly image mains qs = posted JustFull (zeros (longestImage newest)) just-full image mains qs 0
+-- computed with an index of 100 tiles and a full-size buffer, and no word and no byte more
+justly : (image : List ℕ) (mains : ℕ) (qs : List Request) (ns last : List ℕ) → T (posts (tiles image) page image mains qs 0 ns last) → Posting JustFull image mains qs 0 ns last
+justly image mains qs = posted JustFull (tiles image) page image (just-full image) mains qs 0
 
 with-end : {A : Type 0} (x : A) (xs : List A) → With x xs (xs ++ (x ∷ []))
 with-end x [] = here
@@ -142,25 +150,25 @@ kept = record {
     apart = apart (anyMiddle longOnes) longOnes (sound-links long-held) onLong tt;
     room = room (anyMiddle longOnes) longOnes (sound-links long-held) onLong tt;
     reordered = put (put none here) (there here);
-    forth = worked JustFull (zeros (longestImage newest)) just-full full long-held (below longOnes) onLong (omega arith) (0 ∷ 0 ∷ []) (image shortAfter) (inl refl) tt;
-    back = worked JustFull (zeros (longestImage newest)) just-full full long-held (below longOnes) onLongBack (omega arith) (0 ∷ 0 ∷ []) (image shortAfter) (inl refl) tt;
+    forth = worked JustFull (tiles (image longOnes)) page (just-full (image longOnes)) (ample (image longOnes)) long-held (below longOnes) onLong (omega arith) (0 ∷ 0 ∷ []) (image shortAfter) (inl refl) tt;
+    back = worked JustFull (tiles (image longOnes)) page (just-full (image longOnes)) (ample (image longOnes)) long-held (below longOnes) onLongBack (omega arith) (0 ∷ 0 ∷ []) (image shortAfter) (inl refl) tt;
   };
 }
 
-met : {v : ℕ} {b : Book} {mains : ℕ} {qs ps : List Request} {ns last ms : List ℕ} → Met v b mains qs ns last ps ms → InAnyOrder FullSize (encode v b) mains qs
+met : {v : ℕ} {b : Book} {mains : ℕ} {qs ps : List Request} {ns last ms : List ℕ} → Met v b mains qs ns last ps ms → InAnyOrder Ample (encode v b) mains qs
 met {v} {b} {mains} {qs} m = any-order (encode v b) v b mains qs (m .held) (m .low) (m .most) (m .small) (m .ids) (m .apart) (m .room)
 
-pub kept-in-any-order : InAnyOrder FullSize (encode 1 before) (anyMiddle before) requests × InAnyOrder FullSize (image beforeBoth) (anyMiddle beforeBoth) onBoth
-    × InAnyOrder FullSize (image (bookOn planA twoSquares [])) mainsBoth onMains × InAnyOrder FullSize (image nearlyFull) (anyMiddle nearlyFull) atLimits
-    × InAnyOrder FullSize (image longOnes) (anyMiddle longOnes) onLong
+pub kept-in-any-order : InAnyOrder Ample (encode 1 before) (anyMiddle before) requests × InAnyOrder Ample (image beforeBoth) (anyMiddle beforeBoth) onBoth
+    × InAnyOrder Ample (image (bookOn planA twoSquares [])) mainsBoth onMains × InAnyOrder Ample (image nearlyFull) (anyMiddle nearlyFull) atLimits
+    × InAnyOrder Ample (image longOnes) (anyMiddle longOnes) onLong
 kept-in-any-order = (met (kept .old), met (kept .seconds), met (kept .mains), met (kept .limits), met (kept .hops))
 
 -- ALL BUT ONE
-fully : (image : List ℕ) (mains : ℕ) (qs : List Request) (n : ℕ) (ns last : List ℕ) → T (posts (zeros (longestImage newest)) image mains qs n ns last) → Posting FullSize image mains qs n ns last
-fully = posted FullSize (zeros (longestImage newest)) full
+fully : (image : List ℕ) (mains : ℕ) (qs : List Request) (n : ℕ) (ns last : List ℕ) → T (posts (tiles image) page image mains qs n ns last) → Posting Ample image mains qs n ns last
+fully image = posted Ample (tiles image) page image (ample image)
 
-both : {b : Book} {q q′ : Request} {ns : List ℕ} {last : Book} {ns′ : List ℕ} {last′ : Book} → T (posts (zeros (longestImage newest)) (image b) (anyMiddle b) (q ∷ q′ ∷ []) 0 ns (image last))
-    → T (posts (zeros (longestImage newest)) (image b) (anyMiddle b) (q′ ∷ q ∷ []) 0 ns′ (image last′)) → BothOrders b q q′ ns last ns′ last′
+both : {b : Book} {q q′ : Request} {ns : List ℕ} {last : Book} {ns′ : List ℕ} {last′ : Book} → T (posts (tiles (image b)) page (image b) (anyMiddle b) (q ∷ q′ ∷ []) 0 ns (image last))
+    → T (posts (tiles (image b)) page (image b) (anyMiddle b) (q′ ∷ q ∷ []) 0 ns′ (image last′)) → BothOrders b q q′ ns last ns′ last′
 both {b} {q} {q′} {ns} {last} {ns′} {last′} h h′ = record {
   forth = fully (image b) (anyMiddle b) (q ∷ q′ ∷ []) 0 ns (image last) h;
   back = fully (image b) (anyMiddle b) (q′ ∷ q ∷ []) 0 ns′ (image last′) h′;
@@ -184,9 +192,15 @@ rows-decide = record {
   back = fully (image nearlyFull) (anyMiddle nearlyFull) (opening 64 0 1 100 ∷ openingTwo 63 2 5 100 ∷ []) 0 (0 ∷ 8 ∷ []) (image oneMore) tt;
 }
 
--- a byte less than full size
+-- a byte less than full size, and a word less than 100 tiles
 abbrev short : ℕ
 short = longestImage newest - 1
+
+abbrev shortTiles : ℕ
+shortTiles = indexLength planA - 1
+
+abbrev pairImage : List ℕ
+pairImage = image (empty pair)
 
 pub decides : Decides
 decides = record {
@@ -196,15 +210,17 @@ decides = record {
   room = room-decides;
   rows = rows-decide;
   most = fully (image (empty pair)) (anyMiddle (empty pair)) (closes 65 0) 26 (threes 65) (image (empty pair)) tt;
-  full-size = posted (λ out. length out ≡ short) (zeros short) (tests-eq (length (zeros short)) short .yes (so tt)) (image (empty pair)) (anyMiddle (empty pair)) (opening 1 0 1 2 ∷ []) 12 (0 ∷ [])
-      (image (empty pair)) tt;
+  full-size = posted (OfBytes short) (tiles pairImage) (zeros short) pairImage (ample pairImage .tiles, length-replicate {A = ℕ} short 0) (anyMiddle (empty pair)) (opening 1 0 1 2 ∷ []) 12 (0 ∷ [])
+      pairImage tt;
+  tiles = posted (OfWords shortTiles) (zeros shortTiles) page pairImage (length-replicate {A = ℕ} shortTiles 0, ample pairImage .full) (anyMiddle (empty pair)) (opening 1 0 1 2 ∷ []) 12 (0 ∷ [])
+      pairImage tt;
   low = fully (image (empty pair)) 4 (opening 1 0 1 2 ∷ []) 25 (0 ∷ []) (image (empty pair)) tt;
   over-1 = fully (image (empty square)) 2 (opening 1 0 3 2 ∷ []) 0 (0 ∷ []) (image (overSquare 1)) tt;
   over-2 = fully (image (empty square)) 4 (opening 1 0 3 2 ∷ []) 0 (0 ∷ []) (image (overSquare 2)) tt;
 }
 
 -- in any order they would come to one book, and the second would be answered as alone
-module _ {b : Book} {q q′ : Request} (h : Stored (image b) newest b) (i : InAnyOrder FullSize (image b) (anyMiddle b) (q ∷ q′ ∷ [])) where
+module _ {b : Book} {q q′ : Request} (h : Stored (image b) newest b) (i : InAnyOrder Ample (image b) (anyMiddle b) (q ∷ q′ ∷ [])) where
   one-last : {ns ns′ : List ℕ} {last last′ : Book} → BothOrders b q q′ ns last ns′ last′ → image last ≡ image last′
   one-last {ns} {ns′} {last} {last′} o =
       i .one (q ∷ q′ ∷ []) (q′ ∷ q ∷ []) 0 0 ns ns′ (image last) (image last′) (put (put none here) here) (put (put none here) (there here)) (o .forth) (o .back)
@@ -226,7 +242,7 @@ square-held : Stored (image (empty square)) newest (empty square)
 square-held = held newest (empty square) refl tt
 
 -- one open across the square is in any order, with any set
-over-square : (mains : ℕ) → NoBitFrom 4 mains → Room mains (empty square) (opening 1 0 3 2 ∷ []) → InAnyOrder FullSize (image (empty square)) mains (opening 1 0 3 2 ∷ [])
+over-square : (mains : ℕ) → NoBitFrom 4 mains → Room mains (empty square) (opening 1 0 3 2 ∷ []) → InAnyOrder Ample (image (empty square)) mains (opening 1 0 3 2 ∷ [])
 over-square mains low fit =
     let qs : List Request = opening 1 0 3 2 ∷ [] in
     any-order (image (empty square)) newest (empty square) mains qs square-held low (omega arith) (small qs tt) (different qs tt) ((λ q m. absurd m), tt) fit
@@ -234,19 +250,19 @@ over-square mains low fit =
 room-for-done : RoomForDone (image nearlyFull) (anyMiddle nearlyFull) nearlyFull (openingTwo 63 2 5 100 ∷ opening 65 0 1 1 ∷ [])
 room-for-done = record { done = openingTwo 63 2 5 100 ∷ []; all-done = done; room = room (anyMiddle nearlyFull) nearlyFull (sound-links nearly) (openingTwo 63 2 5 100 ∷ []) tt }
   where
-    not-done : (last : List ℕ) → Posting FullSize (image nearlyFull) (anyMiddle nearlyFull) (opening 65 0 1 1 ∷ []) 0 (0 ∷ []) last → ⊥
+    not-done : (last : List ℕ) → Posting Ample (image nearlyFull) (anyMiddle nearlyFull) (opening 65 0 1 1 ∷ []) 0 (0 ∷ []) last → ⊥
     not-done last p =
-        let nine : Posting FullSize (image nearlyFull) (anyMiddle nearlyFull) (opening 65 0 1 1 ∷ []) 0 (9 ∷ []) (image nearlyFull) =
+        let nine : Posting Ample (image nearlyFull) (anyMiddle nearlyFull) (opening 65 0 1 1 ∷ []) 0 (9 ∷ []) (image nearlyFull) =
         fully (image nearlyFull) (anyMiddle nearlyFull) (opening 65 0 1 1 ∷ []) 0 (9 ∷ []) (image nearlyFull) tt in
         let e : _≡_ {A = ℕ} 0 9 = ap (λ (ns : List ℕ). getD ns 0 0)
         (depends (image nearlyFull) (image nearlyFull) newest newest nearlyFull nearlyFull (anyMiddle nearlyFull) (opening 65 0 1 1) nearly nearly (below nearlyFull) (omega arith)
         (agree-same (anyMiddle nearlyFull) nearlyFull (opening 65 0 1 1)) 0 0 (0 ∷ []) (9 ∷ []) last (image nearlyFull) p nine .0) in
         omega arith
 
-    done : (q : Request) → q ∈ (openingTwo 63 2 5 100 ∷ opening 65 0 1 1 ∷ []) → (last : List ℕ) → Posting FullSize (image nearlyFull) (anyMiddle nearlyFull) (q ∷ []) 0 (0 ∷ []) last
+    done : (q : Request) → q ∈ (openingTwo 63 2 5 100 ∷ opening 65 0 1 1 ∷ []) → (last : List ℕ) → Posting Ample (image nearlyFull) (anyMiddle nearlyFull) (q ∷ []) 0 (0 ∷ []) last
         → q ∈ (openingTwo 63 2 5 100 ∷ [])
     done q (inl e) last p = inl e
-    done q (inr (inl e)) last p = absurd (not-done last (subst (λ (v : Request). Posting FullSize (image nearlyFull) (anyMiddle nearlyFull) (v ∷ []) 0 (0 ∷ []) last) e p))
+    done q (inr (inl e)) last p = absurd (not-done last (subst (λ (v : Request). Posting Ample (image nearlyFull) (anyMiddle nearlyFull) (v ∷ []) 0 (0 ∷ []) last) e p))
     done q (inr (inr m)) last p = absurd m
 
 pub needed : Needed
@@ -288,6 +304,12 @@ needed = record {
       let b : Book = empty pair in
       let i = f short (image b) newest b (anyMiddle b) qs pair-held (below b) (omega arith) (small qs tt) (different qs tt) (apart (anyMiddle b) b (sound-links pair-held) qs tt) (room (anyMiddle b) b (sound-links pair-held) qs tt) in
       let e : _≡_ {A = ℕ} 12 0 = i .each qs 12 (0 ∷ []) (image b) (reordered-same qs) (decides .full-size) .0 in
+      omega arith;
+  tiles = λ f.
+      let qs : List Request = opening 1 0 1 2 ∷ [] in
+      let b : Book = empty pair in
+      let i = f shortTiles (image b) newest b (anyMiddle b) qs pair-held (below b) (omega arith) (small qs tt) (different qs tt) (apart (anyMiddle b) b (sound-links pair-held) qs tt) (room (anyMiddle b) b (sound-links pair-held) qs tt) in
+      let e : _≡_ {A = ℕ} 12 0 = i .each qs 12 (0 ∷ []) (image b) (reordered-same qs) (decides .tiles) .0 in
       omega arith;
   low = λ f.
       let qs : List Request = opening 1 0 1 2 ∷ [] in

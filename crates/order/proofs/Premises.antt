@@ -12,10 +12,10 @@ use Rattle.rules.specs.Words.{NoBitFrom, _∈_, Pairwise, Each, total, Tests}
 use Rattle.rules.specs.Topology.{Topology, nodes, SoundTopology, hopCount, hopAt, NoClash}
 use Rattle.rules.specs.Book.{Row, Book, hopsInAll, mostStreams, mostHops}
 use Rattle.rules.specs.Placing.{Asked, Planned}
-use Rattle.rules.specs.Image.{newest, FullSize, encode, Stored}
+use Rattle.rules.specs.Image.{newest, encode, Stored}
 use Rattle.rules.specs.Calls.{Wrote, Request, mostRequests, Work, InOrder, Post}
 use Rattle.rules.specs.Calls.Request.{Open, Close}
-use Rattle.rules.specs.Order.{idOf, IdInRange, DifferentIds, RouteOf, Apart, opens, Asks, Room, current, Posting}
+use Rattle.rules.specs.Order.{idOf, IdInRange, DifferentIds, RouteOf, Apart, opens, Asks, Room, current, Ample, Posting}
 use Rattle.rules.proofs.Tests.{never, alike, tests-and, tests-not, tests-eq, tests-le, tests-lt, allBelow, allOf, tests-all, tests-every}
 use Rattle.rules.proofs.Choice.{planned-unique}
 use Rattle.rules.proofs.Written.{Bytes}
@@ -23,15 +23,17 @@ use Rattle.model.specs.Test.{same, clashes}
 use Rattle.model.specs.Answer.{orGiven, routesOf, answersOf, lastBook}
 use Rattle.model.specs.Reading.{allPairs}
 use Rattle.model.specs.Examples.{isStored}
-use Rattle.model.specs.Calls.{post}
+use Rattle.model.specs.Index.{indexOf}
+use Rattle.model.specs.Calls.{indexAfter, post}
 use Rattle.model.proofs.Tests.{tests-same, tests-clashes}
 use Rattle.model.proofs.Searches.{Found}
-use Rattle.model.proofs.Answers.{NotPlanned, planned-route, routes-found, workable, in-order-computed}
+use Rattle.model.proofs.Answers.{NotPlanned, planned-route, routes-found, workable, in-order-computed, last-workable}
+use Rattle.model.proofs.Index.{index-computed}
 use Rattle.model.proofs.Reading.{tests-pairs}
 use Rattle.model.proofs.Examples.{stored}
 use Rattle.model.proofs.Calls.{post-computed}
 use Rattle.order.specs.Needed.{NoNodeShared, FirstRouteOf, FirstsApart, RoomForOne}
-use Rattle.order.proofs.Calls.{current-wrote}
+use Rattle.order.proofs.Calls.{current-wrote, enough}
 
 -- what computes to true is true
 pub so : {t : Bool} → T t → t ≡ true
@@ -167,10 +169,10 @@ module _ (mains : ℕ) (b : Book) (sound : SoundTopology (b .site .links)) where
 
 -- POSTINGS
 
--- the list, posted with this buffer on bytes, gives this number and these answers, which unmarked stay, and comes to this image
-abbrev pub posts : List ℕ → List ℕ → ℕ → List Request → ℕ → List ℕ → List ℕ → Bool
-posts out image mains qs n ns last =
-    let r = post image mains qs out ns in
+-- the list, posted with this index and this buffer on bytes, gives this number and these answers, which unmarked stay, and comes to this image
+abbrev pub posts : List ℕ → List ℕ → List ℕ → ℕ → List Request → ℕ → List ℕ → List ℕ → Bool
+posts index out image mains qs n ns last =
+    let r = post image mains qs index out ns in
     allOf (λ (x : ℕ). ltb x 256) image && (eqb (r .whole .number) n && (same (r .answers) ns && same last (current image (r .whole .len) (r .whole .out))))
 
 bytes : (s : List ℕ) → ((x : ℕ) → x ∈ s → x < 256) → Bytes s
@@ -178,40 +180,44 @@ bytes [] h i = omega arith
 bytes (x ∷ xs) h zero = h x (inl refl)
 bytes (x ∷ xs) h (suc i) = bytes xs (λ y m. h y (inr m)) i
 
-pub posted : (Size : List ℕ → Type 0) (out : List ℕ) → Size out → (image : List ℕ) (mains : ℕ) (qs : List Request) (n : ℕ) (ns last : List ℕ) → T (posts out image mains qs n ns last)
-    → Posting Size image mains qs n ns last
-posted Size out fit image mains qs n ns last h =
-    let r = post image mains qs out ns in
+pub posted : (Size : List ℕ → List ℕ → List ℕ → Type 0) (index out image : List ℕ) → Size image index out → (mains : ℕ) (qs : List Request) (n : ℕ) (ns last : List ℕ)
+    → T (posts index out image mains qs n ns last) → Posting Size image mains qs n ns last
+posted Size index out image fit mains qs n ns last h =
+    let r = post image mains qs index out ns in
     let t = tests-and (tests-every (λ x. ltb x 256) (λ x. tests-lt x 256) image)
     (tests-and (tests-eq (r .whole .number) n) (tests-and (tests-same (r .answers) ns) (tests-same last (current image (r .whole .len) (r .whole .out))))) .yes (so h) in
     record {
+      index = index;
+      index′ = r .index;
       out = out;
       out′ = r .whole .out;
       before = ns;
       len = r .whole .len;
       size = fit;
-      post = subst (λ (k : ℕ). Post image mains qs out ns k (r .whole .len) (r .whole .out) ns) (t .1 .0)
-          (subst (Post image mains qs out ns (r .whole .number) (r .whole .len) (r .whole .out)) (t .1 .1 .0) (post-computed image (bytes image (t .0)) out mains qs ns));
+      post = subst (λ (k : ℕ). Post image mains qs index out ns k (r .whole .len) (r .index) (r .whole .out) ns) (t .1 .0)
+          (subst (Post image mains qs index out ns (r .whole .number) (r .whole .len) (r .index) (r .whole .out)) (t .1 .1 .0) (post-computed image (bytes image (t .0)) out mains qs index ns));
       last-is = t .1 .1 .1;
     }
 
 -- and posted on an image that is known to hold the book, where a record is done
-pub worked : (Size : List ℕ → Type 0) (out : List ℕ) → Size out → FullSize out
-    → {image : List ℕ} {v : ℕ} {b : Book} {mains : ℕ} → Stored image v b → NoBitFrom (nodes (b .site .links)) mains → (qs : List Request) → length qs ≤ mostRequests → (ns last : List ℕ) → 0 ∈ ns
+pub worked : (Size : List ℕ → List ℕ → List ℕ → Type 0) (index out : List ℕ)
+    → {image : List ℕ} {v : ℕ} {b : Book} {mains : ℕ} → Size image index out → Ample image index out → Stored image v b → NoBitFrom (nodes (b .site .links)) mains → (qs : List Request) → length qs ≤ mostRequests → (ns last : List ℕ) → 0 ∈ ns
     → T (same (answersOf mains b qs) ns && same (encode newest (lastBook mains b qs)) last) → Posting Size image mains qs 0 ns last
-worked Size out fit full {image} {v} {b} {mains} s low qs few ns last z h =
+worked Size index out {image} {v} {b} {mains} fit ample s low qs few ns last z h =
     let c : Book = lastBook mains b qs in
     let t = tests-and (tests-same (answersOf mains b qs) ns) (tests-same (encode newest c) last) .yes (so h) in
     let out′ : List ℕ = encode newest c ++ drop (length (encode newest c)) out in
     let wrote : Wrote (encode newest c) out (length (encode newest c)) out′ = record { length-is = refl; buffer = refl } in
     record {
+      index = index;
+      index′ = indexAfter mains b qs index;
       out = out;
       out′ = out′;
       before = ns;
       len = length (encode newest c);
       size = fit;
       post = record {
-        says = inr (v, b, s, inr (λ f. f low, inr (λ k. omega (arith, k, few), inr (λ k. omega (arith, k, full), refl))));
+        says = inr (v, b, s, inr (λ f. f low, inr (λ k. omega (arith, k, few), inr (enough s index out ample, refl))));
         refused = λ f. absurd (f refl);
         done = λ e. (
           v,
@@ -221,6 +227,7 @@ worked Size out fit full {image} {v} {b} {mains} s low qs few ns last z h =
             c,
             subst (λ (ks : List ℕ). InOrder (Work mains) b qs ks c) (t .0) (in-order-computed mains b (workable (s .lawful)) qs),
             record { some = λ k. wrote; none = λ f. absurd (f z) },
+            record { words = indexOf c; index = index-computed c (last-workable mains b (workable (s .lawful)) qs); buffer = refl },
           ),
         );
       };

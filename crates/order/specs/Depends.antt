@@ -7,10 +7,10 @@ use Rattle.rules.specs.Words.{NoBitFrom, _∈_}
 use Rattle.rules.specs.Topology.{nodes, NoClash}
 use Rattle.rules.specs.Book.{Row, Book, Known}
 use Rattle.rules.specs.Placing.{Full}
-use Rattle.rules.specs.Image.{FullSize, Stored}
+use Rattle.rules.specs.Image.{Stored}
 use Rattle.rules.specs.Calls.{Request, OfRoutes}
 use Rattle.rules.specs.Calls.Request.{Open, Close}
-use Rattle.rules.specs.Order.{idOf, IdInRange, RouteOf, Posting, SameStream}
+use Rattle.rules.specs.Order.{idOf, IdInRange, RouteOf, Posting, SameStream, Ample}
 
 -- the row clashes with a route of the open; a close has no hop to place, so none clashes with it
 abbrev pub Clashing : ℕ → Book → Request → Row → Type 0
@@ -34,5 +34,5 @@ abbrev pub Depends : Type 0
 Depends =
     (image image′ : List ℕ) (v w : ℕ) (b c : Book) (mains : ℕ) (q : Request) → Stored image v b → Stored image′ w c → NoBitFrom (nodes (b .site .links)) mains
     → IdInRange q → Agree mains b c q
-    → (n n′ : ℕ) (answers answers′ last last′ : List ℕ) → Posting FullSize image mains (q ∷ []) n answers last → Posting FullSize image′ mains (q ∷ []) n′ answers′ last′
+    → (n n′ : ℕ) (answers answers′ last last′ : List ℕ) → Posting Ample image mains (q ∷ []) n answers last → Posting Ample image′ mains (q ∷ []) n′ answers′ last′
     → (answers ≡ answers′) × (answers ≡ 0 ∷ [] → SameStream (idOf q) last last′)

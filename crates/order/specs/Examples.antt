@@ -6,12 +6,14 @@ use lib.ListN.{length, replicate}
 use Rattle.rules.specs.Words.{NoBitFrom, _∈_, Pairwise, Reordered}
 use Rattle.rules.specs.Topology.{Topology, nodes}
 use Rattle.rules.specs.Book.{Row, Book}
-use Rattle.rules.specs.Image.{newest, longestImage, FullSize, encode, Stored}
+use Rattle.rules.specs.Image.{newest, longestImage, encode, planOf, Stored}
+use Rattle.rules.specs.Index.{indexLength}
 use Rattle.rules.specs.Calls.{Request, mostRequests}
 use Rattle.rules.specs.Calls.Request.{Close}
-use Rattle.rules.specs.Order.{IdInRange, DifferentIds, Apart, Room, Posting}
+use Rattle.rules.specs.Order.{IdInRange, DifferentIds, Apart, Room, Posting, Ample}
 use Rattle.rules.proofs.Reading.{withRows}
 use Rattle.model.specs.Examples.{planA, lineA, pair, bookOn, empty, square, opening, openingTwo, anyMiddle}
+use Rattle.order.specs.Needed.{OfBytes, OfWords}
 
 -- a stream of one hop, on one route
 abbrev pub oneHop : ℕ → ℕ → ℕ → ℕ → ℕ → Row
@@ -29,9 +31,9 @@ image = encode newest
 
 -- ALL PREMISES KEPT
 
--- a full-size buffer, and no byte more
-abbrev pub JustFull : List ℕ → Type 0
-JustFull out = length out ≡ longestImage newest
+-- an index of 100 tiles and a full-size buffer, and no word and no byte more
+abbrev pub JustFull : List ℕ → List ℕ → List ℕ → Type 0
+JustFull image index out = (length index ≡ indexLength (planOf image)) × (length out ≡ longestImage newest)
 
 -- the premises hold of the requests on the image of a book, with the set, and both orders give one answer for each and one last image
 pub record Met (v : ℕ) (b : Book) (mains : ℕ) (qs : List Request) (ns last : List ℕ) (ps : List Request) (ms : List ℕ) : Type 0 where
@@ -176,8 +178,8 @@ pub record Kept : Type 0 where
 
 -- two requests on a book in both orders: their answers, and the last book
 pub record BothOrders (b : Book) (q q′ : Request) (ns : List ℕ) (last : Book) (ns′ : List ℕ) (last′ : Book) : Type 0 where
-  pub forth : Posting FullSize (image b) (anyMiddle b) (q ∷ q′ ∷ []) 0 ns (image last)
-  pub back : Posting FullSize (image b) (anyMiddle b) (q′ ∷ q ∷ []) 0 ns′ (image last′)
+  pub forth : Posting Ample (image b) (anyMiddle b) (q ∷ q′ ∷ []) 0 ns (image last)
+  pub back : Posting Ample (image b) (anyMiddle b) (q′ ∷ q ∷ []) 0 ns′ (image last′)
 
 -- a ring of five nodes, and two more linked to the node 3 of it
 abbrev pub ring : Topology
@@ -220,11 +222,13 @@ pub record Decides : Type 0 where
   -- there is room for a row of each, and one of them has two
   pub rows : BothOrders nearlyFull (openingTwo 63 2 5 100) (opening 64 0 1 100) (0 ∷ 8 ∷ []) (fullWith 63) (0 ∷ 8 ∷ []) oneMore
   -- of 65 requests the list is refused as a whole, and no record is marked
-  pub most : Posting FullSize (image (empty pair)) (anyMiddle (empty pair)) (closes 65 0) 26 (threes 65) (image (empty pair))
+  pub most : Posting Ample (image (empty pair)) (anyMiddle (empty pair)) (closes 65 0) 26 (threes 65) (image (empty pair))
   -- and so it is with a buffer that is a byte shorter
-  pub full-size : Posting (λ (out : List ℕ). length out ≡ longestImage newest - 1) (image (empty pair)) (anyMiddle (empty pair)) (opening 1 0 1 2 ∷ []) 12 (0 ∷ []) (image (empty pair))
+  pub full-size : Posting (OfBytes (longestImage newest - 1)) (image (empty pair)) (anyMiddle (empty pair)) (opening 1 0 1 2 ∷ []) 12 (0 ∷ []) (image (empty pair))
+  -- or an index that is a word shorter
+  pub tiles : Posting (OfWords (indexLength planA - 1)) (image (empty pair)) (anyMiddle (empty pair)) (opening 1 0 1 2 ∷ []) 12 (0 ∷ []) (image (empty pair))
   -- and so it is with a set that has the node 2 of two nodes
-  pub low : Posting FullSize (image (empty pair)) 4 (opening 1 0 1 2 ∷ []) 25 (0 ∷ []) (image (empty pair))
+  pub low : Posting Ample (image (empty pair)) 4 (opening 1 0 1 2 ∷ []) 25 (0 ∷ []) (image (empty pair))
   -- the same open over the one middle of the square, and over the other
-  pub over-1 : Posting FullSize (image (empty square)) 2 (opening 1 0 3 2 ∷ []) 0 (0 ∷ []) (image (overSquare 1))
-  pub over-2 : Posting FullSize (image (empty square)) 4 (opening 1 0 3 2 ∷ []) 0 (0 ∷ []) (image (overSquare 2))
+  pub over-1 : Posting Ample (image (empty square)) 2 (opening 1 0 3 2 ∷ []) 0 (0 ∷ []) (image (overSquare 1))
+  pub over-2 : Posting Ample (image (empty square)) 4 (opening 1 0 3 2 ∷ []) 0 (0 ∷ []) (image (overSquare 2))

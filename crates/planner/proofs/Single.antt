@@ -1,4 +1,4 @@
--- A list of one with all nodes in the set is the single call.
+-- A list of one with all nodes in the set and an index of its own is the single call.
 use mathlib.Core.Path.{sym, subst}
 use mathlib.Core.List.{List, [], _∷_}
 use Prim.Native.Nat.{ℕ}
@@ -23,6 +23,9 @@ pub serves-all : {image out out′ : List ℕ} {mains : ℕ} {q : Request} {r : 
 serves-all {q = q} all p = record {
   whole = p .whole;
   answer = p .answer;
+  index = p .index;
+  index′ = p .index′;
+  index-holds = p .index-holds;
   posted = post-alike (q ∷ []) (λ v b s. all (stored-lawful s)) (p .posted);
   refused = p .refused;
   done = p .done;

@@ -66,12 +66,14 @@ pub extern "C" fn lindurask_post(
     book: &[u8],
     mains: u64,
     requests: &mut [Request],
+    index: &mut [u64],
     out: &mut [u8],
     length: &mut usize,
 ) -> u8
-    ensures { λ r. ⌜ Posts (now (book .entry)) mains (now (requests .entry)) (now (out .entry)) (record { number = r; length = now (length .exit) }) (now (requests .exit)) (now (out .exit)) ⌝ }
+    ensures { λ r. ⌜ Posts (now (book .entry)) mains (now (requests .entry)) (now (index .entry)) (now (out .entry)) (record { number = r; length = now (length .exit) })
+        (now (requests .exit)) (now (index .exit)) (now (out .exit)) ⌝ }
 {
-    let answer = crate::post(book, mains, requests, out);
+    let answer = crate::post(book, mains, requests, index, out);
     *length = answer.length;
     answer.number
 }

@@ -84,15 +84,21 @@ pub fn rewrite(image: &[u8], out: &mut [u8]) -> Answer
     answers::done(image.len())
 }
 
-// Posts a list of requests, with only members of the set in the middle of a route: each record receives its own answer, and
-// the image is written once at the end.
-pub fn post(image: &[u8], mains: u64, requests: &mut [Request], out: &mut [u8]) -> Answer
-    ensures { λ r. ⌜ Posts (now (image .entry)) mains (now (requests .entry)) (now (out .entry)) r (now (requests .exit)) (now (out .exit)) ⌝ }
+// Posts a list of requests, with only members of the set in the middle of a route: each record receives its own answer, the
+// lent index becomes that of the last book, and the image is written once at the end.
+pub fn post(
+    image: &[u8],
+    mains: u64,
+    requests: &mut [Request],
+    index: &mut [u64],
+    out: &mut [u8],
+) -> Answer
+    ensures { λ r. ⌜ Posts (now (image .entry)) mains (now (requests .entry)) (now (index .entry)) (now (out .entry)) r (now (requests .exit)) (now (index .exit)) (now (out .exit)) ⌝ }
 {
-    posting::post(image, mains, requests, out)
+    posting::post(image, mains, requests, index, out)
 }
 
-// Opens a stream: a list of one, with all nodes in the set.
+// Opens a stream: a list of one, with all nodes in the set and an index of its own.
 pub fn open_stream(image: &[u8], asked: Asked, out: &mut [u8]) -> Answer
     ensures { λ r. ⌜ Serve (now (image .entry)) (Open (theAsked asked)) (now (out .entry)) (r .number) (r .length) (now (out .exit)) ⌝ }
 {
@@ -108,7 +114,7 @@ pub fn open_stream(image: &[u8], asked: Asked, out: &mut [u8]) -> Answer
     posting::post_one(image, posting::all_nodes(image), request, out)
 }
 
-// Closes a stream: a list of one, with all nodes in the set.
+// Closes a stream: a list of one, with all nodes in the set and an index of its own.
 pub fn close_stream(image: &[u8], id: u16, out: &mut [u8]) -> Answer
     ensures { λ r. ⌜ Serve (now (image .entry)) (Close id) (now (out .entry)) (r .number) (r .length) (now (out .exit)) ⌝ }
 {

@@ -1,4 +1,4 @@
--- Two results that the contract of a posting allows are equal: number, length, every byte of the output and every field of every record.
+-- Two results that the contract of a posting allows are equal: number, length, every word of the index, every byte of the output and every field of every record.
 use mathlib.Core.Path.{_≡_, refl, sym, ap, _∙_}
 use mathlib.Core.List.{List, [], _∷_, head-eq-of-cons-eq, tail-eq-of-cons-eq}
 use Prim.Native.Nat.{ℕ}
@@ -20,8 +20,8 @@ same-marked (r ∷ rs) (x ∷ xs) (y ∷ ys) p q e = λ i. first i ∷ same-mark
     first : x ≡ y
     first = p .0 ∙ ap (withAnswer r) (head-eq-of-cons-eq e) ∙ sym (q .0)
 
-pub one-posts : (image : List ℕ) (mains : ℕ) (rs : List Request) (out : List ℕ) {r r′ : Answer} {xs xs′ : List Request} {o o′ : List ℕ}
-    → Posts image mains rs out r xs o → Posts image mains rs out r′ xs′ o′ → Same (r .number) (r .length) o (r′ .number) (r′ .length) o′ × (xs ≡ xs′)
-one-posts image mains rs out {xs = xs} {xs′} g h =
-    let t = one-post image mains (theRequests rs) out (answers rs) (answers xs) (answers xs′) (g .post) (h .post) in
-    (t .0, same-marked rs xs xs′ (g .same) (h .same) (t .1))
+pub one-posts : (image : List ℕ) (mains : ℕ) (rs : List Request) (index out : List ℕ) {r r′ : Answer} {xs xs′ : List Request} {x x′ o o′ : List ℕ}
+    → Posts image mains rs index out r xs x o → Posts image mains rs index out r′ xs′ x′ o′ → Same (r .number) (r .length) o (r′ .number) (r′ .length) o′ × (xs ≡ xs′) × (x ≡ x′)
+one-posts image mains rs index out {xs = xs} {xs′} {x} {x′} g h =
+    let t = one-post image mains (theRequests rs) out (answers rs) index x (answers xs) x′ (answers xs′) (g .post) (h .post) in
+    (t .0, same-marked rs xs xs′ (g .same) (h .same) (t .1), t .2)

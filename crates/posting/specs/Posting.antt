@@ -1,17 +1,19 @@
 -- What one request does to the book that is worked on, and what a list of them does.
 use mathlib.Core.Path.{_≡_}
 use mathlib.Core.Bool.{Bool, true, false, _||_}
-use mathlib.Core.List.{List, [], _∷_}
+use mathlib.Core.List.{List, [], _∷_, _++_}
 use Prim.Native.Nat.{ℕ, _≤_}
 use lib.Dec.{eqb}
-use lib.ListN.{take, drop}
+use lib.ListN.{length, take, drop}
 use Rattle.rules.specs.Words.{_∈_, Tests}
 use Rattle.rules.specs.Book.{Book}
 use Rattle.rules.specs.Calls as calls
 use Rattle.rules.specs.Calls.{Wrote, Unchanged, OfBook, SaysOf, Work, InOrder, postRefusals, Post}
 use Rattle.rules.specs.Topology.{allNodes}
-use Rattle.rules.specs.Image.{newest, longestImage, nodesOf}
+use Rattle.rules.specs.Image.{newest, longestImage, planOf, nodesOf}
+use Rattle.rules.specs.Index.{indexLength}
 use Rattle.rules.proofs.Reading.{LawfulImage}
+use Rattle.index.specs.Index as inner
 use Rattle.answers.specs.declared.Answer.{Answer}
 use Rattle.posting.specs.declared.Request.{Request}
 use Rattle.posting.specs.declared.Outcome.{Outcome}
@@ -43,12 +45,18 @@ pub record PostedAll (mains : ℕ) (rs : List Request) (buffer : List ℕ) (len 
 
 -- A CALL
 
--- what the whole call says; where nothing is refused the image's book stands in a buffer of its own, and the output has room for the longest image
-pub record Begun (image : List ℕ) (mains count room : ℕ) (r : Answer) (buffer′ words′ : List ℕ) : Type 0 where
-  pub says : SaysOf image (postRefusals mains count room) (r .number)
+-- so many words has the index of the image's book, no more than an array for it
+pub record Words (image : List ℕ) (r : ℕ) : Type 0 where
+  pub is : r ≡ indexLength (planOf image)
+  pub most : r ≤ inner.indexLength
+
+-- what the whole call says; where nothing is refused the image's book stands in a buffer of its own, the output has room for the longest image, and the lent words for the index
+pub record Begun (image : List ℕ) (mains count words room : ℕ) (r : Answer) (buffer′ words′ : List ℕ) : Type 0 where
+  pub says : SaysOf image (postRefusals mains count room words) (r .number)
   pub refused : (r .number ≡ 0 → ⊥) → r .length ≡ 0
   pub stands : r .number ≡ 0 → OfBook image (λ (v : ℕ) (b : Book). Standing buffer′ (r .length) words′ × (bookAt buffer′ (r .length) ≡ b))
   pub wide : r .number ≡ 0 → longestImage newest ≤ room
+  pub long : r .number ≡ 0 → indexLength (bookAt buffer′ (r .length) .site .plan) ≤ words
 
 -- the image is written where a record was done
 pub record Finished (buffer : List ℕ) (state : State) (out : List ℕ) (r : Answer) (out′ : List ℕ) : Type 0 where
@@ -56,9 +64,14 @@ pub record Finished (buffer : List ℕ) (state : State) (out : List ℕ) (r : An
   pub written : state .done ≡ true → Wrote (take (state .length) buffer) out (r .length) out′
   pub kept : state .done ≡ false → Unchanged out (r .length) out′
 
+-- and as many of the words as the book's index has are given
+pub record Settled (buffer words : List ℕ) (state : State) (index out : List ℕ) (r : Answer) (index′ out′ : List ℕ) : Type 0 where
+  pub finished : Finished buffer state out r out′
+  pub given : let own = take (indexLength (planOf (take (state .length) buffer))) words in index′ ≡ own ++ drop (length own) index
+
 -- the list is posted with the set, and no field but the answers is changed
-pub record Posts (image : List ℕ) (mains : ℕ) (rs : List Request) (out : List ℕ) (r : Answer) (rs′ : List Request) (out′ : List ℕ) : Type 0 where
-  pub post : Post image mains (theRequests rs) out (answers rs) (r .number) (r .length) out′ (answers rs′)
+pub record Posts (image : List ℕ) (mains : ℕ) (rs : List Request) (index out : List ℕ) (r : Answer) (rs′ : List Request) (index′ out′ : List ℕ) : Type 0 where
+  pub post : Post image mains (theRequests rs) index out (answers rs) (r .number) (r .length) index′ out′ (answers rs′)
   pub same : OnlyMarked rs rs′
 
 -- an array of requests has so many places
@@ -66,21 +79,18 @@ abbrev pub listed : ℕ
 listed = 100
 
 -- the first so many records of an array are posted, and the others are left alone
-pub record PostsFirst (image : List ℕ) (mains : ℕ) (rs : List Request) (count : ℕ) (out : List ℕ) (r : Answer) (rs′ : List Request) (out′ : List ℕ) : Type 0 where
-  pub posts : Posts image mains (take count rs) out r (take count rs′) out′
+pub record PostsFirst (image : List ℕ) (mains : ℕ) (rs : List Request) (count : ℕ) (index out : List ℕ) (r : Answer) (rs′ : List Request) (index′ out′ : List ℕ) : Type 0 where
+  pub posts : Posts image mains (take count rs) index out r (take count rs′) index′ out′
   pub rest : drop count rs′ ≡ drop count rs
 
--- the number of a list of one: the whole call's, or the record's answer
-pub record OfOne (whole : Answer) (answer : ℕ) (r : Answer) : Type 0 where
-  pub length-is : r .length ≡ whole .length
-  pub refused : (whole .number ≡ 0 → ⊥) → r .number ≡ whole .number
-  pub done : whole .number ≡ 0 → r .number ≡ answer
-
--- a list of one is posted with the set: the whole call's refusal, or the record's answer
+-- a list of one is posted with the set and an index of its own: the whole call's refusal, or the record's answer
 pub record PostsOne (image : List ℕ) (mains : ℕ) (q : calls.Request) (out : List ℕ) (r : Answer) (out′ : List ℕ) : Type 0 where
   pub whole : ℕ
   pub answer : ℕ
-  pub posted : Post image mains (q ∷ []) out (0 ∷ []) whole (r .length) out′ (answer ∷ [])
+  pub index : List ℕ
+  pub index′ : List ℕ
+  pub index-holds : length index ≡ inner.indexLength
+  pub posted : Post image mains (q ∷ []) index out (0 ∷ []) whole (r .length) index′ out′ (answer ∷ [])
   pub refused : (whole ≡ 0 → ⊥) → r .number ≡ whole
   pub done : whole ≡ 0 → r .number ≡ answer
 

@@ -3,15 +3,22 @@ pub mod working;
 
 ghost use mathlib.Core.Path.{_≡_};
 ghost use Prim.Native.Nat.{_≤_};
-ghost use lib.ListN.{length};
+ghost use lib.ListN.{length, take};
+ghost use Rattle.rules.specs.Image.{planOf};
+ghost use Rattle.rules.specs.Index.{indexLength};
+ghost use Rattle.rules.proofs.Reading.{LawfulImage};
+ghost use Rattle.writer.specs.Over.{over};
 ghost use Rattle.posting.specs.Records.{theRequest};
 ghost use Rattle.posting.specs.Standing.{Standing};
-ghost use Rattle.posting.specs.Posting.{Worked, AnsweredNext, PostedAll, Begun, Finished, Posts, OfOne, PostsOne, AllNodes, listed, PostsFirst};
+ghost use Rattle.posting.specs.Posting.{AnsweredNext, PostedAll, Words, Begun, Finished, Settled, Posts, PostsOne, AllNodes, listed, PostsFirst};
 use answers::Answer;
 use image::Book;
 
 // A list has up to 64 requests.
 pub const MOST: usize = 64;
+
+// The tiles of an index.
+const TILES: usize = 100;
 
 // An array of requests has room for a list that is too long.
 pub const LISTED: usize = 100;
@@ -99,16 +106,26 @@ pub fn post_all(
     state
 }
 
-// The whole call's refusals; where there is none, the image in the newest version, of so many bytes, and its index.
+// How many words the index of an image's book has: two for each slot of its tiles.
+fn words_of(image: &[u8]) -> usize
+    requires { ⌜ LawfulImage (now image) ⌝ }
+    ensures { λ r. ⌜ Words (now (image .entry)) r ⌝ }
+{
+    2 * TILES * Book::read(image).plan.slots.0 as usize
+}
+
+// The whole call's refusals, with so many words lent for an index and so many bytes for an image; where there is none, the
+// image in the newest version, of so many bytes, and its index.
 fn begin(
     image: &[u8],
     mains: u64,
     count: usize,
+    words: usize,
     room: usize,
     book: &mut [u8; Book::LONGEST],
     index: &mut [u64; index::WORDS],
 ) -> Answer
-    ensures { λ r. ⌜ Begun (now (image .entry)) mains count room r (now (book .exit)) (now (index .exit)) ⌝ }
+    ensures { λ r. ⌜ Begun (now (image .entry)) mains count words room r (now (book .exit)) (now (index .exit)) ⌝ }
 {
     let number = lawful::verdict(image, index);
     if number != 0 {
@@ -121,6 +138,9 @@ fn begin(
         return answers::refused(26);
     }
     if room < Book::LONGEST {
+        return answers::refused(12);
+    }
+    if words < words_of(image) {
         return answers::refused(12);
     }
     answers::done(transcribing::transcribe(image, book))
@@ -139,40 +159,56 @@ fn finish(book: &[u8], state: State, out: &mut [u8]) -> Answer
     answers::done(length)
 }
 
+// Puts words at the front of a lent index.
+fn put_words(words: &[u64], index: &mut [u64])
+    requires { ⌜ length (now words) ≤ length (now index) ⌝ }
+    ensures { λ _. ⌜ now (index .exit) ≡ over (now (index .entry)) 0 (now (words .entry)) ⌝ }
+{
+    let mut i: usize = 0;
+    while i < words.len() {
+        index[i] = words[i];
+        i += 1;
+    }
+}
+
+// Gives the index of the last book, and writes its image where a record was done.
+fn settle(book: &[u8], words: &[u64], state: State, index: &mut [u64], out: &mut [u8]) -> Answer
+    requires { ⌜ Standing (now book) (state .length) (now words) × (length (now book) ≤ length (now out)) × (indexLength (planOf (take (state .length) (now book))) ≤ length (now index)) ⌝ }
+    ensures { λ r. ⌜ Settled (now (book .entry)) (now (words .entry)) state (now (index .entry)) (now (out .entry)) r (now (index .exit)) (now (out .exit)) ⌝ }
+{
+    let length = state.length;
+    let count = words_of(&book[..length]);
+    put_words(&words[..count], index);
+    finish(book, state, out)
+}
+
 // Posts a list of requests, with only members of the set in the middle of a route: each record receives its own answer,
-// and the image is written once.
-pub fn post(image: &[u8], mains: u64, requests: &mut [Request], out: &mut [u8]) -> Answer
-    ensures { λ r. ⌜ Posts (now (image .entry)) mains (now (requests .entry)) (now (out .entry)) r (now (requests .exit)) (now (out .exit)) ⌝ }
+// the lent index becomes that of the last book, and the image is written once.
+pub fn post(
+    image: &[u8],
+    mains: u64,
+    requests: &mut [Request],
+    index: &mut [u64],
+    out: &mut [u8],
+) -> Answer
+    ensures { λ r. ⌜ Posts (now (image .entry)) mains (now (requests .entry)) (now (index .entry)) (now (out .entry)) r (now (requests .exit)) (now (index .exit)) (now (out .exit)) ⌝ }
 {
     let mut book = [0u8; Book::LONGEST];
-    let mut index = [0u64; index::WORDS];
+    let mut words = [0u64; index::WORDS];
     let begun = begin(
         image,
         mains,
         requests.len(),
+        index.len(),
         out.len(),
         &mut book,
-        &mut index,
+        &mut words,
     );
     if begun.number == 0 {
-        let state = post_all(mains, requests, &mut book, &mut index, begun.length);
-        finish(&book, state, out)
+        let state = post_all(mains, requests, &mut book, &mut words, begun.length);
+        settle(&book, &words, state, index, out)
     } else {
         begun
-    }
-}
-
-// The whole call's number, or the record's answer where it is 0.
-fn of_one(whole: Answer, answer: u8) -> Answer
-    ensures { λ r. ⌜ OfOne whole answer r ⌝ }
-{
-    if whole.number == 0 {
-        Answer {
-            number: answer,
-            length: whole.length,
-        }
-    } else {
-        whole
     }
 }
 
@@ -186,13 +222,34 @@ pub fn all_nodes(image: &[u8]) -> u64
     bitset::below(Book::read(image).nodes)
 }
 
-// Posts a list of one.
+// Posts a list of one, with an index of its own that nobody is given: the whole call's refusal, or the record's answer.
 pub fn post_one(image: &[u8], mains: u64, q: Request, out: &mut [u8]) -> Answer
     ensures { λ r. ⌜ PostsOne (now (image .entry)) mains (theRequest q) (now (out .entry)) r (now (out .exit)) ⌝ }
 {
-    let mut one = [q];
-    let whole = post(image, mains, &mut one, out);
-    of_one(whole, one[0].answer)
+    let mut book = [0u8; Book::LONGEST];
+    let mut words = [0u64; index::WORDS];
+    let begun = begin(
+        image,
+        mains,
+        1,
+        index::WORDS,
+        out.len(),
+        &mut book,
+        &mut words,
+    );
+    if begun.number != 0 {
+        return begun;
+    }
+    let state = State {
+        length: begun.length,
+        done: false,
+    };
+    let answered = answer_next(mains, &mut book, &mut words, state, q);
+    let written = finish(&book, answered.state, out);
+    Answer {
+        number: answered.answer,
+        length: written.length,
+    }
 }
 
 // Posts the first so many records of an array, and gives the array back.
@@ -201,13 +258,14 @@ pub fn post_array(
     mains: u64,
     requests: [Request; LISTED],
     count: usize,
+    index: &mut [u64],
     out: &mut [u8],
 ) -> Listed
     requires { ⌜ count ≤ listed ⌝ }
-    ensures { λ r. ⌜ PostsFirst (now (image .entry)) mains requests count (now (out .entry)) (r .answer) (r .requests) (now (out .exit)) ⌝ }
+    ensures { λ r. ⌜ PostsFirst (now (image .entry)) mains requests count (now (index .entry)) (now (out .entry)) (r .answer) (r .requests) (now (index .exit)) (now (out .exit)) ⌝ }
 {
     let mut list = requests;
-    let answer = post(image, mains, &mut list[..count], out);
+    let answer = post(image, mains, &mut list[..count], index, out);
     Listed {
         answer,
         requests: list,

@@ -67,7 +67,7 @@ done image q out len out′ h = go (ℕ-discrete (h .whole) 0)
     go : Dec (h .whole ≡ 0) → Done image q len out′
     go (no f) = absurd (f (sym (h .refused f)))
     go (yes z) =
-        let (v, b, held, (c, (d, u, e), p)) = h .posted .done z in
+        let (v, b, held, (c, (d, u, e), p, i)) = h .posted .done z in
         let w = subst (λ (mains : ℕ). Work mains b q (h .answer) d) (ap allNodes (stored-nodes held)) u in
         record {
           version = v;

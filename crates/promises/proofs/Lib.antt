@@ -10,3 +10,4 @@ pub mod Needed
 pub mod Lists
 pub mod Orders
 pub mod Mains
+pub mod Index

@@ -119,13 +119,13 @@ module _ (mains : ℕ) where
 
   -- one list
   posting-keeps : (image : List ℕ) (qs : List Request) (n : ℕ) (answers last : List ℕ) → ((q : Request) → q ∈ qs → IdInRange q) → Kept image
-      → Posting (λ (out : List ℕ). Unit {0}) image mains qs n answers last → Kept last
+      → Posting (λ (image index out : List ℕ). Unit {0}) image mains qs n answers last → Kept last
   posting-keeps image qs n answers last small k p = subst Kept (sym (p .last-is)) (go (ℕ-discrete n 0))
     where
       go : Dec (n ≡ 0) → Kept (current image (p .len) (p .out′))
       go (yes z) =
-          let r = ran (k .held) (k .low) qs small (p .out) (p .before) (p .len) (p .out′) answers
-          (subst (λ (m : ℕ). Post image mains qs (p .out) (p .before) m (p .len) (p .out′) answers) z (p .post)) in
+          let r = ran (k .held) (k .low) qs small (p .index) (p .out) (p .before) (p .len) (p .index′) (p .out′) answers
+          (subst (λ (m : ℕ). Post image mains qs (p .index) (p .out) (p .before) m (p .len) (p .index′) (p .out′) answers) z (p .post)) in
           record {
             version = r .version;
             book = r .book;

@@ -7,9 +7,9 @@ use native.Mathlib.Omega.{arith}
 use lib.ListN.{getD}
 use Rattle.rules.specs.Words.{_∈_, Reordered, Each}
 use Rattle.rules.specs.Book.{Row, Book}
-use Rattle.rules.specs.Image.{FullSize, Stored}
+use Rattle.rules.specs.Image.{Stored}
 use Rattle.rules.specs.Calls.{Request}
-use Rattle.rules.specs.Order.{idOf, Posting, SameStream, AsAlone, InAnyOrder}
+use Rattle.rules.specs.Order.{idOf, Posting, SameStream, AsAlone, InAnyOrder, Ample}
 use Rattle.rules.proofs.Lists.{reordered-same}
 use Rattle.rules.proofs.Encoding.{stored-unique}
 use Rattle.order.proofs.Calls.{some-posting, low-posted}
@@ -21,7 +21,7 @@ order-decides-nothing image mains qs i = record {
   last = last;
   every = λ ps m.
       let (ms, last′, p) = i .some ps m in
-      (ms, subst (Posting FullSize image mains ps 0 ms) (i .one ps qs 0 0 ms answers last′ last m (reordered-same qs) p posting) p);
+      (ms, subst (Posting Ample image mains ps 0 ms) (i .one ps qs 0 0 ms answers last′ last m (reordered-same qs) p posting) p);
   others = i .others qs 0 answers last (reordered-same qs) posting;
 }
   where
@@ -31,7 +31,7 @@ order-decides-nothing image mains qs i = record {
     last : List ℕ
     last = i .some qs (reordered-same qs) .1
 
-    posting : Posting FullSize image mains qs 0 answers last
+    posting : Posting Ample image mains qs 0 answers last
     posting = i .some qs (reordered-same qs) .2
 
 -- A YARD
@@ -59,6 +59,6 @@ gets-each R q n (p ∷ ps) (m ∷ ns) (inr g) h = gets-each R q n ps ns g (h .1)
 pub own-request-decides : OwnRequestDecides
 own-request-decides image v b mains held qs qs′ i i′ ps ps′ n n′ ns ns′ last last′ m m′ p p′ q k k′ g g′ =
     let (answers, alone, a) = some-posting held (low-posted qs held (i .some qs (reordered-same qs) .2)) (q ∷ []) (omega arith) in
-    let s = gets-each (AsAlone FullSize image mains last) q k ps ns g (i .each ps n ns last m p .1) 0 answers alone a in
-    let s′ = gets-each (AsAlone FullSize image mains last′) q k′ ps′ ns′ g′ (i′ .each ps′ n′ ns′ last′ m′ p′ .1) 0 answers alone a in
+    let s = gets-each (AsAlone Ample image mains last) q k ps ns g (i .each ps n ns last m p .1) 0 answers alone a in
+    let s′ = gets-each (AsAlone Ample image mains last′) q k′ ps′ ns′ g′ (i′ .each ps′ n′ ns′ last′ m′ p′ .1) 0 answers alone a in
     (ap (λ (ks : List ℕ). getD ks 0 0) (sym (s .0) ∙ s′ .0), same-streams (idOf q) last last′ alone (s .1) (s′ .1))

@@ -2,3 +2,4 @@ pub mod Promises
 pub mod OnAir
 pub mod Needed
 pub mod Mains
+pub mod Index

@@ -56,11 +56,11 @@ AllNodesArePlain = (T : Topology) (source destination : ℕ) → Plain T source 
 
 -- BOOKS MADE WITH ONE SET
 
--- lists posted one after the other, all with the set, each on the image that the one before left; the buffers have any size
+-- lists posted one after the other, all with the set, each on the image that the one before left; indexes and buffers have any size
 abbrev pub ByPosts : ℕ → List ℕ → List (List Request) → List ℕ → Type 0
 ByPosts mains image [] last = last ≡ image
 ByPosts mains image (qs ∷ lists) last =
-    (number : ℕ) × (answers between : List ℕ) × Posting (λ (out : List ℕ). Unit {0}) image mains qs number answers between × ByPosts mains between lists last
+    (number : ℕ) × (answers between : List ℕ) × Posting (λ (image index out : List ℕ). Unit {0}) image mains qs number answers between × ByPosts mains between lists last
 
 -- where the book that they start from keeps to the set, so does the last
 abbrev pub PostsKeepTheSet : Type 0

@@ -14,7 +14,7 @@ use Rattle.rules.specs.Image.{newest, FullSize, Stored}
 use Rattle.rules.specs.Table.{Active}
 use Rattle.rules.specs.Calls.{Check, Rewrite, Request, mostRequests, Serve, Balance}
 use Rattle.rules.specs.Calls.Request.{Open, Close}
-use Rattle.rules.specs.Order.{idOf, IdInRange, current, Posting, SameStream, InAnyOrder}
+use Rattle.rules.specs.Order.{idOf, IdInRange, current, Posting, SameStream, InAnyOrder, Ample}
 use Rattle.rules.proofs.Balances.{Works}
 
 -- a check says 0 exactly if the bytes are the image of a lawful book, and that book is the only one
@@ -76,7 +76,7 @@ CloseUndoesOpen =
 abbrev pub PostMovesItsOwn : Type 0
 PostMovesItsOwn =
     (image : List ℕ) (v : ℕ) (b : Book) (mains : ℕ) (qs : List Request) → Stored image v b → NoBitFrom (nodes (b .site .links)) mains → length qs ≤ mostRequests → ((q : Request) → q ∈ qs → IdInRange q)
-    → (number : ℕ) (answers last : List ℕ) → Posting FullSize image mains qs number answers last
+    → (number : ℕ) (answers last : List ℕ) → Posting Ample image mains qs number answers last
     → (w : ℕ) × (c : Book) × Stored last w c × (c .site ≡ b .site)
     × ((r : Row) → Each (λ (q : Request) (n : ℕ). n ≡ 0 → idOf q ≡ r .id → ⊥) qs answers → (r ∈ b .rows) ↔ (r ∈ c .rows))
 
@@ -86,7 +86,7 @@ ListsJoin =
     (image : List ℕ) (v : ℕ) (b : Book) (mains : ℕ) (qs ps : List Request) → Stored image v b → NoBitFrom (nodes (b .site .links)) mains
     → length (qs ++ ps) ≤ mostRequests → ((q : Request) → q ∈ (qs ++ ps) → IdInRange q)
     → (n m k : ℕ) (ns ms ks between last last′ : List ℕ)
-    → Posting FullSize image mains qs n ns between → Posting FullSize between mains ps m ms last → Posting FullSize image mains (qs ++ ps) k ks last′
+    → Posting Ample image mains qs n ns between → Posting Ample between mains ps m ms last → Posting Ample image mains (qs ++ ps) k ks last′
     → (ks ≡ ns ++ ms) × (last′ ≡ last)
 
 -- the calls of the requests by themselves, one after the other, each with a full-size buffer on the image that the one before left
@@ -101,7 +101,7 @@ OneByOne image (q ∷ qs) (n ∷ ns) last =
 abbrev pub ListIsItsCalls : Type 0
 ListIsItsCalls =
     (image : List ℕ) (v : ℕ) (b : Book) (qs : List Request) → Stored image v b → length qs ≤ mostRequests → ((q : Request) → q ∈ qs → IdInRange q)
-    → (n : ℕ) (ns ms last last′ : List ℕ) → OneByOne image qs ns last → Posting FullSize image (allNodes (nodes (b .site .links))) qs n ms last′ → (ms ≡ ns) × (last′ ≡ last)
+    → (n : ℕ) (ns ms last last′ : List ℕ) → OneByOne image qs ns last → Posting Ample image (allNodes (nodes (b .site .links))) qs n ms last′ → (ms ≡ ns) × (last′ ≡ last)
 
 -- IN ANY ORDER: what demand 3 says to those who file requests
 
@@ -114,19 +114,19 @@ Gets q n (p ∷ ps) (m ∷ ns) = ((p ≡ q) × (m ≡ n)) ⊎ Gets q n ps ns
 -- every order of the list can be posted with the set, all come to one image, and in it the streams that no request names stand as before
 pub record OneImage (image : List ℕ) (mains : ℕ) (qs : List Request) : Type 0 where
   pub last : List ℕ
-  pub every : (ps : List Request) → Reordered qs ps → (answers : List ℕ) × Posting FullSize image mains ps 0 answers last
+  pub every : (ps : List Request) → Reordered qs ps → (answers : List ℕ) × Posting Ample image mains ps 0 answers last
   pub others : (id : ℕ) → ((q : Request) → q ∈ qs → idOf q ≡ id → ⊥) → SameStream id last image
 
 -- to the clerk: the order in which envelopes are opened decides nothing
 abbrev pub OrderDecidesNothing : Type 0
-OrderDecidesNothing = (image : List ℕ) (mains : ℕ) (qs : List Request) → InAnyOrder FullSize image mains qs → OneImage image mains qs
+OrderDecidesNothing = (image : List ℕ) (mains : ℕ) (qs : List Request) → InAnyOrder Ample image mains qs → OneImage image mains qs
 
 -- to a yard: its request gets one answer and one stream, whatever else is in the list and in whatever order
 abbrev pub OwnRequestDecides : Type 0
 OwnRequestDecides =
-    (image : List ℕ) (v : ℕ) (b : Book) (mains : ℕ) → Stored image v b → (qs qs′ : List Request) → InAnyOrder FullSize image mains qs → InAnyOrder FullSize image mains qs′
+    (image : List ℕ) (v : ℕ) (b : Book) (mains : ℕ) → Stored image v b → (qs qs′ : List Request) → InAnyOrder Ample image mains qs → InAnyOrder Ample image mains qs′
     → (ps ps′ : List Request) (n n′ : ℕ) (ns ns′ last last′ : List ℕ) → Reordered qs ps → Reordered qs′ ps′
-    → Posting FullSize image mains ps n ns last → Posting FullSize image mains ps′ n′ ns′ last′
+    → Posting Ample image mains ps n ns last → Posting Ample image mains ps′ n′ ns′ last′
     → (q : Request) (m m′ : ℕ) → Gets q m ps ns → Gets q m′ ps′ ns′ → (m ≡ m′) × SameStream (idOf q) last last′
 
 -- PLACINGS, ROUTES, BALANCES

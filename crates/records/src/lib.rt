@@ -94,13 +94,20 @@ fn put(list: [Request; posting::LISTED], count: usize, out: &mut [u8])
     }
 }
 
-// Posts records on a book, with a set of nodes that may stand in the middle; what is lent is an output of so many bytes, and then as many as the records are.
-pub fn post(book: &[u8], mains: u64, records: &[u8], room: usize, lent: &mut [u8]) -> Answer
+// Posts records on a book, with a set of nodes that may stand in the middle and an index; what else is lent is an output of so many bytes, and then as many as the records are.
+pub fn post(
+    book: &[u8],
+    mains: u64,
+    records: &[u8],
+    index: &mut [u64],
+    room: usize,
+    lent: &mut [u8],
+) -> Answer
     requires { ⌜ room + length (now records) ≤ length (now lent) ⌝ }
 {
     let count = count(records);
     let list = read(records, count);
-    let posted = posting::post_array(book, mains, list, count, &mut lent[..room]);
+    let posted = posting::post_array(book, mains, list, count, index, &mut lent[..room]);
     let requests = posted.requests;
     put(requests, count, &mut lent[room..]);
     posted.answer

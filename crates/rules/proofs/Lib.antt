@@ -1,6 +1,7 @@
 pub mod Tests
 pub mod Lists
 pub mod Sets
+pub mod Index
 pub mod Middles
 pub mod Seconds
 pub mod Ways

@@ -11,6 +11,7 @@ use Rattle.rules.specs.Says.{Says}
 use Rattle.rules.specs.Topology.{nodes, allNodes}
 use Rattle.rules.specs.Book.{Book}
 use Rattle.rules.specs.Image.{nodesOf, Stored}
+use Rattle.rules.specs.Index.{Indexed}
 use Rattle.rules.specs.Calls.{SaysOf, Request, Work, InOrder, postRefusals, Posted, Post}
 
 -- the nodes that an image states are those of its book
@@ -22,17 +23,17 @@ pub all-below : (N : ℕ) → NoBitFrom N (allNodes N)
 all-below N = omega (arith, pow-pos N)
 
 -- sets that are the same where the image holds a book post a list alike
-pub post-alike : {image : List ℕ} {mains mains′ : ℕ} {out answers out′ answers′ : List ℕ} {number len : ℕ} (qs : List Request)
-    → ((v : ℕ) (b : Book) → Stored image v b → mains ≡ mains′) → Post image mains qs out answers number len out′ answers′
-    → Post image mains′ qs out answers number len out′ answers′
-post-alike {image} {mains} {mains′} {out} {answers} {out′} {answers′} {number} {len} qs e p = record {
+pub post-alike : {image : List ℕ} {mains mains′ : ℕ} {index out answers index′ out′ answers′ : List ℕ} {number len : ℕ} (qs : List Request)
+    → ((v : ℕ) (b : Book) → Stored image v b → mains ≡ mains′) → Post image mains qs index out answers number len index′ out′ answers′
+    → Post image mains′ qs index out answers number len index′ out′ answers′
+post-alike {image} {mains} {mains′} {index} {out} {answers} {index′} {out′} {answers′} {number} {len} qs e p = record {
   says = go (p .says);
   refused = p .refused;
   done = λ z.
       let (v, b, s, d) = p .done z in
-      (v, b, s, subst (λ (k : ℕ). (c : Book) × InOrder (Work k) b qs answers′ c × Posted answers′ c out len out′) (e v b s) d);
+      (v, b, s, subst (λ (k : ℕ). (c : Book) × InOrder (Work k) b qs answers′ c × Posted answers′ c out len out′ × Indexed c index index′) (e v b s) d);
 }
   where
-    go : SaysOf image (postRefusals mains (length qs) (length out)) number → SaysOf image (postRefusals mains′ (length qs) (length out)) number
+    go : SaysOf image (postRefusals mains (length qs) (length out) (length index)) number → SaysOf image (postRefusals mains′ (length qs) (length out) (length index)) number
     go (inl n) = inl n
-    go (inr (v, b, s, n)) = inr (v, b, s, subst (λ (k : ℕ). Says (postRefusals k (length qs) (length out) v b) number) (e v b s) n)
+    go (inr (v, b, s, n)) = inr (v, b, s, subst (λ (k : ℕ). Says (postRefusals k (length qs) (length out) (length index) v b) number) (e v b s) n)

@@ -17,7 +17,7 @@ numbers (r ∷ rs) = r .number ∷ numbers rs
 -- image; then post, and of its records open and close; rewrite, expand, balance, routes between, keeps to; new book
 pub record Ordered : Type 0 where
   pub image : (s : List ℕ) → numbers (imageRefusals s) ≡ 14 ∷ 13 ∷ 10 ∷ 14 ∷ 11 ∷ 15 ∷ 16 ∷ []
-  pub posts : (mains count room v : ℕ) (b : Book) → numbers (postRefusals mains count room v b) ≡ 25 ∷ 26 ∷ 12 ∷ []
+  pub posts : (mains count room indexRoom v : ℕ) (b : Book) → numbers (postRefusals mains count room indexRoom v b) ≡ 25 ∷ 26 ∷ 12 ∷ []
   pub opens : (mains : ℕ) (q : Asked) (b : Book) → numbers (openRefusals mains q b) ≡ 1 ∷ 4 ∷ 5 ∷ 6 ∷ 2 ∷ 7 ∷ 17 ∷ 18 ∷ 8 ∷ 9 ∷ []
   pub closes : (id : ℕ) (b : Book) → numbers (closeRefusals id b) ≡ 1 ∷ 3 ∷ []
   pub rewrites : (room v : ℕ) (b : Book) → numbers (rewriteRefusals room v b) ≡ 12 ∷ []
@@ -31,7 +31,7 @@ pub record Ordered : Type 0 where
 pub ordered : Ordered
 ordered = record {
   image = λ s. refl;
-  posts = λ mains count room v b. refl;
+  posts = λ mains count room indexRoom v b. refl;
   opens = λ mains q b. refl;
   closes = λ id b. refl;
   rewrites = λ room v b. refl;

@@ -17,6 +17,12 @@ Has n b = bit n b ≡ 1
 abbrev pub NoBitFrom : ℕ → ℕ → Type 0
 NoBitFrom w n = n < 2 ^ w
 
+-- r is the set, in 64 bits, of exactly the numbers with P
+pub record SetOf (P : ℕ → Type 0) (r : ℕ) : Type 0 where
+  pub fits : NoBitFrom 64 r
+  pub only : (k : ℕ) → Has r k → P k
+  pub all : (k : ℕ) → P k → Has r k
+
 -- n is a number of 2 bytes
 abbrev pub TwoBytes : ℕ → Type 0
 TwoBytes n = n < 65536

@@ -4,6 +4,7 @@ use crate::planners::{Planner, Request, Said, Stream};
 use crate::site::{NODES, PLAN, doubled_streams, hearing, linked_topology, streams, topology};
 use reference::image;
 use reference::version::Version;
+use std::cell::RefCell;
 use std::slice;
 
 /// A buffer that holds the longest image.
@@ -11,6 +12,9 @@ const LONGEST_IMAGE: usize = 2960;
 
 /// A buffer that holds the longest table.
 const LONGEST_TABLE: usize = 9600;
+
+/// Words of the longest index: two for each slot of 100 tiles of 32 slots.
+const LONGEST_INDEX: usize = 6400;
 
 /// A buffer that holds the longest list of routes.
 const LONGEST_LIST: usize = 256;
@@ -33,6 +37,10 @@ pub struct Site {
     linked: Vec<u8>,
     /// The empty book of nodes that hear further than they talk.
     heard: Vec<u8>,
+    /// The full book without its last stream.
+    nearly: Vec<u8>,
+    /// The index that is lent to postings.
+    index: RefCell<Vec<u64>>,
 }
 
 impl Site {
@@ -49,11 +57,14 @@ impl Site {
             both: Vec::new(),
             linked: empty_book(planner, &linked_topology(), &linked_topology()),
             heard: empty_book(planner, &topology(), &hearing()),
+            nearly: Vec::new(),
+            index: RefCell::new(vec![0; LONGEST_INDEX]),
         };
         site.empty = empty_book(planner, &site.topology, &site.topology);
         let mut done = |number: u8, _: &[u8]| assert_eq!(number, 0, "every stream has a place");
         site.full = open_all(planner, &site.empty, &site.streams, &mut done);
         site.both = open_all(planner, &site.empty, &site.doubled, &mut done);
+        site.nearly = open_all(planner, &site.empty, &site.streams[..63], &mut done);
         let (_, book) = image::read(&site.full).expect("the full book is lawful");
         site.older = image::write(Version::One, &book);
         site.months = [site.full.clone(), reopened(planner, &site.full, &site.streams[0])];
@@ -89,11 +100,18 @@ pub struct Job {
 /// A check of one image.
 pub const CHECK: Job = Job { name: "check: the full book", run: check };
 
-pub const JOBS: [Job; 18] = [
+/// The opens of a month's end, posted in one list.
+pub const POST_OPENS: Job = Job { name: "post: 64 opens in one list", run: post_opens };
+
+/// The same, one call after the other.
+pub const OPENS: Job = Job { name: "open: 64 streams, one after the other", run: open };
+
+pub const JOBS: [Job; 19] = [
     Job { name: "new: the empty book", run: new },
-    Job { name: "open: 64 streams, one after the other", run: open },
+    Job { name: "open: the last of 64 streams", run: open_last },
+    OPENS,
     Job { name: "open: 32 streams with a second route, one after the other", run: open_doubled },
-    Job { name: "post: 64 opens in one list", run: post_opens },
+    POST_OPENS,
     Job { name: "post: 32 opens with a second route in one list", run: post_doubled },
     Job { name: "post: the same where nodes hear across the corners", run: post_heard },
     CHECK,
@@ -116,6 +134,12 @@ fn new(planner: &dyn Planner, site: &Site, show: Show) {
     show_bytes(show, said, &out);
 }
 
+fn open_last(planner: &dyn Planner, site: &Site, show: Show) {
+    let mut out = [0; LONGEST_IMAGE];
+    let said = planner.open(&site.nearly, &site.streams[63], &mut out);
+    show_bytes(show, said, &out);
+}
+
 fn open(planner: &dyn Planner, site: &Site, show: Show) {
     open_all(planner, &site.empty, &site.streams, show);
 }
@@ -130,29 +154,30 @@ fn open_all(planner: &dyn Planner, empty: &[u8], streams: &[Stream], show: Show)
 }
 
 fn post_opens(planner: &dyn Planner, site: &Site, show: Show) {
-    post_all(planner, &site.empty, &site.streams, |stream| vec![Request::open(stream)], show);
+    post_all(planner, site, &site.empty, &site.streams, |stream| vec![Request::open(stream)], show);
 }
 
 fn post_doubled(planner: &dyn Planner, site: &Site, show: Show) {
-    post_all(planner, &site.empty, &site.doubled, |stream| vec![Request::open(stream)], show);
+    post_all(planner, site, &site.empty, &site.doubled, |stream| vec![Request::open(stream)], show);
 }
 
 fn post_heard(planner: &dyn Planner, site: &Site, show: Show) {
-    post_all(planner, &site.heard, &site.doubled, |stream| vec![Request::open(stream)], show);
+    post_all(planner, site, &site.heard, &site.doubled, |stream| vec![Request::open(stream)], show);
 }
 
 fn post_closes(planner: &dyn Planner, site: &Site, show: Show) {
-    post_all(planner, &site.full, &site.streams, |stream| vec![Request::close(stream)], show);
+    post_all(planner, site, &site.full, &site.streams, |stream| vec![Request::close(stream)], show);
 }
 
 fn post_in_turn(planner: &dyn Planner, site: &Site, show: Show) {
     let anew = |stream: &Stream| vec![Request::close(stream), Request::open(stream)];
-    post_all(planner, &site.full, &site.streams[..32], anew, show);
+    post_all(planner, site, &site.full, &site.streams[..32], anew, show);
 }
 
-/// Posts the requests of every stream in one list, and shows each of their answers.
+/// Posts the requests of every stream in one list, and shows each of their answers and the index.
 fn post_all(
     planner: &dyn Planner,
+    site: &Site,
     book: &[u8],
     streams: &[Stream],
     requests: impl Fn(&Stream) -> Vec<Request>,
@@ -160,11 +185,19 @@ fn post_all(
 ) {
     let mut out = [0; LONGEST_IMAGE];
     let mut list: Vec<Request> = streams.iter().flat_map(requests).collect();
-    let said = planner.post(book, &mut list, &mut out);
+    let mut index = site.index.borrow_mut();
+    let said = planner.post(book, &mut list, &mut index, &mut out);
     show_bytes(show, said, &out);
     for request in &list {
         show(request.answer, &[]);
     }
+    show(said.0, bytes_of(&index));
+}
+
+/// The words of an index as they lie in memory.
+fn bytes_of(index: &[u64]) -> &[u8] {
+    // Safety: every byte of a word is a byte, and the slice is as long as they are.
+    unsafe { slice::from_raw_parts(index.as_ptr().cast(), size_of_val(index)) }
 }
 
 fn check(planner: &dyn Planner, site: &Site, show: Show) {

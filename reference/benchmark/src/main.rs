@@ -1,18 +1,20 @@
 //! Times the planner beside plain C and beside the reference, on the same jobs, and the program `statement` likewise.
 //!
-//! `benchmark WORDS.. -- WORDS..`: the words that run the program `statement`, and those that run it in plain C.
+//! `benchmark WORDS.. -- WORDS..`: the words that run the program `statement`, and those that run it in plain C. Without
+//! words the programs are left out.
 //! Before any timing all three do every job, and each number and each byte that they give back must
 //! be equal. Times are processor times, so that others on the machine count little. The three take turns
 //! within a round; a ratio is the median of the rounds' ratios.
 
 mod clock;
+mod growth;
 mod jobs;
 mod planners;
 mod site;
 mod statements;
 
-use jobs::{CHECK, JOBS, Job, Site};
-use planners::{PlainC, Planner, Proved, Reference};
+use jobs::{CHECK, JOBS, Job, OPENS, POST_OPENS, Site};
+use planners::{PlainC, PlainTest, Planner, Proved, Reference};
 use statements::Statements;
 use std::hint::black_box;
 
@@ -31,9 +33,11 @@ fn main() {
         assert!(ours == given_back(job, &PlainC, &site), "plain C differs: {}", job.name);
         assert!(ours == given_back(job, &Reference, &site), "the reference differs: {}", job.name);
     }
+    let tested = given_back(&POST_OPENS, &PlainTest, &site);
+    assert!(tested == given_back(&POST_OPENS, &Proved, &site), "the plain test differs");
     let words: Vec<String> = std::env::args().skip(1).collect();
-    let statements = Statements::new(&site, &words);
-    let reference = statements.compare();
+    let statements = (!words.is_empty()).then(|| Statements::new(&site, &words));
+    let reference = statements.as_ref().map(Statements::compare);
     println!(
         "| Job | Planner, µs | Plain C, µs | Reference, µs | Planner : plain C | Reference : planner |"
     );
@@ -41,7 +45,34 @@ fn main() {
     for job in &JOBS {
         println!("{}", line(job, &site));
     }
-    print_statements(&statements, &site, reference);
+    if let (Some(statements), Some(reference)) = (statements, reference) {
+        print_statements(&statements, &site, reference);
+    }
+    print_month(&site);
+    growth::print();
+}
+
+/// Prints how long the 64 opens of a month's end take, by each way to do them.
+fn print_month(site: &Site) {
+    let ways: [(&str, &Job, &dyn Planner); 5] = [
+        ("one list, by the index: planner", &POST_OPENS, &Proved),
+        ("one list, by the index: plain C", &POST_OPENS, &PlainC),
+        ("one list, each offset tested against every hop: plain C", &POST_OPENS, &PlainTest),
+        ("64 single calls: planner", &OPENS, &Proved),
+        ("64 single calls: plain C", &OPENS, &PlainC),
+    ];
+    let mut rounds: [Vec<f64>; 5] = Default::default();
+    for _ in 0..ROUNDS {
+        for (all, (_, job, planner)) in rounds.iter_mut().zip(&ways) {
+            all.push(time(job, *planner, site));
+        }
+    }
+    println!("\n| 64 opens | µs | : the planner's list |");
+    println!("|---|--:|--:|");
+    for ((name, _, _), all) in ways.iter().zip(&rounds) {
+        let ratio = of_rounds(all, &rounds[0]);
+        println!("| {name} | {:.1} | {ratio:.2} |", median(all.clone()));
+    }
 }
 
 /// Everything that the calls of a job give back.
@@ -99,15 +130,22 @@ fn print_statements(statements: &Statements, site: &Site, reference: f64) {
     );
 }
 
-/// Microseconds of a job, which is run twice as often until that takes long enough.
+/// Microseconds of a job.
 fn time(job: &Job, planner: &dyn Planner, site: &Site) -> f64 {
+    time_of(|| {
+        (job.run)(planner, site, &mut |number, answer| {
+            black_box((number, answer));
+        });
+    })
+}
+
+/// Microseconds of what is done, which is done twice as often until that takes long enough.
+fn time_of(mut done: impl FnMut()) -> f64 {
     let mut times = 1;
     loop {
         let start = clock::microseconds();
         for _ in 0..times {
-            (job.run)(planner, site, &mut |number, answer| {
-                black_box((number, answer));
-            });
+            done();
         }
         let took = clock::microseconds() - start;
         if took >= LEAST {

@@ -1,4 +1,4 @@
-//! The three planners behind one interface.
+//! The three planners behind one interface, and plain C by the plain test.
 
 use reference::calls::{self, Site};
 use reference::change::Open;
@@ -14,7 +14,13 @@ pub trait Planner {
     fn rewrite(&self, book: &[u8], out: &mut [u8]) -> Said;
     fn open(&self, book: &[u8], stream: &Stream, out: &mut [u8]) -> Said;
     fn close(&self, book: &[u8], id: u16, out: &mut [u8]) -> Said;
-    fn post(&self, book: &[u8], requests: &mut [Request], out: &mut [u8]) -> Said;
+    fn post(
+        &self,
+        book: &[u8],
+        requests: &mut [Request],
+        index: &mut [u64],
+        out: &mut [u8],
+    ) -> Said;
     fn expand(&self, book: &[u8], node: u8, out: &mut [u8]) -> Said;
     fn balance(&self, book: &[u8], node: u8) -> (u8, [u32; 3]);
     fn routes(&self, book: &[u8], source: u8, destination: u8, out: &mut [u8]) -> (Said, bool);
@@ -126,6 +132,8 @@ macro_rules! planner_in_c {
                     mains: u64,
                     requests: *mut Request,
                     count: usize,
+                    index: *mut u64,
+                    index_len: usize,
                     out: *mut u8,
                     out_len: usize,
                     length: *mut usize,
@@ -226,13 +234,22 @@ macro_rules! planner_in_c {
                 })
             }
 
-            fn post(&self, book: &[u8], requests: &mut [Request], out: &mut [u8]) -> Said {
+            fn post(
+                &self,
+                book: &[u8],
+                requests: &mut [Request],
+                index: &mut [u64],
+                out: &mut [u8],
+            ) -> Said {
                 let (image, size) = (book.as_ptr(), book.len());
                 let (list, count) = (requests.as_mut_ptr(), requests.len());
+                let (words, most_words) = (index.as_mut_ptr(), index.len());
                 let (room, most) = (out.as_mut_ptr(), out.len());
                 let mains = all_nodes(book);
                 said(|length| unsafe {
-                    $module::post(image, size, mains, list, count, room, most, length)
+                    $module::post(
+                        image, size, mains, list, count, words, most_words, room, most, length,
+                    )
                 })
             }
 
@@ -309,6 +326,20 @@ planner_in_c!(
     "fast_routes"
 );
 
+planner_in_c!(
+    PlainTest,
+    fast_by_test,
+    "fast_new",
+    "fast_check",
+    "fast_rewrite",
+    "fast_open",
+    "fast_close",
+    "fast_post_by_test",
+    "fast_expand",
+    "fast_balance",
+    "fast_routes"
+);
+
 /// The number that a call gives, and the length that it sets.
 fn said(call: impl FnOnce(&mut usize) -> u8) -> Said {
     let mut length = usize::MAX;
@@ -342,9 +373,15 @@ impl Planner for Reference {
         calls::close(book, id, out)
     }
 
-    fn post(&self, book: &[u8], requests: &mut [Request], out: &mut [u8]) -> Said {
+    fn post(
+        &self,
+        book: &[u8],
+        requests: &mut [Request],
+        index: &mut [u64],
+        out: &mut [u8],
+    ) -> Said {
         let mut records: Vec<Record> = requests.iter().map(record).collect();
-        let said = calls::post(book, all_nodes(book), &mut records, out);
+        let said = calls::post(book, all_nodes(book), &mut records, index, out);
         for (request, record) in requests.iter_mut().zip(records) {
             request.answer = record.answer;
         }

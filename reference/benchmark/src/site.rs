@@ -41,7 +41,7 @@ pub fn linked_topology() -> Vec<u8> {
 }
 
 /// The periods, in tiles, that the streams take in turn.
-const PERIODS: [u16; 11] = [100, 20, 50, 10, 5, 2, 100, 20, 50, 10, 5];
+pub const PERIODS: [u16; 11] = [100, 20, 50, 10, 5, 2, 100, 20, 50, 10, 5];
 
 /// The streams, in order of arrival, which is not that of their ids. All find room, with 504 hops.
 pub fn streams() -> Vec<Stream> {
@@ -60,12 +60,14 @@ fn stream(i: u16, source: u16) -> Stream {
 
 /// Streams with a second route, in order of arrival: two across and two down, 4 hops on either route.
 pub fn doubled_streams() -> Vec<Stream> {
-    (0..32).map(|i| doubled_stream(i, (i * 61 % 64) as u8)).collect()
+    (0..32).map(|i| Stream { second: true, ..stream_on(i, 2, 2, &PERIODS) }).collect()
 }
 
-fn doubled_stream(i: u16, source: u8) -> Stream {
-    let on = |place: u8| if place + 2 < SIDE { place + 2 } else { place - 2 };
-    let destination = on(source % SIDE) + SIDE * on(source / SIDE);
-    let period = PERIODS[usize::from(i) % PERIODS.len()];
-    Stream { id: i * 37 % 64 * 5 + 1, source, destination, period, second: true }
+/// The stream from a node to the one so many across and so many down from it, at most half the grid.
+pub fn stream_on(i: u16, across: u8, down: u8, periods: &[u16]) -> Stream {
+    let source = (i * 61 % 64) as u8;
+    let on = |place: u8, far: u8| if place + far < SIDE { place + far } else { place - far };
+    let destination = on(source % SIDE, across) + SIDE * on(source / SIDE, down);
+    let period = periods[usize::from(i) % periods.len()];
+    Stream { id: i * 37 % 64 * 5 + 1, source, destination, period, second: false }
 }

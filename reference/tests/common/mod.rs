@@ -50,6 +50,11 @@ pub fn all_of(book: &[u8]) -> u64 {
     all(book.get(11).copied().unwrap_or(0)).0
 }
 
+/// An index long enough for any plan.
+pub fn any_index() -> Vec<u64> {
+    vec![0; 2 * 100 * 32]
+}
+
 /// An empty book that hears exactly its links.
 pub fn new_book(plan: (u8, u8, u16, u8, u8), links: &[u8]) -> Vec<u8> {
     new_book_hearing(plan, links, links)

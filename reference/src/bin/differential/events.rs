@@ -20,6 +20,7 @@ const BOTH_CLOSED: &str = "streams closed with both their routes";
 const HEARD_FURTHER: &str = "calls done on a book that hears further than its links";
 const KEPT: &str = "books that keep to a mains set";
 const NOT_KEPT: &str = "books that do not keep to a mains set";
+const SHORT_INDEX: &str = "postings refused for a short index";
 const EMPTY_LIST: &str = "postings of an empty list";
 const NONE_DONE: &str = "postings of which no record was done";
 const ALL_DONE: &str = "postings of which every record was done";
@@ -28,7 +29,7 @@ const LONGEST_LIST: &str = "postings of 64 records";
 const NO_LINKS: &str = "nodes without a link";
 const MOST_LINKS: &str = "nodes with 63 links";
 
-pub const EVENTS: [&str; 19] = [
+pub const EVENTS: [&str; 20] = [
     NO_ROUTE,
     FEW_ROUTES,
     ALL_LISTED,
@@ -41,6 +42,7 @@ pub const EVENTS: [&str; 19] = [
     HEARD_FURTHER,
     KEPT,
     NOT_KEPT,
+    SHORT_INDEX,
     EMPTY_LIST,
     NONE_DONE,
     ALL_DONE,
@@ -52,8 +54,11 @@ pub const EVENTS: [&str; 19] = [
 
 /// The events of one call.
 pub fn events(request: &Request, answer: &Answer) -> Vec<&'static str> {
-    if answer.number != DONE {
-        return Vec::new();
+    let full_size = usize::from(request.room) >= Version::NEWEST.longest_image();
+    match answer.number {
+        DONE => {}
+        12 if request.call == Call::Post && full_size => return vec![SHORT_INDEX],
+        _ => return Vec::new(),
     }
     // The bytes of a new book are its links.
     let Ok((version, book)) = image::read(&request.bytes) else { return Vec::new() };

@@ -157,6 +157,11 @@ fn difference(call: u64, exchange: &Exchange, answer: &Answer) -> String {
         let (good, bad) = (hex(&expected.records), hex(&answer.records));
         text += &format!("records: expected {good}\n         answer   {bad}\n");
     }
+    if let Some(place) = expected.index.iter().zip(&answer.index).position(|(a, b)| a != b) {
+        let word = |index: &[u8]| hex(&index[place / 8 * 8..place / 8 * 8 + 8]);
+        let (good, bad) = (word(&expected.index), word(&answer.index));
+        text += &format!("word {} of the index: expected {good}, answer {bad}\n", place / 8);
+    }
     text
 }
 
@@ -175,10 +180,10 @@ fn show(exchange: &Exchange) -> String {
              second {second}"
         ),
     };
-    let Request { bytes, further, mains, room, fill, .. } = &exchange.request;
+    let Request { bytes, further, mains, room, words, fill, .. } = &exchange.request;
     format!(
         "family {}: {call:?} with {arguments}, mains {mains:016X}, \
-         buffer of {room} bytes {fill:02X}\n\
+         buffer of {room} bytes {fill:02X}, index of {words} words\n\
          {} bytes {}\nand {} bytes {}\n",
         exchange.family,
         bytes.len(),

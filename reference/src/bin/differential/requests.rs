@@ -1,9 +1,11 @@
 //! Requests, plain and thrown.
 
 use crate::dice::Dice;
+use crate::site::open_plan;
 use reference::frame::{Call, Request};
+use reference::index::index_words;
 use reference::node_set::NodeSet;
-use reference::plan::{PERIODS, Plan};
+use reference::plan::{PERIODS, Plan, TILE_SLOTS};
 use reference::record::Record;
 use reference::topology::NODES;
 
@@ -84,7 +86,23 @@ pub fn post(book: &[u8], records: &[Record]) -> Request {
 
 pub fn post_within(book: &[u8], mains: u64, records: &[Record]) -> Request {
     let further = records.iter().flat_map(Record::write).collect();
-    Request { mains, further, ..on(Call::Post, book) }
+    Request { mains, further, words: words_of(book), ..on(Call::Post, book) }
+}
+
+/// Words of the index of a book that has, or claims, the S of its header.
+fn words_of(book: &[u8]) -> u16 {
+    let s = book.get(5).copied().unwrap_or(4).min(*TILE_SLOTS.end());
+    index_words(&open_plan(s)) as u16
+}
+
+/// Mostly just the words needed, or some more; now and then fewer.
+pub fn any_words(dice: &mut Dice, needed: u16) -> u16 {
+    match dice.below(20) {
+        0 => needed.saturating_sub(1),
+        1 => dice.below(usize::from(needed) + 1) as u16,
+        2..=6 => needed + dice.between(1, 5) as u16,
+        _ => needed,
+    }
 }
 
 pub fn keeps_to(book: &[u8], mains: u64) -> Request {
@@ -129,7 +147,8 @@ pub fn any(dice: &mut Dice, call: Call, book: &[u8], ids: &[u16]) -> Request {
         Call::Post => {
             let length = dice.below(6);
             let records: Vec<Record> = (0..length).map(|_| any_record(dice, nodes, ids)).collect();
-            post_within(book, any_mains(dice, nodes), &records)
+            let request = post_within(book, any_mains(dice, nodes), &records);
+            Request { words: any_words(dice, request.words), ..request }
         }
         Call::KeepsTo => keeps_to(book, any_mains(dice, nodes)),
     }

@@ -2,13 +2,15 @@
 
 use crate::dice::Dice;
 use crate::driver::{Driver, Room};
-use crate::requests::{any_mains, any_record, post, post_within};
+use crate::requests::{any_mains, any_record, any_words, post, post_within};
 use crate::site::{
     add_stream, add_with_second, any_image, any_plan, any_topology, empty_book, grid, ids, images,
     line, load, of_links, open_plan, plan_a, ring,
 };
 use reference::book::Book;
 use reference::change::Open;
+use reference::frame::Request;
+use reference::index::index_words;
 use reference::record::Record;
 
 /// The postings whose number is fixed.
@@ -19,6 +21,7 @@ pub fn fixed(driver: &mut Driver, dice: &mut Dice) {
     around_full_books(driver);
     around_full_routes(driver);
     refused_images(driver);
+    index_lengths(driver);
     for _ in 0..40 {
         two_orders(driver, dice);
     }
@@ -170,6 +173,31 @@ fn refused_in_turn(driver: &mut Driver, image: &[u8]) {
     }
 }
 
+/// Indexes of no word, just too short, just long enough and longer, beside
+/// whatever else is refused.
+fn index_lengths(driver: &mut Driver) {
+    for s in [1, 4, 32] {
+        let mut book = empty_book(open_plan(s), ring(6));
+        add_with_second(&mut book, 3, 0, 2, 5);
+        add_stream(&mut book, 4, 5, 3, 100);
+        let needed = index_words(&book.plan) as u16;
+        for image in images(&book) {
+            for words in [0, 1, needed / 2, needed - 1, needed, needed + 1, needed + 60] {
+                for list in [
+                    vec![],
+                    vec![Record::close(9)],
+                    vec![Record::close(3)],
+                    vec![open(1, 0, 1, 1); 65],
+                ] {
+                    for room in [Room::OneShort, Room::Exact] {
+                        driver.ask(Request { words, ..post(&image, &list) }, room);
+                    }
+                }
+            }
+        }
+    }
+}
+
 /// The same opens and closes of two lines far apart, in two orders.
 fn two_orders(driver: &mut Driver, dice: &mut Dice) {
     let links = (1..20).filter(|&node| node != 10).map(|node| (node - 1, node));
@@ -206,7 +234,9 @@ pub fn thrown(driver: &mut Driver, dice: &mut Dice) {
         let list = thrown_list(dice, &book, &mut known, length);
         let room = if dice.chance(80) { Room::Exact } else { Room::any(dice) };
         let mains = any_mains(dice, book.topology.nodes());
-        let answer = driver.ask(post_within(&image, mains, &list), room);
+        let request = post_within(&image, mains, &list);
+        let words = any_words(dice, request.words);
+        let answer = driver.ask(Request { words, ..request }, room);
         if !answer.written().is_empty() {
             image = answer.written().to_vec();
         }

@@ -1,0 +1,56 @@
+-- The words that are kept beside a book are, up to the end of 100 tiles, its index; and how they are given.
+use mathlib.Core.Path.{_≡_, sym, ap, _∙_, subst}
+use mathlib.Core.List.{List}
+use Prim.Native.Nat.{ℕ, _+_, _*_, _<_, _≤_}
+use native.Mathlib.Nat.{zero-add}
+use native.Mathlib.Omega.{arith}
+use lib.ListN.{length, getD, set, take}
+use lib.Seq.{length-take-le, getD-take}
+use Rattle.rules.specs.Words.{SetOf}
+use Rattle.rules.specs.Tiles.{slotsOf, shortTiles}
+use Rattle.rules.specs.Topology.{Hop}
+use Rattle.rules.specs.Book.{Book, LawfulBook}
+use Rattle.rules.specs.Index.{Marks, indexLength, IndexOf}
+use Rattle.rules.proofs.Bytes.{period-small}
+use Rattle.index.specs.Index as inner
+use Rattle.index.specs.Index.{wordAt, Ends}
+use Rattle.clash.specs.Reach.{End, nodeAt}
+use Rattle.clash.specs.Reach.End.{sender, receiver}
+use Rattle.writer.specs.Over.{over}
+use Rattle.writer.proofs.Laws.{copy-turn}
+
+-- THE INDEX of a lawful book
+module _ {b : Book} (l : LawfulBook b) where
+  -- no longer than the words that are kept
+  pub fits-in : indexLength (b .site .plan) ≤ inner.indexLength
+  fits-in = omega (arith, l .site .plan .most)
+
+  -- what has the node at an end in the slot
+  alike : (end : End) (slot word : ℕ) → SetOf (Ends (b .site .plan .slots) (b .rows) end slot) word → SetOf (Marks (nodeAt end) b slot) word
+  alike end slot word s = record {
+    fits = s .fits;
+    only = λ k h.
+        let m = s .only k h in
+        record {
+          row = m .row;
+          hop = m .hop;
+          active = record { row = m .row-there; hop = m .hop-there; takes = m .takes };
+          short = period-small (m .row .period) (l .rows (m .row) (m .row-there) .period);
+          at = m .is-end;
+        };
+    all = λ k m. s .all k (record { row = m .row; row-there = m .active .row; hop = m .hop; hop-there = m .active .hop; takes = m .active .takes; is-end = m .at });
+  }
+
+  pub index-front : {words : List ℕ} → inner.IndexOf (b .site .plan .slots) (b .rows) words → IndexOf b (take (indexLength (b .site .plan)) words)
+  index-front {words} w = record {
+    size = length-take-le n words (omega (arith, w .size, fits-in));
+    sending = λ slot k. alike sender slot _ (subst (SetOf _) (sym (getD-take n words (2 * slot) 0 (omega arith))) (w .sets sender slot (omega (arith, fits-in))));
+    receiving = λ slot k. alike receiver slot _ (subst (SetOf _) (sym (getD-take n words (2 * slot + 1) 0 (omega arith))) (w .sets receiver slot (omega (arith, fits-in))));
+  }
+    where
+      n : ℕ
+      n = indexLength (b .site .plan)
+
+-- GIVING WORDS, turn by turn
+pub front-turn : (d s o : List ℕ) (i : ℕ) → i < length s → length s ≤ length d → o ≡ over d 0 (take i s) → length o ≡ length d → set o i (getD s i 0) ≡ over d 0 (take (i + 1) s)
+front-turn d s o i h l e n = subst (λ (k : ℕ). set o k (getD s i 0) ≡ over d 0 (take (i + 1) s)) (zero-add i) (copy-turn d s o 0 i h (omega arith) e n)
