@@ -1,10 +1,14 @@
-# Completion for bash: commands, options, the last word of open, and files where a book, a plan or a list stands.
+# Completion for bash: commands, options, the last two words of open, and files where a book, a plan or a list stands.
 _lindurask() {
     local word=${COMP_WORDS[COMP_CWORD]} before=${COMP_WORDS[COMP_CWORD - 1]} command=${COMP_WORDS[1]-} choices=
     COMPREPLY=()
     local commands='new check show open close post quote routes table balance diff statement replan page help'
     if [ "$COMP_CWORD" = 1 ]; then
         mapfile -t COMPREPLY < <(compgen -W "$commands --help --version" -- "$word")
+        return
+    fi
+    if [ "$command:$COMP_CWORD" = open:6 ]; then
+        mapfile -t COMPREPLY < <(compgen -W '1 2 5 10 20 50 100 200 500 1000 --mains --help' -- "$word")
         return
     fi
     if [ "$command:$COMP_CWORD" = open:7 ]; then

@@ -68,8 +68,8 @@ int main(void) {
     print_image("The book with stream 9 and its two routes", first, first_length);
 
     /*
-     * The cycle is 100 tiles. Two tiles have 5 data slots, so 250; stream 7 comes 50 times, and stream 9
-     * comes 10 times on either route.
+     * The cycle is 1000 tiles. Two tiles have 5 data slots, so 2500; stream 7 comes 500 times, and stream 9
+     * comes 100 times on either route.
      */
     uint32_t data, used, free_slots;
     number = lindurask_balance(first, first_length, 1, &data, &used, &free_slots);

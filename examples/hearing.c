@@ -31,11 +31,11 @@ static const uint8_t deaf[32] = {
     0, 0, 0, 0, 0, 0, 0, 4,
 };
 
-/* The first slot in which the node sends, read from its table, or -1. */
+/* The first slot in which the node sends, read from the first tiles of its table, or -1. */
 static int first_sent(const uint8_t *book, size_t book_len, uint8_t node) {
     uint8_t table[LINDURASK_LONGEST_TABLE];
     size_t length;
-    if (lindurask_expand(book, book_len, node, table, sizeof table, &length) != 0)
+    if (lindurask_expand(book, book_len, node, 0, LINDURASK_MOST_TILES, table, sizeof table, &length) != 0)
         return -1;
     for (size_t slot = 0; 3 * slot < length; slot++)
         if (table[3 * slot] == 1)

@@ -7,8 +7,9 @@
  * book writes the image of the new book into a second buffer and leaves the first as it is. Nothing
  * is kept between calls, so calls may run in several threads at once, on buffers of their own.
  *
- * Images of versions 1, 2 and 3 are read; in versions 1 and 2 a node hears exactly its neighbours. A
- * new or changed book is written in version 3; lindurask_rewrite keeps the version.
+ * Images of versions 1 to 4 are read; in versions 1 and 2 a node hears exactly its neighbours, and up
+ * to version 3 no stream has a period over 100. A new or changed book is written in version 4;
+ * lindurask_rewrite keeps the version. The cycle is 1,000 tiles, whatever the version.
  *
  * Link with target/staticlib/libplanner.a, which `rt staticlib planner` makes (x86-64 Linux).
  *
@@ -23,7 +24,7 @@
  *    3  close: id not in the book
  *    4  a node number is N or more
  *    5  source is destination
- *    6  period is none of 1, 2, 5, 10, 20, 50, 100
+ *    6  period is none of 1, 2, 5, 10, 20, 50, 100, 200, 500, 1000
  *    7  no route exists between the nodes, of any number of hops, with only nodes of the set in its middle
  *    8  rows would pass 64, or hops would pass 512; a stream has a row for each of its routes
  *    9  no placing exists: no free slots for the stream on its route, or on its second route
@@ -39,6 +40,7 @@
  *   16  image: two clashing hops of different rows meet
  *   17  such routes exist, but every one has over 15 hops
  *   18  no second route: no such route of at most 6 hops that has no middle node in common with the first
+ *   21  tiles outside the cycle, or a count of 0 or over LINDURASK_MOST_TILES
  *   25  the set has a bit from N up
  *   26  over LINDURASK_MOST_REQUESTS requests in a list
  *
@@ -68,10 +70,10 @@
  * - The input, the requests, the index, out, *length, *more, *links, *keeps and the counts of a balance lie apart:
  *   none of them overlaps another. To make the new image the current one, swap the two buffers.
  * - No image is longer than LINDURASK_LONGEST_IMAGE bytes; an output buffer of that size is never
- *   too short for a book, and a call that changes the book takes none that is shorter. A table
- *   takes 300 x S bytes, S the slots of a tile: at most LINDURASK_LONGEST_TABLE. A list of routes
- *   takes at most LINDURASK_LONGEST_LIST. The index of a posting takes 200 x S words: at most
- *   LINDURASK_LONGEST_INDEX.
+ *   too short for a book, and a call that changes the book takes none that is shorter. A part of a
+ *   table takes 3 x S bytes for each of its tiles, S the slots of a tile: at most
+ *   LINDURASK_LONGEST_TABLE. A list of routes takes at most LINDURASK_LONGEST_LIST. The index of a
+ *   posting takes 200 x S words: at most LINDURASK_LONGEST_INDEX.
  * - A call takes up to 60 KB of stack, and nothing from the heap.
  *
  * Every image is otherwise safe to pass: damaged bytes are refused by number.
@@ -87,10 +89,13 @@
 extern "C" {
 #endif
 
-/* The longest image, in bytes: 64 nodes, 64 rows, 512 hops, in version 3. */
-#define LINDURASK_LONGEST_IMAGE 2960
+/* The longest image, in bytes: 64 nodes, 64 rows, 512 hops, in version 4. */
+#define LINDURASK_LONGEST_IMAGE 3024
 
-/* The longest table, in bytes: 100 tiles of 32 slots, 3 bytes an entry. */
+/* The most tiles of a table in one call. */
+#define LINDURASK_MOST_TILES 100
+
+/* The longest part of a table, in bytes: as many tiles of 32 slots, 3 bytes an entry. */
 #define LINDURASK_LONGEST_TABLE 9600
 
 /* The most requests in a list. */
@@ -172,16 +177,18 @@ uint8_t lindurask_open(const uint8_t *book, size_t book_len, uint16_t id, uint8_
 uint8_t lindurask_close(const uint8_t *book, size_t book_len, uint16_t id, uint8_t *out, size_t out_len, size_t *length);
 
 /*
- * Writes a node's slot table for the whole cycle: 100 x S entries of 3 bytes, an operation and then the
- * stream's id, big-endian, 0 where there is none. The operations: 0 sleep, 1 send from above, 2 receive
- * to buffer, 3 forward from buffer, 4 receive for above, 5 control slot; on a second route 17 to 20 for
- * 1 to 4. Refusals: those of an image, then 4, 12.
+ * Writes a part of a node's slot table: so many tiles of the cycle of 1,000, from the first on, which is counted
+ * from 0. Each slot has an entry of 3 bytes, an operation and then the stream's id, big-endian, 0 where there is
+ * none. The operations: 0 sleep, 1 send from above, 2 receive to buffer, 3 forward from buffer, 4 receive for
+ * above, 5 control slot; on a second route 17 to 20 for 1 to 4. Parts that follow each other, joined, are the
+ * table of all their tiles. Refusals: those of an image, then 4, 21, 12.
  */
-uint8_t lindurask_expand(const uint8_t *book, size_t book_len, uint8_t node, uint8_t *out, size_t out_len, size_t *length);
+uint8_t lindurask_expand(const uint8_t *book, size_t book_len, uint8_t node, uint16_t first, uint16_t tiles, uint8_t *out,
+                         size_t out_len, size_t *length);
 
 /*
- * Gives a node's balance over the cycle: its data slots, those in which it sends or receives on any route,
- * and those in which it sleeps; *used + *free_slots = *data. A refusal sets all three to 0. Refusals: those
+ * Gives a node's balance over the cycle of 1,000 tiles: its data slots, those in which it sends or receives on any
+ * route, and those in which it sleeps; *used + *free_slots = *data. A refusal sets all three to 0. Refusals: those
  * of an image, then 4.
  */
 uint8_t lindurask_balance(const uint8_t *book, size_t book_len, uint8_t node, uint32_t *data, uint32_t *used, uint32_t *free_slots);

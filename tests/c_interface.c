@@ -22,7 +22,7 @@ enum { NEW = 0, BALANCE = 6, ROUTES = 7, POST = 8, KEEPS = 9, LINKS = 13 };
 /* A record of a framed posting, the most of them, and how many requests or words stand on either side of a list or an index. */
 enum { RECORD = 11, MOST_RECORDS = 100, BESIDE = 4, WORD = 8 };
 
-_Static_assert(LINDURASK_LONGEST_IMAGE == 16 + 16 * 64 + 6 * 64 + 3 * 512, "64 nodes, 64 rows, 512 hops");
+_Static_assert(LINDURASK_LONGEST_IMAGE == 16 + 16 * 64 + 7 * 64 + 3 * 512, "64 nodes, 64 rows, 512 hops");
 _Static_assert(LINDURASK_LONGEST_TABLE == 3 * 100 * 32, "100 tiles of 32 slots");
 _Static_assert(LINDURASK_LONGEST_LIST == 32 * (1 + 7), "32 routes of 6 hops");
 
@@ -179,7 +179,7 @@ static uint8_t call(const uint8_t *head, const uint8_t *book, size_t len, const 
     case 4:
         return lindurask_close(book, len, id, out, room, &r->length);
     case 5:
-        return lindurask_expand(book, len, source, out, room, &r->length);
+        return lindurask_expand(book, len, source, be16(head + 22), be16(head + 24), out, room, &r->length);
     case BALANCE:
         return lindurask_balance(book, len, source, &r->data, &r->used, &r->free_slots);
     case ROUTES:

@@ -46,7 +46,8 @@
 #elif WRONG == 20 /* a close: the buffer taken for a byte shorter */
 #define lindurask_close(book, len, id, out, room, length) lindurask_close(book, len, id, out, (room) - ((room) > 0), length)
 #elif WRONG == 21 /* a table: a byte behind the buffer */
-#define lindurask_expand(book, len, node, out, room, length) ((out)[room] = 0, lindurask_expand(book, len, node, out, room, length))
+#define lindurask_expand(book, len, node, first, tiles, out, room, length) \
+    ((out)[room] = 0, lindurask_expand(book, len, node, first, tiles, out, room, length))
 #elif WRONG == 22 /* an open: its input changed */
 #define lindurask_open(book, len, ...) ((len) ? ((uint8_t *)(book))[(len) - 1]++ : 0, lindurask_open(book, len, __VA_ARGS__))
 #elif WRONG == 23 /* a posting: a request too few */
@@ -124,6 +125,17 @@
 #elif WRONG == 52 /* a posting: the index a word on */
 #define lindurask_post(book, len, mains, list, count, index, words, ...) \
     lindurask_post(book, len, mains, list, count, (index) + 1, words, __VA_ARGS__)
+#elif WRONG == 53 /* a table: first tile and number of tiles exchanged */
+#define lindurask_expand(book, len, node, first, tiles, ...) lindurask_expand(book, len, node, tiles, first, __VA_ARGS__)
+#elif WRONG == 54 /* a table: from the first tile of the cycle on */
+#define lindurask_expand(book, len, node, first, tiles, ...) lindurask_expand(book, len, node, (first) - (first), tiles, __VA_ARGS__)
+#elif WRONG == 55 /* a table: the first tile in one byte */
+#define lindurask_expand(book, len, node, first, tiles, ...) lindurask_expand(book, len, node, (uint8_t)(first), tiles, __VA_ARGS__)
+#elif WRONG == 56 /* a table: the number of tiles in one byte */
+#define lindurask_expand(book, len, node, first, tiles, ...) lindurask_expand(book, len, node, first, (uint8_t)(tiles), __VA_ARGS__)
+#elif WRONG == 57 /* a table: the buffer taken for a byte longer */
+#define lindurask_expand(book, len, node, first, tiles, out, room, length) \
+    lindurask_expand(book, len, node, first, tiles, out, (room) + 1, length)
 #else
 #error "there is no such wrong interface"
 #endif

@@ -1,9 +1,9 @@
 //! A book's bytes as a person thinks of them. Only bytes that the engine called lawful are read.
 
 /// Tiles of the cycle.
-pub const CYCLE: u16 = 100;
+pub const CYCLE: u16 = 1000;
 /// The periods that a stream may have, in tiles.
-pub const PERIODS: [u16; 7] = [1, 2, 5, 10, 20, 50, 100];
+pub const PERIODS: [u16; 10] = [1, 2, 5, 10, 20, 50, 100, 200, 500, 1000];
 /// The most routes of a book, second ones counted.
 pub const MOST_ROUTES: usize = 64;
 /// The most hops of a book.
@@ -26,13 +26,16 @@ struct Layout {
     way_bytes: usize,
     /// Bytes of a row that say its period.
     period_bytes: usize,
+    /// The longest period.
+    longest: u16,
 }
 
 /// Every version that is read, the newest last.
-const LAYOUTS: [Layout; 3] = [
-    Layout { version: 1, hearing: false, way_bytes: 0, period_bytes: 1 },
-    Layout { version: 2, hearing: false, way_bytes: 1, period_bytes: 1 },
-    Layout { version: 3, hearing: true, way_bytes: 1, period_bytes: 1 },
+const LAYOUTS: [Layout; 4] = [
+    Layout { version: 1, hearing: false, way_bytes: 0, period_bytes: 1, longest: 100 },
+    Layout { version: 2, hearing: false, way_bytes: 1, period_bytes: 1, longest: 100 },
+    Layout { version: 3, hearing: true, way_bytes: 1, period_bytes: 1, longest: 100 },
+    Layout { version: 4, hearing: true, way_bytes: 1, period_bytes: 2, longest: CYCLE },
 ];
 /// The numbers of a stream's routes.
 const FIRST: u8 = 1;
@@ -169,13 +172,14 @@ impl Book {
         let hearing = if layout.hearing { rest.nodes(nodes)? } else { links.clone() };
         let ways = (0..ways).map(|_| rest.way(layout)).collect::<Option<_>>()?;
         let book = Book { version, slots, tiles, kinds, down, up, links, hearing, ways };
-        (rest.0.is_empty() && book.is_sound()).then_some(book)
+        (rest.0.is_empty() && book.is_sound(layout)).then_some(book)
     }
 
     /// What is relied on here holds, whoever called the bytes lawful; the engine asks for more.
-    fn is_sound(&self) -> bool {
+    fn is_sound(&self, layout: &Layout) -> bool {
         let is_sound = |way: &Way| {
             PERIODS.contains(&way.period)
+                && way.period <= layout.longest
                 && way.hops() > 0
                 && way.nodes.iter().all(|&node| node < self.nodes())
                 && way.offsets.is_sorted()

@@ -1,7 +1,8 @@
 //! Where two books differ, and where the nodes' tables first show it.
 
-use crate::book::{Book, Stream, Way, CYCLE};
+use crate::book::{Book, Stream, Way};
 use crate::table::Entry;
+use crate::tiles::Tiles;
 use std::collections::BTreeSet;
 
 /// What the first book has, and what the second has.
@@ -96,8 +97,8 @@ fn streams<'a>(books: Pair<&'a Book>) -> Vec<Pair<Option<Stream<'a>>>> {
     pairs.filter(|[one, other]| one.map(|s| s.ways) != other.map(|s| s.ways)).collect()
 }
 
-/// The first slot, tile by tile, and in it the first node that does not do the same by both books.
-fn seen(books: Pair<&Book>, tables: Pair<&[Vec<Entry>]>) -> Option<Seen> {
+/// The first slot of these tiles, and in it the first node that does not do the same by both books.
+fn seen(books: Pair<&Book>, tiles: Tiles, tables: Pair<&[Vec<Entry>]>) -> Option<Seen> {
     let slots = books.map(|book| book.slots);
     let entry = |book: usize, tile: u16, slot: u8, node: usize| {
         let place = usize::from(tile) * usize::from(slots[book]) + usize::from(slot);
@@ -106,22 +107,22 @@ fn seen(books: Pair<&Book>, tables: Pair<&[Vec<Entry>]>) -> Option<Seen> {
     let nodes = tables[0].len().min(tables[1].len());
     let in_tile = |tile| (0..slots[0].max(slots[1])).map(move |slot| (tile, slot));
     let in_slot = |(tile, slot)| (0..nodes).map(move |node| (tile, slot, node));
-    (0..CYCLE).flat_map(in_tile).flat_map(in_slot).find_map(|(tile, slot, node)| {
+    (0..tiles.count).flat_map(in_tile).flat_map(in_slot).find_map(|(tile, slot, node)| {
         let entries = [0, 1].map(|book| entry(book, tile, slot, node));
         (entries[0] != entries[1]).then_some(Seen { tile, slot, node: node as u8, entries })
     })
 }
 
 impl<'a> Difference<'a> {
-    /// Compares two books, with a table of each for every node of its own.
-    pub fn of(books: Pair<&'a Book>, tables: Pair<&[Vec<Entry>]>) -> Difference<'a> {
+    /// Compares two books, with the tables of each for every node of its own, of the first tiles in which both repeat.
+    pub fn of(books: Pair<&'a Book>, tiles: Tiles, tables: Pair<&[Vec<Entry>]>) -> Difference<'a> {
         Difference {
             books,
             plan: differing(books.map(plan)),
             links: alone(books.map(Book::pairs)),
             heard: alone(books.map(Book::heard_pairs)),
             streams: streams(books),
-            seen: seen(books, tables),
+            seen: seen(books, tiles, tables),
         }
     }
 

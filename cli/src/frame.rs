@@ -2,6 +2,7 @@
 
 use crate::book::{stated_slots, Book};
 use crate::index;
+use crate::tiles::Tiles;
 
 /// Bytes of a request before its book or links; what no call here uses is 0.
 const REQUEST_HEAD: usize = 44;
@@ -21,8 +22,6 @@ const RECORD: usize = 11;
 const WORD: usize = 8;
 /// Bytes of a table's entry: an operation and a stream's id.
 pub const ENTRY: usize = 3;
-/// Room for the table of 32 slots in each of 100 tiles.
-const TABLE_ROOM: u16 = 9600;
 /// Room for 32 routes of a hop byte and 7 nodes.
 const LIST_ROOM: u16 = 256;
 
@@ -170,9 +169,13 @@ pub fn close(book: &[u8], id: u16) -> Request {
     request
 }
 
-pub fn expand(book: &[u8], node: u8) -> Request {
-    let mut request = blank(Call::Expand, book, TABLE_ROOM);
+/// Asks for these tiles of a node's table, which are not more than it is asked for at once.
+pub fn expand(book: &[u8], node: u8, tiles: Tiles) -> Request {
+    let room = ENTRY * usize::from(tiles.count) * usize::from(stated_slots(book));
+    let mut request = blank(Call::Expand, book, room as u16);
     request.bytes[3] = node;
+    request.bytes[22..24].copy_from_slice(&tiles.first.to_be_bytes());
+    request.bytes[24..26].copy_from_slice(&tiles.count.to_be_bytes());
     request
 }
 

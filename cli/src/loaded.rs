@@ -1,12 +1,13 @@
 //! A book that the engine called lawful, with the engine still there to be asked.
 
-use crate::book::{Balance, Book, Stream, CYCLE};
+use crate::book::{Balance, Book, Stream};
 use crate::engine::Engine;
 use crate::files;
 use crate::frame::{self, Answer, Request, Wish};
 use crate::mains::Mains;
 use crate::table::{self, Entry};
 use crate::text::plain;
+use crate::tiles::Tiles;
 use crate::trouble::Trouble;
 use std::path::Path;
 
@@ -95,9 +96,25 @@ impl Loaded {
         self.ask_of(nodes, frame::links)?.into_iter().map(links).collect()
     }
 
-    pub fn tables(&mut self, nodes: &[u8]) -> Result<Vec<Vec<Entry>>, Trouble> {
-        let entries = usize::from(CYCLE) * usize::from(self.book.slots);
-        let table = |answer: Answer| table::decode(&answer.bytes, entries).ok_or_else(unreadable);
-        self.ask_of(nodes, frame::expand)?.into_iter().map(table).collect()
+    /// These tiles of each node's table, asked for in parts and joined; a refusal is about these words.
+    pub fn tables(
+        &mut self,
+        nodes: &[u8],
+        tiles: Tiles,
+        about: &str,
+    ) -> Result<Vec<Vec<Entry>>, Trouble> {
+        let parts = tiles.parts();
+        let of_node = |&node: &u8| parts.iter().map(move |&part| (node, part));
+        let asked = nodes.iter().flat_map(of_node);
+        let requests: Vec<_> =
+            asked.map(|(node, part)| frame::expand(&self.bytes, node, part)).collect();
+        let mut answers = self.engine.ask_all(&requests)?.into_iter();
+        let slots = usize::from(self.book.slots);
+        let mut part = |part: &Tiles| {
+            let answer = accepted(answers.next().expect("an answer for each"), about)?;
+            table::decode(&answer.bytes, usize::from(part.count) * slots).ok_or_else(unreadable)
+        };
+        let mut table = |_: &u8| parts.iter().map(&mut part).collect::<Result<Vec<_>, _>>();
+        nodes.iter().map(|node| Ok(table(node)?.concat())).collect()
     }
 }

@@ -26,6 +26,7 @@ mod statement;
 mod sys;
 mod table;
 mod text;
+mod tiles;
 mod trouble;
 mod words;
 

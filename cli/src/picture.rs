@@ -4,6 +4,7 @@ use crate::book::{Book, Way, CYCLE};
 use crate::colour::Colour;
 use crate::table::{Entry, Work};
 use crate::text::{count, WIDTH};
+use crate::tiles::Tiles;
 
 /// Columns before the first tile of a row.
 const MARGIN: usize = 14;
@@ -12,7 +13,7 @@ const LETTERS: usize = 26;
 /// A tile narrower than this has its number only where that ends in 0 or 5.
 const NARROW: usize = 3;
 
-/// A node of a picture, how many links it has, and its table.
+/// A node of a picture, how many links it has, and what it does in the tiles of the picture.
 pub struct Row<'a> {
     pub node: u8,
     pub links: u8,
@@ -23,7 +24,7 @@ pub struct Row<'a> {
 pub struct Picture<'a> {
     pub book: &'a Book,
     pub rows: Vec<Row<'a>>,
-    pub from: u16,
+    pub tiles: Tiles,
     pub colour: Colour,
 }
 
@@ -45,30 +46,41 @@ pub fn label(book: &Book, place: usize) -> String {
     }
 }
 
+/// Columns of a tile.
+fn width(book: &Book) -> usize {
+    usize::from(book.slots) * letters(book)
+}
+
+/// The tiles of a picture that starts at one of them: as many as fit, up to where it repeats.
+pub fn shown(book: &Book, first: u16) -> Tiles {
+    let most = (WIDTH - MARGIN) / (width(book) + 1);
+    let whole = book.repeats_after();
+    let stop = if whole <= first { CYCLE } else { whole };
+    Tiles { first, count: (stop - first).min(most as u16) }
+}
+
 impl Picture<'_> {
     /// Columns of a tile.
     fn width(&self) -> usize {
-        usize::from(self.book.slots) * letters(self.book)
+        width(self.book)
     }
 
-    /// The first tile that is not shown: as many as fit are, up to where the picture repeats.
+    /// The first tile that is not shown.
     fn end(&self) -> u16 {
-        let most = (WIDTH - MARGIN) / (self.width() + 1);
-        let whole = self.book.repeats_after();
-        let stop = if whole <= self.from { CYCLE } else { whole };
-        stop.min(self.from + most as u16)
+        self.tiles.first + self.tiles.count
     }
 
-    /// A line above the rows: a text for each tile.
+    /// A line above the rows: a text for each tile. One that is wider than its tile goes on over the borders behind it.
     fn heading(&self, title: &str, text: impl Fn(u16) -> String) -> String {
         let width = self.width();
-        let cell = |tile| {
-            let text = text(tile);
-            // A number that is wider than its tile takes the place of the border.
-            let border = if width < text.len() { "" } else { "|" };
-            format!("{text:<width$}{border}")
-        };
-        let cells: String = (self.from..self.end()).map(cell).collect();
+        let tiles = self.tiles.first..self.end();
+        let mut cells = format!("{:width$}|", "").repeat(tiles.len());
+        for (place, tile) in tiles.enumerate() {
+            let (text, start) = (text(tile), place * (width + 1));
+            if start + text.len() <= cells.len() {
+                cells.replace_range(start..start + text.len(), &text);
+            }
+        }
         format!("  {title:<11}|{cells}\n")
     }
 
@@ -95,8 +107,7 @@ impl Picture<'_> {
     }
 
     fn row(&self, &Row { node, links, table }: &Row) -> String {
-        let slots = usize::from(self.book.slots);
-        let tiles = table.chunks(slots).take(self.end().into()).skip(self.from.into());
+        let tiles = table.chunks(self.book.slots.into());
         let marks = |tile: &[Entry]| tile.iter().map(|&entry| self.mark(entry)).collect::<String>();
         let tiles: String = tiles.map(|tile| marks(tile) + "|").collect();
         format!("  node {node:>2} {links:>2} |{tiles}\n")

@@ -1,26 +1,27 @@
 //! The answers by number, in words.
 
 /// What each number says; document 01 has the numbers, and document 02 those from 17 on.
-const WORDS: [(u8, &str); 21] = [
+const WORDS: [(u8, &str); 22] = [
     (0, "done"),
     (1, "a stream's id is never 0"),
     (2, "a stream of this id is in the book already"),
     (3, "no stream of this id is in the book"),
     (4, "the site has no node of this number"),
     (5, "source and destination are the same node"),
-    (6, "a period is 1, 2, 5, 10, 20, 50 or 100 tiles"),
+    (6, "a period is 1, 2, 5, 10, 20, 50, 100, 200, 500 or 1000 tiles"),
     (7, "no route exists between these nodes"),
     (8, "the book is full: 64 routes or 512 hops"),
     (9, "no free slots for this stream"),
     (10, "a number of the plan or of the book's head is out of its range"),
     (11, "links or hearing not sound: a self-link, one-way, unheard or no such node"),
     (12, "no room for the answer"),
-    (13, "this is no book of version 1 to 3: its mark or its version is wrong"),
+    (13, "this is no book of version 1 to 4: its mark or its version is wrong"),
     (14, "the book is cut short, or not as long as its head says"),
     (15, "the rows of the book's streams are not lawful"),
     (16, "hops of two routes clash and meet in a slot"),
     (17, "every route has over 15 hops"),
     (18, "no second route of at most 6 hops by other relays"),
+    (21, "the tiles are not in the cycle of 1000, or are none, or over 100 at once"),
     (25, "the mains set names a node that the site has not"),
     (26, "a list has at most 64 requests"),
 ];

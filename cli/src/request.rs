@@ -28,7 +28,7 @@ impl Asked {
             id: self.id,
             source: self.source.node(),
             destination: self.destination.node(),
-            period: self.period.period(),
+            period: self.period.tiles(),
             second: self.second,
         }
     }

@@ -1,5 +1,6 @@
 //! The words of the command line: operands, options, and what they are as numbers.
 
+use crate::book::CYCLE;
 use crate::lines;
 use crate::mains::Mains;
 use crate::trouble::Trouble;
@@ -47,8 +48,8 @@ impl Number {
         u8::try_from(self.0).unwrap_or(u8::MAX)
     }
 
-    /// The number as a period: one that is too large is the largest, which no stream has.
-    pub fn period(self) -> u16 {
+    /// The number as one of tiles, a period or a tile of the cycle: one that is too large is the largest, which is neither.
+    pub fn tiles(self) -> u16 {
         u16::try_from(self.0).unwrap_or(u16::MAX)
     }
 }
@@ -108,16 +109,32 @@ impl Words {
 
     /// The period at a place.
     pub fn period(&self, place: usize) -> Result<Number, Trouble> {
-        let said = "a period is a number of tiles: 1, 2, 5, 10, 20, 50 or 100";
+        let said = "a period is a number of tiles: 1, 2, 5, 10, 20, 50, 100, 200, 500 or 1000";
         number(&self.operands[place]).ok_or_else(|| misused(said))
     }
 
-    /// The tile at a place of a cycle of so many, where there is one.
-    pub fn tile_if(&self, place: usize, cycle: u16) -> Result<Option<u16>, Trouble> {
+    /// The tile at a place, where there is one.
+    pub fn tile_if(&self, place: usize) -> Result<Option<Number>, Trouble> {
+        self.number_if(place, "a tile is a number, from 0 on")
+    }
+
+    /// The number of tiles at a place, where there is one.
+    pub fn count_if(&self, place: usize) -> Result<Option<Number>, Trouble> {
+        self.number_if(place, "a count of tiles is a number")
+    }
+
+    /// The number at a place, where there is one; what it is, for one who wrote none.
+    fn number_if(&self, place: usize, what: &str) -> Result<Option<Number>, Trouble> {
         let Some(word) = self.operands.get(place) else { return Ok(None) };
-        match number(word) {
-            Some(Number(n)) if n < u64::from(cycle) => Ok(Some(n as u16)),
-            _ => Err(misused(&format!("a tile is a number from 0 to {}", cycle - 1))),
+        number(word).map(Some).ok_or_else(|| misused(what))
+    }
+
+    /// The tile of the cycle at a place, where there is one.
+    pub fn tile_of_cycle(&self, place: usize) -> Result<Option<u16>, Trouble> {
+        let what = format!("a tile is a number from 0 to {}", CYCLE - 1);
+        match self.number_if(place, &what)? {
+            Some(Number(n)) if u64::from(CYCLE) <= n => Err(misused(&what)),
+            tile => Ok(tile.map(Number::tiles)),
         }
     }
 

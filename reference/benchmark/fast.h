@@ -27,7 +27,8 @@ uint8_t fast_post_by_test(const uint8_t *book, size_t book_len, uint64_t mains, 
 uint8_t fast_open(const uint8_t *book, size_t book_len, uint16_t id, uint8_t source, uint8_t destination, uint16_t period,
                   bool second, uint8_t *out, size_t out_len, size_t *length);
 uint8_t fast_close(const uint8_t *book, size_t book_len, uint16_t id, uint8_t *out, size_t out_len, size_t *length);
-uint8_t fast_expand(const uint8_t *book, size_t book_len, uint8_t node, uint8_t *out, size_t out_len, size_t *length);
+uint8_t fast_expand(const uint8_t *book, size_t book_len, uint8_t node, uint16_t first, uint16_t tiles, uint8_t *out,
+                    size_t out_len, size_t *length);
 uint8_t fast_balance(const uint8_t *book, size_t book_len, uint8_t node, uint32_t *data, uint32_t *used, uint32_t *free_slots);
 uint8_t fast_routes(const uint8_t *book, size_t book_len, uint64_t mains, uint8_t source, uint8_t destination, uint8_t *out,
                     size_t out_len, size_t *length, uint8_t *more);

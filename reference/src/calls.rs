@@ -9,7 +9,7 @@ use crate::change::Open;
 use crate::image;
 use crate::index::{index_of, index_words};
 use crate::node_set::NodeSet;
-use crate::plan::Plan;
+use crate::plan::{CYCLE_TILES, Plan};
 use crate::record::Record;
 use crate::refusal::{DONE, Refusal, refuse_if};
 use crate::route::{self, short_routes};
@@ -20,6 +20,9 @@ use crate::version::Version;
 
 /// The most records in a posting.
 pub const MAX_RECORDS: usize = 64;
+
+/// The most tiles expanded in one call.
+pub const MAX_EXPANDED: usize = 100;
 
 /// The most routes listed.
 pub const MAX_LISTED: usize = 32;
@@ -105,10 +108,9 @@ pub fn close(book: &[u8], id: u16, out: &mut [u8]) -> (u8, usize) {
     post_one(book, Record::close(id), out)
 }
 
-/// Expands one node's slot table.
-pub fn expand(book: &[u8], node: u8, out: &mut [u8]) -> (u8, usize) {
-    let bytes = read_with_node(book, node).map(|book| table::write(&table::table(&book, node)));
-    deliver(bytes, out)
+/// Expands so many tiles of one node's slot table, from the first one given.
+pub fn expand(book: &[u8], node: u8, first: u16, tiles: u16, out: &mut [u8]) -> (u8, usize) {
+    deliver(part_of_table(book, node, usize::from(first), usize::from(tiles)), out)
 }
 
 /// Gives one node's balance: number, data, used, free.
@@ -217,6 +219,15 @@ fn read_with_node(book: &[u8], node: u8) -> Result<Book, Refusal> {
     let book = read(book)?;
     refuse_if(node >= book.topology.nodes(), Refusal::NoSuchNode)?;
     Ok(book)
+}
+
+/// The bytes of these tiles of a node's table.
+fn part_of_table(book: &[u8], node: u8, first: usize, tiles: usize) -> Result<Vec<u8>, Refusal> {
+    let book = read_with_node(book, node)?;
+    let in_range = (1..=MAX_EXPANDED).contains(&tiles) && first + tiles <= CYCLE_TILES;
+    refuse_if(!in_range, Refusal::TilesOutOfRange)?;
+    let slots = book.plan.tile_slots();
+    Ok(table::write(&table::table(&book, node)[first * slots..(first + tiles) * slots]))
 }
 
 /// The routes to list, and one more if there are more.

@@ -3,7 +3,7 @@
 use crate::book::{Book, MAX_HOPS, MAX_ROWS};
 use crate::node_set::NodeSet;
 use crate::placing::first_placing;
-use crate::plan::period_of;
+use crate::plan::PERIODS;
 use crate::refusal::{Refusal, refuse_if};
 use crate::route::{planners_route, second_route};
 use crate::row::{FIRST_ROUTE, Row, SECOND_ROUTE};
@@ -26,7 +26,7 @@ pub fn open(book: &Book, mains: NodeSet, asked: Open) -> Result<Book, Refusal> {
     refuse_if(id == 0, Refusal::IdIsZero)?;
     refuse_if(source.max(destination) >= book.topology.nodes(), Refusal::NoSuchNode)?;
     refuse_if(source == destination, Refusal::SourceIsDestination)?;
-    let period = period_of(period).ok_or(Refusal::NoSuchPeriod)?;
+    refuse_if(!PERIODS.contains(&period), Refusal::NoSuchPeriod)?;
     refuse_if(book.holds(id), Refusal::IdInBook)?;
     let first = planners_route(&book.topology, mains, source, destination)?;
     let mut routes = vec![(FIRST_ROUTE, first.clone())];

@@ -24,7 +24,9 @@
 //! |       | balance, keeps to and links, which have none                   |
 //! | 18    | fill byte of the output buffer                                 |
 //! | 19    | 1 to ask for a second route, otherwise 0 (open)                |
-//! | 20–25 | 0                                                              |
+//! | 20–21 | 0                                                              |
+//! | 22–23 | first tile (expand)                                            |
+//! | 24–25 | number of tiles (expand)                                       |
 //! | 26–33 | mains set (routes, post, keeps to)                             |
 //! | 34–37 | 0                                                              |
 //! | 38–39 | length of the hearing (new), at most 1,024                     |
@@ -61,12 +63,11 @@
 //! | then  | the records, then the index (post)                             |
 //!
 //! What is 0 is for document 02's other requests, and so are calls 10 to 12:
-//! 20–21 account (W11); 22–23 first tile and 24–25 tiles (W10); 34–37 amount
-//! (W11); further bytes that are the accounts (W11) or the tables (W9); 42–43
-//! length of the report, in bytes (W7); bytes 8–9 of a record, its account
-//! (W11). Call 10 is purchase (W11), 11 salvage (W7), 12 book of (W9). In an
-//! answer the report is last; bytes 5–8 and 9–12 are salvage's rows and bytes
-//! lost.
+//! 20–21 account (W11); 34–37 amount (W11); further bytes that are the accounts
+//! (W11) or the tables (W9); 42–43 length of the report, in bytes (W7); bytes
+//! 8–9 of a record, its account (W11). Call 10 is purchase (W11), 11 salvage
+//! (W7), 12 book of (W9). In an answer the report is last; bytes 5–8 and 9–12
+//! are salvage's rows and bytes lost.
 //!
 //! A request with call 255 is a header only, has no answer and ends the
 //! stream, as does the end of the input between two frames. Answers may be

@@ -1,6 +1,6 @@
 //! Hops: when two clash and when two meet.
 
-use crate::slots::SlotSet;
+use crate::slots::Slots;
 use crate::topology::Topology;
 
 /// A hop, sender → receiver.
@@ -34,13 +34,13 @@ pub fn clash(topology: &Topology, one: Hop, two: Hop) -> bool {
 }
 
 /// A hop and the slots it takes.
-#[derive(Clone, Debug)]
+#[derive(Clone, Copy, Debug)]
 pub struct PlacedHop {
     pub hop: Hop,
-    pub slots: SlotSet,
+    pub slots: Slots,
 }
 
 /// Two hops meet if they take a slot in common.
 pub fn meet(one: &PlacedHop, two: &PlacedHop) -> bool {
-    one.slots.has_common_slot(&two.slots)
+    one.slots.has_common_slot(two.slots)
 }

@@ -34,7 +34,8 @@ pub fn read(image: &[u8]) -> Result<(Version, Book), Refusal> {
     let rows = read_rows(version, rows, header.rows).ok_or(Refusal::UnlawfulRows)?;
     let book = Book { plan: header.plan, topology, rows };
     refuse_if(book.hops() != header.hops, Refusal::UnlawfulRows)?;
-    refuse_if(!rows_are_lawful(&book), Refusal::UnlawfulRows)?;
+    let lawful = version.fits(&book) && rows_are_lawful(&book);
+    refuse_if(!lawful, Refusal::UnlawfulRows)?;
     refuse_if(clashing_hops_meet(&book), Refusal::ClashingHopsMeet)?;
     Ok((version, book))
 }
@@ -86,7 +87,7 @@ fn read_rows(version: Version, bytes: &[u8], count: usize) -> Option<Vec<Row>> {
 fn read_row(version: Version, rest: &mut &[u8]) -> Option<Row> {
     let id = two_bytes(take(rest, 2)?);
     let route = if version.stores_route() { take(rest, 1)?[0] } else { FIRST_ROUTE };
-    let period = take(rest, 1)?[0];
+    let period = number(take(rest, version.period_bytes())?);
     let hops = usize::from(take(rest, 1)?[0]);
     let nodes = take(rest, hops + 1)?.to_vec();
     let offsets = take(rest, 2 * hops)?.chunks(2).map(two_bytes).collect();
@@ -102,6 +103,11 @@ fn take<'a>(rest: &mut &'a [u8], count: usize) -> Option<&'a [u8]> {
 
 fn two_bytes(bytes: &[u8]) -> u16 {
     u16::from_be_bytes([bytes[0], bytes[1]])
+}
+
+/// A number of one byte or two.
+fn number(bytes: &[u8]) -> u16 {
+    bytes.iter().fold(0, |number, &byte| 256 * number + u16::from(byte))
 }
 
 /// Writes a book as its image, in a version that fits it.
@@ -130,7 +136,8 @@ fn write_row(version: Version, row: &Row, image: &mut Vec<u8>) {
     if version.stores_route() {
         image.push(row.route);
     }
-    image.extend([row.period, row.offsets.len() as u8]);
+    image.extend(&row.period.to_be_bytes()[2 - version.period_bytes()..]);
+    image.push(row.offsets.len() as u8);
     image.extend(&row.nodes);
     image.extend(row.offsets.iter().flat_map(|offset| offset.to_be_bytes()));
 }

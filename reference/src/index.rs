@@ -1,13 +1,10 @@
 //! The index by slot: who sends and who receives there.
 
 use crate::book::Book;
-use crate::plan::Plan;
+use crate::plan::{LONGEST_QUICK_PERIOD, Plan};
 
 /// The tiles that the index covers.
 pub const INDEX_TILES: usize = 100;
-
-/// The longest period of a row in the index.
-const LONGEST_PERIOD: u8 = 100;
 
 /// Words of the index under this plan: two for each slot, the set of nodes
 /// sending, then of nodes receiving.
@@ -18,7 +15,7 @@ pub fn index_words(plan: &Plan) -> usize {
 /// What the rows of the book say.
 pub fn index_of(book: &Book) -> Vec<u64> {
     let mut words = vec![0; index_words(&book.plan)];
-    for row in book.rows.iter().filter(|row| row.period <= LONGEST_PERIOD) {
+    for row in book.rows.iter().filter(|row| row.period <= LONGEST_QUICK_PERIOD) {
         for placed in row.placed_hops(&book.plan) {
             let covered = |slot: &usize| *slot < INDEX_TILES * book.plan.tile_slots();
             for slot in placed.slots.iter().filter(covered) {

@@ -2,30 +2,28 @@
 
 use crate::book::{Book, MAX_ROUTE_HOPS, MAX_SHORT_HOPS};
 use crate::hop::{PlacedHop, clash, hops_of, meet};
-use crate::plan::{Plan, period_of};
+use crate::plan::{PERIODS, Plan};
 use crate::route::have_common_middle;
 use crate::row::{FIRST_ROUTE, Row, SECOND_ROUTE};
-use crate::slots::SlotSet;
 use crate::topology::Topology;
 
 /// The rows are lawful one by one, rise strictly by id and then route, and
 /// every second route is lawful beside its first.
 pub fn rows_are_lawful(book: &Book) -> bool {
-    let data = book.plan.data_slots();
-    let lawful = |row| row_is_lawful(row, &book.plan, &data, &book.topology);
+    let lawful = |row| row_is_lawful(row, &book.plan, &book.topology);
     rises_strictly(book.rows.iter().map(Row::key))
         && book.rows.iter().all(lawful)
         && second_routes_are_lawful(&book.rows)
 }
 
-/// One row by itself is lawful; `data` are the data slots of the plan.
-fn row_is_lawful(row: &Row, plan: &Plan, data: &SlotSet, topology: &Topology) -> bool {
+/// One row by itself is lawful.
+fn row_is_lawful(row: &Row, plan: &Plan, topology: &Topology) -> bool {
     row.id != 0
         && [FIRST_ROUTE, SECOND_ROUTE].contains(&row.route)
-        && period_of(u16::from(row.period)).is_some()
+        && PERIODS.contains(&row.period)
         && (1..=MAX_ROUTE_HOPS).contains(&row.offsets.len())
         && nodes_are_lawful(&row.nodes, topology)
-        && offsets_are_lawful(row, plan, data)
+        && offsets_are_lawful(row, plan)
 }
 
 /// Nodes distinct, below N and each linked to the next.
@@ -36,10 +34,11 @@ fn nodes_are_lawful(nodes: &[u8], topology: &Topology) -> bool {
 }
 
 /// Offsets rise, stay below K×S and take only data slots in all repeats.
-fn offsets_are_lawful(row: &Row, plan: &Plan, data: &SlotSet) -> bool {
+fn offsets_are_lawful(row: &Row, plan: &Plan) -> bool {
     let lawful = |&offset: &u16| {
         let offset = usize::from(offset);
-        offset < plan.period_slots(row.period) && plan.slots_of(offset, row.period).is_within(data)
+        offset < plan.period_slots(row.period)
+            && plan.slots_of(offset, row.period).iter().all(|slot| plan.is_data(slot))
     };
     rises_strictly(row.offsets.iter()) && row.offsets.iter().all(lawful)
 }

@@ -1,9 +1,9 @@
 //! The reference planner: documents 01 and 02 written out by definition.
 //!
 //! It shares no code, table or test vector with the proved planner, and it is
-//! slow and plain where the proved planner is quick: a hop takes a *set* of
-//! slots, two hops meet if their sets have a slot in common, and a book is a
-//! struct with a list of rows.
+//! slow and plain where the proved planner is quick: two hops meet if one of the
+//! slots that the one takes is a slot of the other, and a book is a struct with
+//! a list of rows.
 //!
 //! One subject a file, in document 01's order:
 //! `plan`, `slots` (tiles, slots, periods); `node_set`, `topology`, `route`,

@@ -3,7 +3,6 @@
 
 use crate::book::Book;
 use crate::hop::{Hop, clash, hops_of};
-use crate::slots::SlotSet;
 
 /// The first placing of a route with this period; none if there is no placing.
 ///
@@ -12,7 +11,7 @@ use crate::slots::SlotSet;
 /// lowest serving offset above the one before gives the first list. And if any
 /// list exists, hop by hop its offsets are at or above these, so none is
 /// missed.
-pub fn first_placing(book: &Book, route: &[u8], period: u8) -> Option<Vec<u16>> {
+pub fn first_placing(book: &Book, route: &[u8], period: u16) -> Option<Vec<u16>> {
     let mut offsets = Vec::new();
     let mut lowest = 0;
     for hop in hops_of(route) {
@@ -24,20 +23,20 @@ pub fn first_placing(book: &Book, route: &[u8], period: u8) -> Option<Vec<u16>> 
 }
 
 /// The offsets below K×S whose slots, in all repeats, are free for the hop.
-pub fn serving_offsets(book: &Book, hop: Hop, period: u8) -> impl Iterator<Item = usize> + '_ {
+pub fn serving_offsets(book: &Book, hop: Hop, period: u16) -> impl Iterator<Item = usize> + '_ {
     let free = free_slots(book, hop);
     (0..book.plan.period_slots(period))
-        .filter(move |&offset| book.plan.slots_of(offset, period).is_within(&free))
+        .filter(move |&offset| book.plan.slots_of(offset, period).iter().all(|slot| free[slot]))
 }
 
-/// The data slots that no clashing hop of the book takes.
-fn free_slots(book: &Book, hop: Hop) -> SlotSet {
-    let mut free = book.plan.data_slots();
-    for row in &book.rows {
-        for placed in row.placed_hops(&book.plan) {
-            if clash(&book.topology, hop, placed.hop) {
-                free.remove_all(&placed.slots);
-            }
+/// For each slot of the cycle, whether it is a data slot that no clashing hop of
+/// the book takes.
+fn free_slots(book: &Book, hop: Hop) -> Vec<bool> {
+    let mut free: Vec<bool> =
+        (0..book.plan.cycle_slots()).map(|slot| book.plan.is_data(slot)).collect();
+    for placed in book.rows.iter().flat_map(|row| row.placed_hops(&book.plan)) {
+        if clash(&book.topology, hop, placed.hop) {
+            placed.slots.iter().for_each(|slot| free[slot] = false);
         }
     }
     free

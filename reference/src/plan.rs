@@ -1,27 +1,25 @@
 //! The tile plan: which slots of the cycle are control and which are data.
 
-use crate::slots::SlotSet;
-use std::ops::{Range, RangeInclusive};
+use crate::slots::Slots;
+use std::ops::RangeInclusive;
 
 /// Tiles in a cycle.
-pub const CYCLE_TILES: usize = 100;
+pub const CYCLE_TILES: usize = 1000;
 
 /// The fewest and the most slots of a tile.
 pub const TILE_SLOTS: RangeInclusive<u8> = 1..=32;
 
 /// The periods a stream may have, in tiles.
-pub const PERIODS: [u8; 7] = [1, 2, 5, 10, 20, 50, 100];
+pub const PERIODS: [u16; 10] = [1, 2, 5, 10, 20, 50, 100, 200, 500, 1000];
+
+/// The longest period that document 01 knows.
+pub const LONGEST_QUICK_PERIOD: u16 = 100;
 
 /// The tile counts after which a plan may repeat.
 pub const PLAN_TILES: [u8; 5] = [1, 2, 4, 5, 10];
 
-/// The period K, if `period` is one of the seven.
-pub fn period_of(period: u16) -> Option<u8> {
-    PERIODS.into_iter().find(|&k| u16::from(k) == period)
-}
-
 /// How often a stream of period K repeats in a cycle.
-pub fn repeats(period: u8) -> usize {
+pub fn repeats(period: u16) -> usize {
     CYCLE_TILES / usize::from(period)
 }
 
@@ -61,25 +59,19 @@ impl Plan {
     }
 
     /// Slots in a period of K tiles: K×S.
-    pub fn period_slots(&self, period: u8) -> usize {
+    pub fn period_slots(&self, period: u16) -> usize {
         usize::from(period) * self.tile_slots()
     }
 
     /// The slots a hop with this offset takes: o, o + K×S, o + 2×K×S and so on
     /// to the end of the cycle.
-    pub fn slots_of(&self, offset: usize, period: u8) -> SlotSet {
-        (offset..self.cycle_slots()).step_by(self.period_slots(period)).collect()
+    pub fn slots_of(&self, offset: usize, period: u16) -> Slots {
+        Slots { first: offset, step: self.period_slots(period), end: self.cycle_slots() }
     }
 
-    /// The data slots of the cycle.
-    pub fn data_slots(&self) -> SlotSet {
-        (0..CYCLE_TILES).flat_map(|tile| self.data_slots_of(tile)).collect()
-    }
-
-    /// The slots of this tile of the cycle that follow its control slots.
-    fn data_slots_of(&self, tile: usize) -> Range<usize> {
-        let start = tile * self.tile_slots();
-        start + self.control_slots(tile)..start + self.tile_slots()
+    /// The slot follows the control slots of its tile.
+    pub fn is_data(&self, slot: usize) -> bool {
+        slot % self.tile_slots() >= self.control_slots(slot / self.tile_slots())
     }
 
     /// Control slots at the head of this tile of the cycle.

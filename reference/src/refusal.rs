@@ -17,7 +17,7 @@ pub enum Refusal {
     NoSuchNode = 4,
     /// The source is the destination.
     SourceIsDestination = 5,
-    /// The period is none of the seven.
+    /// The period is none of the ten.
     NoSuchPeriod = 6,
     /// No allowed route exists.
     NoRoute = 7,
@@ -46,6 +46,8 @@ pub enum Refusal {
     TooFar = 17,
     /// No such second route.
     NoSecondRoute = 18,
+    /// Tiles outside the cycle, or a count of 0 or over 100.
+    TilesOutOfRange = 21,
     /// A mains set with a bit from N up.
     MainsOutOfRange = 25,
     /// Over 64 records.

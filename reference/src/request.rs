@@ -19,6 +19,9 @@ pub struct Request {
     pub period: u16,
     /// An open asks for a second route.
     pub second: bool,
+    /// The first tile of an expand, and how many.
+    pub first: u16,
+    pub tiles: u16,
     pub mains: u64,
     pub s: u8,
     pub c: u8,
@@ -50,6 +53,8 @@ impl Request {
             destination: 0,
             period: 0,
             second: false,
+            first: 0,
+            tiles: 0,
             mains: 0,
             s: 0,
             c: 0,
@@ -81,6 +86,8 @@ impl Request {
         put(14, &(self.bytes.len() as u16).to_be_bytes());
         put(16, &self.room.to_be_bytes());
         put(18, &[self.fill, u8::from(self.second)]);
+        put(22, &self.first.to_be_bytes());
+        put(24, &self.tiles.to_be_bytes());
         put(26, &self.mains.to_be_bytes());
         put(38, &(self.hearing.len() as u16).to_be_bytes());
         put(40, &(self.further.len() as u16).to_be_bytes());
@@ -108,6 +115,8 @@ impl Request {
             destination: header[4],
             period: number(5),
             second: header[19] != 0,
+            first: number(22),
+            tiles: number(24),
             mains: u64::from_be_bytes(header[26..34].try_into().expect("eight bytes")),
             s: header[7],
             c: header[8],
@@ -155,7 +164,7 @@ impl Request {
             Call::Rewrite => calls::rewrite(book, out),
             Call::Open => calls::open(book, self.open(), out),
             Call::Close => calls::close(book, self.id, out),
-            Call::Expand => calls::expand(book, self.node, out),
+            Call::Expand => calls::expand(book, self.node, self.first, self.tiles, out),
             Call::Balance => {
                 let (number, data, used, free) = calls::balance(book, self.node);
                 return (number, [data, used, free]);

@@ -16,7 +16,7 @@ pub struct Row {
     /// Which route of the stream: 1 or 2.
     pub route: u8,
     /// K, in tiles.
-    pub period: u8,
+    pub period: u16,
     /// The node list, from source to destination.
     pub nodes: Vec<u8>,
     /// One offset a hop, in slots.

@@ -63,9 +63,9 @@ pub fn table(book: &Book, node: u8) -> Vec<Entry> {
 
 /// The table of a node that no row touches.
 fn idle_table(book: &Book) -> Vec<Entry> {
-    let data = book.plan.data_slots();
+    let plan = &book.plan;
     let entry = |slot| {
-        let operation = if data.contains(slot) { Operation::Sleep } else { Operation::ControlSlot };
+        let operation = if plan.is_data(slot) { Operation::Sleep } else { Operation::ControlSlot };
         Entry { operation, second: false, id: 0 }
     };
     (0..book.plan.cycle_slots()).map(entry).collect()
@@ -81,7 +81,7 @@ fn receive(last: bool) -> Operation {
     if last { Operation::ReceiveForAbove } else { Operation::ReceiveToBuffer }
 }
 
-/// The table as bytes, three an entry.
+/// Some entries as bytes, three each.
 pub fn write(entries: &[Entry]) -> Vec<u8> {
     let bytes = |entry: &Entry| {
         let [high, low] = entry.id.to_be_bytes();
@@ -101,13 +101,13 @@ pub struct Balance {
 pub fn balance(book: &Book, node: u8) -> Balance {
     let asleep = |entry: &Entry| entry.operation == Operation::Sleep;
     Balance {
-        data: book.plan.data_slots().iter().count() as u32,
+        data: (0..book.plan.cycle_slots()).filter(|&slot| book.plan.is_data(slot)).count() as u32,
         used: used(book, node),
         free: table(book, node).into_iter().filter(asleep).count() as u32,
     }
 }
 
-/// The sum over hops touching the node of 100/K.
+/// The sum over hops touching the node of 1000/K.
 fn used(book: &Book, node: u8) -> u32 {
     let of_row =
         |row: &Row| row.hops().filter(|hop| hop.touches(node)).count() * repeats(row.period);

@@ -1,6 +1,7 @@
 //! The versions of an image, and what each of them stores.
 
 use crate::book::{Book, MAX_HOPS, MAX_ROWS};
+use crate::plan::LONGEST_QUICK_PERIOD;
 use crate::row::FIRST_ROUTE;
 use crate::topology::NODES;
 
@@ -25,13 +26,15 @@ pub enum Version {
     Two = 2,
     /// Who hears whom is stored beside the links.
     Three = 3,
+    /// K has two bytes.
+    Four = 4,
 }
 
 impl Version {
-    pub const ALL: [Version; 3] = [Version::One, Version::Two, Version::Three];
+    pub const ALL: [Version; 4] = [Version::One, Version::Two, Version::Three, Version::Four];
 
     /// The version in which new and changed books are written.
-    pub const NEWEST: Version = Version::Three;
+    pub const NEWEST: Version = Version::Four;
 
     pub fn of_number(number: u16) -> Option<Version> {
         Version::ALL.into_iter().find(|&version| version as u16 == number)
@@ -47,16 +50,27 @@ impl Version {
         self >= Version::Three
     }
 
+    /// Bytes of a period.
+    pub fn period_bytes(self) -> usize {
+        if self >= Version::Four { 2 } else { 1 }
+    }
+
+    /// The longest period of a row.
+    fn longest_period(self) -> u16 {
+        if self >= Version::Four { u16::MAX } else { LONGEST_QUICK_PERIOD }
+    }
+
     /// What the book holds can be said in this version.
     pub fn fits(self, book: &Book) -> bool {
-        (self.stores_route() || book.rows.iter().all(|row| row.route == FIRST_ROUTE))
+        book.rows.iter().all(|row| row.period <= self.longest_period())
+            && (self.stores_route() || book.rows.iter().all(|row| row.route == FIRST_ROUTE))
             && (self.stores_hearing() || book.topology.hearing == book.topology.links)
     }
 
     /// Bytes of a row beside those of its hops: id, route, K, hop count and
     /// the source.
     pub fn row_bytes(self) -> usize {
-        2 + usize::from(self.stores_route()) + 1 + 1 + 1
+        2 + usize::from(self.stores_route()) + self.period_bytes() + 1 + 1
     }
 
     /// Bytes of the links, and if they are stored of the hearing, of a site with

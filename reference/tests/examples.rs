@@ -59,7 +59,7 @@ fn p5_a_close_makes_room() {
 fn p6_meet_first_in_slot_27() {
     let plan = Plan { s: 4, c: 1, kinds: 0, d: 0, u: 0 };
     let (two, five) = (plan.slots_of(3, 2), plan.slots_of(7, 5));
-    assert!(two.has_common_slot(&five));
+    assert!(two.has_common_slot(five));
     assert_eq!(two.iter().find(|&slot| five.contains(slot)), Some(27));
 }
 
@@ -85,14 +85,14 @@ fn p8_clashes_in_line_a() {
 
 #[test]
 fn p9_operations_of_node_2() {
-    let table = written(|out| calls::expand(&p2(), 2, out));
+    let table = written(|out| calls::expand(&p2(), 2, 0, 100, out));
     for version in Version::ALL {
-        assert_eq!(written(|out| calls::expand(&stored(version, &p2()), 2, out)), table);
+        assert_eq!(written(|out| calls::expand(&stored(version, &p2()), 2, 0, 100, out)), table);
     }
     assert_eq!(table.len(), 3 * 400);
     let operations: Vec<u8> = table.chunks(3).map(|entry| entry[0]).collect();
     assert_eq!(operations[..8], [5, 5, 2, 3, 5, 0, 0, 0]);
-    // The plan repeats every 8 slots and so does the stream: all 100 tiles agree.
+    // The plan repeats every 8 slots and so does the stream: all tiles agree.
     assert!(operations.chunks(8).all(|tiles| *tiles == operations[..8]));
     let ids: Vec<u16> =
         table.chunks(3).map(|entry| u16::from_be_bytes([entry[1], entry[2]])).collect();
@@ -105,20 +105,25 @@ const P10: [u8; 32] = [
     0, 0, 0, 0, 0, 0, 0, 0x02, 0, 0, 0, 0, 0, 0, 0, 0x01,
 ];
 
-/// P10 in every version. Version 3 adds the hearing, which is the links.
-fn p10s() -> [Vec<u8>; 3] {
-    let hearing = &P10[16..];
-    let mut books = [P10.to_vec(), P10.to_vec(), [&P10, hearing].concat()];
-    (books[1][4], books[2][4]) = (0x02, 0x03);
+/// P10 in every version. From version 3 on it has the hearing, which is the
+/// links.
+fn p10s() -> [Vec<u8>; 4] {
+    let with_hearing = [&P10, &P10[16..]].concat();
+    let mut books = [P10.to_vec(), P10.to_vec(), with_hearing.clone(), with_hearing];
+    for (book, version) in books.iter_mut().zip(1..) {
+        book[4] = version;
+    }
     books
 }
 
 /// P11 in every version: P10 with one row more, of one hop.
-fn p11s() -> [Vec<u8>; 3] {
+fn p11s() -> [Vec<u8>; 4] {
     let version_1 = vec![0x00, 0x07, 0x02, 0x01, 0x01, 0x00, 0x00, 0x02];
     let version_2 = vec![0x00, 0x07, 0x01, 0x02, 0x01, 0x01, 0x00, 0x00, 0x02];
+    let version_4 = vec![0x00, 0x07, 0x01, 0x00, 0x02, 0x01, 0x01, 0x00, 0x00, 0x02];
+    let rows = [version_1, version_2.clone(), version_2, version_4];
     let mut books = p10s();
-    for (book, row) in books.iter_mut().zip([version_1, version_2.clone(), version_2]) {
+    for (book, row) in books.iter_mut().zip(rows) {
         (book[12], book[14]) = (0x01, 0x01);
         book.extend(row);
     }
@@ -176,11 +181,12 @@ fn run_64_nodes_stand_and_65_do_not() {
 
 #[test]
 fn balance_listing_of_p2() {
+    // Ten times document 01's numbers, as the cycle has 1000 tiles.
     let expected = "node data used free\n\
-                    0 250 50 200\n\
-                    1 250 100 150\n\
-                    2 250 100 150\n\
-                    3 250 50 200\n";
+                    0 2500 500 2000\n\
+                    1 2500 1000 1500\n\
+                    2 2500 1000 1500\n\
+                    3 2500 500 2000\n";
     for version in Version::ALL {
         assert_eq!(listing(&stored(version, &p2())), expected);
     }

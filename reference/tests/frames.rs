@@ -31,6 +31,8 @@ fn a_request_has_every_field_in_its_place() {
         room: 0x1011,
         fill: 0x12,
         second: true,
+        first: 0x1617,
+        tiles: 0x1819,
         mains: 0x2021222324252627,
         words: 0x2829,
         ..Request::blank(Call::Open)
@@ -39,7 +41,8 @@ fn a_request_has_every_field_in_its_place() {
     let lengths = [0, 1, 0, 2, 0x28, 0x29];
     let bytes = [0xEE, 0xEE, 0xEE, 0xCC, 0xDD, 0xDD];
     let mains = [0x20, 0x21, 0x22, 0x23, 0x24, 0x25, 0x26, 0x27];
-    let expected = [&fields[..], &[0; 6], &mains, &[0; 4], &lengths, &bytes].concat();
+    let tiles = [0x16, 0x17, 0x18, 0x19];
+    let expected = [&fields[..], &[0; 2], &tiles, &mains, &[0; 4], &lengths, &bytes].concat();
     assert_eq!(bytes_of(&request), expected);
     assert_eq!(Request::read(&mut &expected[..]).unwrap(), Some(request));
 }
@@ -83,7 +86,7 @@ fn check_balance_and_links_are_answered_without_a_buffer() {
     let output = served(&[check, balance, links]);
     let expected = [
         [14, 0, 0, 0, 0, 0, 0, 0, 0, 0, 0, 0, 0],
-        [0, 0, 0, 0, 250, 0, 0, 0, 100, 0, 0, 0, 150],
+        [0, 0, 0, 0x09, 0xC4, 0, 0, 0x03, 0xE8, 0, 0, 0x05, 0xDC],
         [0, 0, 0, 0, 2, 0, 0, 0, 0, 0, 0, 0, 0],
     ];
     assert_eq!(output, expected.concat());

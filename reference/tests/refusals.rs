@@ -100,7 +100,7 @@ fn every_call_gives_the_image_numbers_first() {
         assert_eq!(refused(0, |out| calls::rewrite(&book, out)), number);
         assert_eq!(refused(0, |out| calls::open(&book, plain(0, 255, 255, 3), out)), number);
         assert_eq!(refused(0, |out| calls::close(&book, 0, out)), number);
-        assert_eq!(refused(0, |out| calls::expand(&book, 255, out)), number);
+        assert_eq!(refused(0, |out| calls::expand(&book, 255, 1000, 0, out)), number);
         assert_eq!(calls::balance(&book, 255), (number, 0, 0, 0));
         assert_eq!(calls::links(&book, 255), (number, 0));
         let list = |out: &mut [u8]| {
@@ -177,7 +177,7 @@ fn open_gives_1_2_4_5_6() {
     assert_eq!(open_refused(&book, 1, 0, 4, 3), 4);
     assert_eq!(open_refused(&book, 1, 255, 255, 3), 4);
     assert_eq!(open_refused(&book, 1, 3, 3, 3), 5);
-    for period in [0, 3, 4, 25, 99, 101, 200, 257, 258, 512, 65535] {
+    for period in [0, 3, 4, 25, 99, 101, 199, 257, 258, 456, 512, 999, 1001, 65535] {
         assert_eq!(open_refused(&book, 1, 3, 0, period), 6);
     }
     assert_eq!(open_refused(&book, 1, 3, 0, 1), 2);
@@ -261,15 +261,15 @@ fn close_gives_0_1_3_12() {
 }
 
 #[test]
-fn expand_gives_0_4_12() {
-    assert_eq!(written(|out| calls::expand(&p2(), 3, out)).len(), 1200);
-    assert_eq!(refused(0, |out| calls::expand(&p2(), 4, out)), 4);
-    assert_eq!(refused(1199, |out| calls::expand(&p2(), 3, out)), 12);
+fn expand_gives_0_4_12_and_21_between() {
+    assert_eq!(written(|out| calls::expand(&p2(), 3, 0, 100, out)).len(), 1200);
+    assert_eq!(refused(0, |out| calls::expand(&p2(), 4, 0, 0, out)), 4);
+    assert_eq!(refused(1199, |out| calls::expand(&p2(), 3, 0, 100, out)), 12);
 }
 
 #[test]
 fn balance_gives_0_and_4() {
-    assert_eq!(calls::balance(&p2(), 3), (0, 250, 50, 200));
+    assert_eq!(calls::balance(&p2(), 3), (0, 2500, 500, 2000));
     assert_eq!(calls::balance(&p2(), 4), (4, 0, 0, 0));
 }
 
@@ -284,7 +284,7 @@ fn links_gives_0_and_4() {
 #[test]
 fn the_longest_book_stands() {
     let book = loaded(64, 8);
-    for (version, longest) in Version::ALL.into_iter().zip([2384, 2448, 2960]) {
+    for (version, longest) in Version::ALL.into_iter().zip([2384, 2448, 2960, 3024]) {
         let book = stored(version, &book);
         assert_eq!((book.len(), version.longest_image()), (longest, longest));
         assert_eq!(calls::check(&book), (0, 0));

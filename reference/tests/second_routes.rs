@@ -64,7 +64,7 @@ fn a_close_removes_both() {
 fn operations_gain_16_and_count_as_used() {
     let book = open_both(&new_book(OPEN_PLAN, &square()), 9, 0, 3, 5);
     let operations = |node| -> Vec<u8> {
-        let table = written(|out| calls::expand(&book, node, out));
+        let table = written(|out| calls::expand(&book, node, 0, 100, out));
         table.chunks(3).map(|entry| entry[0]).take(4).collect()
     };
     assert_eq!(operations(0), [1, 17, 0, 0]);
@@ -72,7 +72,7 @@ fn operations_gain_16_and_count_as_used() {
     assert_eq!(operations(2), [0, 18, 19, 0]);
     assert_eq!(operations(3), [0, 4, 20, 0]);
     for node in 0..4 {
-        assert_eq!(calls::balance(&book, node), (0, 400, 40, 360));
+        assert_eq!(calls::balance(&book, node), (0, 4000, 400, 3600));
     }
 }
 

@@ -22,33 +22,33 @@ fn no_input_gives_the_last_line_alone() {
 
 #[test]
 fn a_pair_and_its_movement() {
-    // P2 uses 50, 100, 100 and 50 of 250; its offsets are 2, 3, 5. P3 adds
+    // P2 uses 500, 1000, 1000 and 500 of 2500; its offsets are 2, 3, 5. P3 adds
     // as much again, with offsets 2, 6, 7.
-    let expected = "150 300 4\n50 600 6\n-50 -100 -100 -50\n200 900 6\n";
+    let expected = "1500 3000 4\n500 6000 6\n-500 -1000 -1000 -500\n2000 9000 6\n";
     assert_eq!(statement(&pair(&p2(), &p3())), expected);
-    let back = "50 600 6\n150 300 4\n+50 +100 +100 +50\n200 900 6\n";
+    let back = "500 6000 6\n1500 3000 4\n+500 +1000 +1000 +500\n2000 9000 6\n";
     assert_eq!(statement(&pair(&stored(Version::One, &p3()), &p2())), back);
-    let same = "150 300 4\n150 300 4\n0 0 0 0\n300 600 4\n";
+    let same = "1500 3000 4\n1500 3000 4\n0 0 0 0\n3000 6000 4\n";
     assert_eq!(statement(&pair(&p2(), &p2())), same);
 }
 
 #[test]
 fn an_empty_book_has_no_latency() {
-    let line = "250 0 0\n";
+    let line = "2500 0 0\n";
     assert_eq!(
         statement(&pair(&line_a(2), &line_a(2))),
-        [line, line, "0 0\n", "500 0 0\n"].concat()
+        [line, line, "0 0\n", "5000 0 0\n"].concat()
     );
 }
 
 #[test]
 fn no_movement_where_the_nodes_are_not_as_many() {
-    assert_eq!(statement(&pair(&line_a(2), &line_a(3))), "250 0 0\n250 0 0\n500 0 0\n");
+    assert_eq!(statement(&pair(&line_a(2), &line_a(3))), "2500 0 0\n2500 0 0\n5000 0 0\n");
 }
 
 #[test]
 fn a_bad_image_costs_one_line() {
-    let expected = "refused 14\n150 300 4\n150 300 4\nrefused 13\n300 600 4\n";
+    let expected = "refused 14\n1500 3000 4\n1500 3000 4\nrefused 13\n3000 6000 4\n";
     let input = [pair(&[], &p2()), pair(&p2(), &[0; 20])].concat();
     assert_eq!(statement(&input), expected);
     assert_eq!(statement(&pair(&p2()[1..], &[7; 60000])), "refused 13\nrefused 13\n0 0 0\n");
@@ -57,7 +57,7 @@ fn a_bad_image_costs_one_line() {
 #[test]
 fn the_input_may_not_end_inside_a_pair() {
     let input = pair(&p2(), &p2());
-    let line = "150 300 4\n";
+    let line = "1500 3000 4\n";
     let first = framed(&p2()).len();
     assert_eq!(statement(&input[..1]), "refused 14\n");
     assert_eq!(statement(&input[..first - 1]), "refused 14\n");
@@ -82,5 +82,5 @@ fn a_second_route_is_measured_by_itself() {
     let square = topology(4, &[(0, 1), (0, 2), (1, 3), (2, 3)]);
     let empty = new_book((4, 1, 0, 0, 0), &square);
     let book = written(|out| reference::calls::open(&empty, doubled(9, 0, 3, 5), out));
-    assert!(statement(&pair(&book, &book)).starts_with("360 160 2\n"));
+    assert!(statement(&pair(&book, &book)).starts_with("3600 1600 2\n"));
 }

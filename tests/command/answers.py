@@ -12,7 +12,7 @@ USAGE = {
     "post": "BOOK FILE [--dry-run] [--mains NODES] [--json]",
     "quote": "BOOK SOURCE DESTINATION [--mains NODES] [--json]",
     "routes": "BOOK SOURCE DESTINATION [--mains NODES] [--json]",
-    "table": "BOOK [NODE] [--json]",
+    "table": "BOOK [NODE [TILE [COUNT]]] [--json]",
     "balance": "BOOK [NODE] [--json]",
     "diff": "BOOK BOOK [--json]",
     "statement": "LAST THIS [LAST THIS ..] [--raw]",
@@ -22,8 +22,8 @@ USAGE = {
 }
 NO_ID = "lindurask: an id is a number from 1 to 65535\n"
 NO_NODE = "lindurask: a node is a number, from 0 on\n"
-NO_PERIOD = "lindurask: a period is a number of tiles: 1, 2, 5, 10, 20, 50 or 100\n"
-NO_TILE = "lindurask: a tile is a number from 0 to 99\n"
+NO_PERIOD = "lindurask: a period is a number of tiles: 1, 2, 5, 10, 20, 50, 100, 200, 500 or 1000\n"
+NO_TILE = "lindurask: a tile is a number from 0 to 999\n"
 
 
 def refusals(room):
@@ -45,8 +45,15 @@ def refusals(room):
     refused("5: source and destination are the same node (node 1)", "open", "kiln.book", "8", "1", "1", "5")
     refused("5: source and destination are the same node (node 1)", "quote", "kiln.book", "1", "1")
     refused("5: source and destination are the same node (node 1)", "routes", "kiln.book", "1", "1")
-    refused("6: a period is 1, 2, 5, 10, 20, 50 or 100 tiles (period 3)", "open", "kiln.book", "8", "1", "2", "3")
-    refused("6: a period is 1, 2, 5, 10, 20, 50 or 100 tiles (period 65537)", "open", "kiln.book", "8", "1", "2", "65537")
+    refused("6: a period is 1, 2, 5, 10, 20, 50, 100, 200, 500 or 1000 tiles (period 3)", "open", "kiln.book", "8", "1", "2", "3")
+    refused("6: a period is 1, 2, 5, 10, 20, 50, 100, 200, 500 or 1000 tiles (period 65537)", "open", "kiln.book", "8", "1", "2", "65537")
+    # Tiles outside the cycle, or none; the node comes first.
+    for words, about in [(["1", "1000"], "tile 1000"), (["1", "65536"], "tile 65536"), (["1", "99999999999999999999999"], "tile 18446744073709551615"), (["1", "0", "0"], "0 tiles from tile 0 on"),
+                         (["1", "999", "2"], "2 tiles from tile 999 on"), (["1", "0", "1001"], "1001 tiles from tile 0 on"), (["1", "1000", "1"], "1 tile from tile 1000 on"),
+                         (["1", "0", "65636"], "65636 tiles from tile 0 on"), (["1", "65535", "65535"], "65535 tiles from tile 65535 on"), (["1", "0", "65536"], "65536 tiles from tile 0 on")]:
+        refused("21: the tiles are not in the cycle of 1000, or are none, or over 100 at once (%s)" % about, "table", "kiln.book", *words)
+    refused("4: the site has no node of this number (node 8)", "table", "kiln.book", "8", "1000")
+    room.says(1, work_out.in_json({"refused": 21, "words": work_out.WORDS[21], "about": "tile 1000"}), "table", "--json", "kiln.book", "1", "1000")
     room.put("apart.plan", b"slots 4\ntiles up\ncontrol 0 4\nnodes 3\nlink 0 1\n")
     room.says(0, "made: 3 nodes, 0 streams of at most 64, 0 hops of at most 512\nlindurask: warning: node 2 has no link\n", "new", "apart.book", "apart.plan")
     refused("7: no route exists between these nodes (from node 0 to node 2, period 100)", "open", "apart.book", "1", "0", "2", "100")
@@ -75,7 +82,7 @@ def refusals(room):
     square = work_out.Book.read(room.get("square.book"))
     room.says(0, work_out.quote(square, 0, 3), "quote", "square.book", "0", "3")
     check("     second route: refused 9: no free slots for this stream\n" in work_out.quote(square, 0, 3), "a second route without slots")
-    none = "".join("period %3d: refused 9: no free slots for this stream\n" % k for k in [1, 2, 5, 10, 20, 50, 100])
+    none = "".join("period %4d: refused 9: no free slots for this stream\n" % k for k in [1, 2, 5, 10, 20, 50, 100, 200, 500, 1000])
     room.says(1, "from node 1 to node 0\n" + none, "quote", "apart.book", "1", "0")
     room.says(1, '{"refused":4,"words":"the site has no node of this number","about":"node 8"}\n', "balance", "kiln.book", "8", "--json")
     check(room.get("kiln.book") == one, "a refusal changed the book")
@@ -106,16 +113,22 @@ def with_rows(image, start, rows):
 def images(room):
     """A book that is none, by every number that a book has."""
     good = room.get("kiln.book")
-    row = good.index(bytes([0, 1, 1, 10, 7]))
-    second = good.index(bytes([0, 2, 1, 20, 7]))
+    row = good.index(bytes([0, 1, 1, 0, 10, 7]))
+    second = good.index(bytes([0, 2, 1, 0, 20, 7]))
     # Stream 5 goes 6 to 7 in slot 4; in slot 2 node 7 sends for stream 1.
     clash = good[:-1] + b"\x02"
     cases = [(b"", 14), (good[:15], 14), (good[:-1], 14), (good + b"x", 14), (good + bytes(100000), 14), (b"X" + good[1:], 13), (good[:4] + b"\x09" + good[5:], 13),
-             (good[:4] + b"\x04" + good[5:], 13), (good[:5] + b"\x21" + good[6:], 10), (good[:16] + bytes(7) + b"\x03" + good[24:], 11),
-             (good[:row + 3] + b"\x03" + good[row + 4:], 15), (good[:row + 2] + b"\x02" + good[row + 3:], 15), (good[:second + 1] + b"\x01" + good[second + 2:], 15)]
+             (good[:4] + b"\x05" + good[5:], 13), (good[:5] + b"\x21" + good[6:], 10), (good[:16] + bytes(7) + b"\x03" + good[24:], 11),
+             (good[:row + 4] + b"\x03" + good[row + 5:], 15), (good[:row + 3] + b"\x01" + good[row + 4:], 15), (good[:row + 2] + b"\x02" + good[row + 3:], 15), (good[:second + 1] + b"\x01" + good[second + 2:], 15)]
     # The hearing of 8 nodes stands behind their links: node 0 hears itself, hears 2 alone, hears node 8, and it and 1 do not hear each other.
     heard = [[(0, 3)], [(0, 6)], [(0, 0x102)], [(0, 0), (1, 4)]]
-    cases += [(with_rows(good, 16 + 8 * 8, rows), 11) for rows in heard] + [(clash, 16)]
+    cases += [(with_rows(good, 16 + 8 * 8, rows), 11) for rows in heard]
+    # In older versions a period of 200 is none, though a byte holds it.
+    for version in [1, 2, 3]:
+        older = work_out.Book.read(good).in_version(version).image()
+        own = older.index(bytes([0, 1, 10, 7] if version == 1 else [0, 1, 1, 10, 7])) + (2 if version == 1 else 3)
+        cases.append((older[:own] + b"\xc8" + older[own + 1:], 15))
+    cases.append((clash, 16))
     room.put("a.list", b"close 1\nopen 8 1 2 5\n")
     for place, (data, number) in enumerate(cases):
         room.put("bad.book", data)
@@ -154,7 +167,7 @@ def usage(room):
     room.says(2, "usage: lindurask show %s\n" % USAGE["show"], "show", "kiln.book", "--stream")
     check(room.run("help").out == room.run("--help").out == room.run("-h").out == room.run("help", "help").out, "the ways to ask for help differ")
     version = [line.split('"')[1] for line in open(os.path.join(ROOT, "cli/Cargo.toml")) if line.startswith("version")][0]
-    room.says(0, "lindurask %s, books of version 3\n" % version, "--version")
+    room.says(0, "lindurask %s, books of version 4\n" % version, "--version")
     for word in ["Second", "2", "", "--second", "second second"]:
         room.says(2, "usage: lindurask open %s\n" % USAGE["open"], "open", "pond.book", "8", "4", "9", "20", word)
 
@@ -172,8 +185,11 @@ def numbers(room):
         room.says(2, NO_NODE, "show", "kiln.book", "--node", word)
     for word in ["5.0", "", "x", "-5"]:
         room.says(2, NO_PERIOD, "open", "kiln.book", "8", "1", "2", word)
-    for word in ["100", "x", "", "99999999999999999999999"]:
+    for word in ["1000", "x", "", "99999999999999999999999"]:
         room.says(2, NO_TILE, "show", "kiln.book", word)
+    for word in ["-1", "x", "", "1.0"]:
+        room.says(2, "lindurask: a tile is a number, from 0 on\n", "table", "kiln.book", "1", word)
+        room.says(2, "lindurask: a count of tiles is a number\n", "table", "kiln.book", "1", "7", word)
     said = room.run("open", "kiln.book", "00012", "0001", "2", "0100")
     check(said.status == 0 and said.out.startswith("opened stream 12: period 100 tiles"), "leading zeros: " + said.all)
 

@@ -54,11 +54,12 @@ def changed(room, name, book, dice):
 
 def read(room, name, book, dice):
     """Every reading command on that book."""
-    node, start = dice.randrange(book.n), dice.randrange(100)
+    node, start = dice.randrange(book.n), dice.randrange(work_out.CYCLE)
     every = range(book.n)
     source, destination = dice.sample(range(book.n), 2)
     wants = [(["check", name], "lawful: " + work_out.counts(book)), (["balance", name], work_out.balances(book, every)),
              (["balance", name, "--json"], work_out.balance_json(book, every)), (["table", name, str(node)], work_out.tables(book, [node])),
+             (["table", name, str(node), str(start)], work_out.tables(book, [node], start)), (["table", name, str(node), str(start), "1"], work_out.tables(book, [node], start, 1)),
              (["table", name, "--json"], work_out.table_json(book, every)), (["show", name, "--json"], work_out.show_json(book, book.streams())),
              (["routes", name, str(source), str(destination)], work_out.list_of_routes(book, source, destination)),
              (["routes", name, str(source), str(destination), "--json"], work_out.routes_json(book, source, destination)),
@@ -85,7 +86,7 @@ def site(turn):
         check(said.status == 0 and said.out == "made: " + work_out.counts(book) and room.get("a.book") == book.image(), "new: %s\n%s" % (said.all, text))
         if turn % 2:
             # A book of an older version, which knows no hearing beside the links, is changed into the newest.
-            book = book.but(heard=[], version=1 + turn // 2 % 2)
+            book = book.but(heard=[], version=1 + turn // 2 % 3)
             room.put("a.book", book.image())
         book = changed(room, "a.book", book, dice)
         read(room, "a.book", book, dice)

@@ -8,7 +8,7 @@ import chance
 import tool
 from tool import check, refusal, work_out
 
-SITES, PAIRS = 10, 8
+SITES, PAIRS = 10, 6
 SAME = "the books are the same\n"
 
 
@@ -20,7 +20,7 @@ def twice(room):
         for other in [name + ".book", "copy.book", "./" + name + ".book"] + ["link.book"] * (name == "kiln"):
             room.says(0, SAME, "diff", name + ".book", other)
             room.says(0, '{"same":true,"version":null,"plan":null,"nodes":null,"links":null,"heard":null,"streams":[],"air":null}\n', "diff", other, name + ".book", "--json")
-    versions = {"old.book": 1, "older.book": 2, "kiln.book": 3}
+    versions = {"old.book": 1, "older.book": 2, "elder.book": 3, "kiln.book": 4}
     for one, other in itertools.product(versions, versions):
         same = "the same book in versions %d and %d: the air is the same\n" % (versions[one], versions[other])
         room.says(0, SAME if one == other else same, "diff", one, other)
@@ -55,9 +55,9 @@ def both_ways(room):
 def refused(room):
     """An image that is refused is a file that failed, as the first book and as the second; the first is named where both are."""
     good = room.get("kiln.book")
-    row = good.index(bytes([0, 1, 1, 10, 7]))
+    row = good.index(bytes([0, 1, 1, 0, 10, 7]))
     cases = [(b"", 14), (good[:-1], 14), (b"X" + good[1:], 13), (good[:5] + b"\x21" + good[6:], 10), (good[:16] + bytes(7) + b"\x03" + good[24:], 11),
-             (good[:80] + bytes(8) + good[88:], 11), (good[:row + 3] + b"\x03" + good[row + 4:], 15), (good[:-1] + b"\x02", 16)]
+             (good[:80] + bytes(8) + good[88:], 11), (good[:row + 4] + b"\x03" + good[row + 5:], 15), (good[:-1] + b"\x02", 16)]
     for data, number in cases:
         room.put("bad.book", data)
         room.put("worse.book", data)
@@ -117,9 +117,9 @@ def moved(dice, book):
 
 def later(dice, book):
     """The book with a hop more, once in the cycle, in a data slot; it may meet another."""
-    slots = [slot for slot in range(100 * book.s) if not book.control(slot)]
+    slots = [slot for slot in range(work_out.CYCLE * book.s) if not book.control(slot)]
     links = work_out.pairs(book)
-    return book.with_ways([work_out.Way(dice.randint(10, 65535), 100, list(dice.choice(links)), [dice.choice(slots)])]) if slots and links else book
+    return book.with_ways([work_out.Way(dice.randint(10, 65535), work_out.CYCLE, list(dice.choice(links)), [dice.choice(slots)])]) if slots and links else book
 
 
 def renamed(dice, book):
@@ -154,7 +154,7 @@ def other(dice, book):
     changes = [lambda: grown(dice, book, dice.randint(1, 3)), lambda: linked(dice, book), lambda: heard(dice, book), lambda: planned(dice, book), lambda: book.but(rows=book.rows + [0]),
                lambda: later(dice, book), lambda: grown(dice, chance.plan(dice)[1], 6)]
     changes += [lambda: moved(dice, book), lambda: renamed(dice, book)] * bool(book.ways)
-    changes.append((lambda: book.but(ways=[w for w in book.ways if w is not second[0]])) if second else (lambda: book.but(heard=[], version=dice.choice([1, 2]))))
+    changes.append((lambda: book.but(ways=[w for w in book.ways if w is not second[0]])) if second else (lambda: book.but(heard=[]).older(dice.choice([1, 2, 3]))))
     return dice.choice(changes)()
 
 

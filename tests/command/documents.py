@@ -39,6 +39,8 @@ def completion(usages):
         check(name == "help" or got == want, "the completion of %s: %s" % (name, got))
     words = "source '%s'; COMP_WORDS=(lindurask open a 1 2 3 5 s); COMP_CWORD=7; _lindurask; echo \"${COMPREPLY[*]}\"" % os.path.join(tool.ROOT, "cli/lindurask.bash")
     check(subprocess.run(["bash", "-c", words], capture_output=True, text=True).stdout == "second\n", "the completion of open's last word")
+    words = "source '%s'; COMP_WORDS=(lindurask open a 1 2 3 1); COMP_CWORD=6; _lindurask; echo \"${COMPREPLY[*]}\"" % os.path.join(tool.ROOT, "cli/lindurask.bash")
+    check(subprocess.run(["bash", "-c", words], capture_output=True, text=True).stdout == "1 10 100 1000\n", "the completion of open's period")
     words = "source '%s'; COMP_WORDS=(lindurask ch); COMP_CWORD=1; _lindurask; echo \"${COMPREPLY[*]}\"" % os.path.join(tool.ROOT, "cli/lindurask.bash")
     check(subprocess.run(["bash", "-c", words], capture_output=True, text=True).stdout == "check\n", "the completion of ch")
 
@@ -74,9 +76,10 @@ def documents(room, usages, refusals):
     room.put("heard.plan", room.get("line.plan") + more)
     room.put("month.list", re.search(r"```\n(close 1\n.*?)```", readme, re.S).group(1).encode())
     room.put("my.book", room.get("pond.book"))
+    room.put("shed.book", room.get("pins.book"))
     os.symlink(".", room.at("books"))
     dialogues = re.findall(r"```\n(\$ ./lindurask .*?)```", readme, re.S)
-    check(len(dialogues) == 7, "README.md has %d dialogues" % len(dialogues))
+    check(len(dialogues) == 8, "README.md has %d dialogues" % len(dialogues))
     for part in "".join(dialogues).split("$ ./lindurask ")[1:]:
         words, said = part.split("\n", 1)
         got = room.run(*words.split()).all
@@ -125,7 +128,7 @@ def test(room):
     names = [words.split()[1] for words in everything.split("\n") if words.startswith("  lindurask ")]
     usages = {name: room.run(name, "--help").out.split("\n")[0].replace("lindurask ", "", 1) for name in names}
     refusals = re.findall(r"^ +(\d+)  (.*)$", everything, re.M)
-    check(len(usages) == 15 and len(refusals) == 20, "help lists %d commands and %d refusals" % (len(usages), len(refusals)))
+    check(len(usages) == 15 and len(refusals) == 21, "help lists %d commands and %d refusals" % (len(usages), len(refusals)))
     check(all(len(line) <= 80 for line in everything.split("\n")), "help is wider than 80 columns")
     man_page(room, usages, refusals)
     completion(usages)

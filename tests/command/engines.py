@@ -43,12 +43,13 @@ while True:
     if mode == "fickle" and head[0] == 8:
         if len(records) == 11: records = marked(9)
         else: counts[0], out = len(data), data + out[len(data):]
-    if (mode == "sleepy" or mode.startswith("links")) and head[0] == 5: counts[0], out = 300 * data[5], bytes(300 * data[5]) + out[300 * data[5]:]
+    first, part = (3 * data[5] * int.from_bytes(head[at:at + 2], "big") if len(data) > 5 else 0 for at in (22, 24))
+    if (mode == "sleepy" or mode.startswith("links")) and head[0] == 5: counts[0], out = part, bytes(part) + out[part:]
+    if mode == "tableshort" and head[0] == 5: counts[0], out = part - 3, bytes(part - 3) + out[part - 3:]
     if mode == "unlike" and head[0] == 5:
-        length = 300 * data[5]
-        table = open(os.path.join(os.path.dirname(sys.argv[0]), "tables"), "rb").read()[length * head[3]:][:length]
+        table = open(os.path.join(os.path.dirname(sys.argv[0]), "tables"), "rb").read()[3000 * data[5] * head[3] + first:][:part]
         forwards = bytes(3 if place % 3 == 0 and byte == 1 else byte for place, byte in enumerate(table))
-        counts[0], out = length, (forwards if data[4] == 1 else table) + out[length:]
+        counts[0], out = part, (forwards if data[4] == 1 else table) + out[part:]
     if mode.startswith("list") and head[0] == 7:
         said = {"listnode": b"\2\3\x0c\0", "listhops": b"\7\3\2\1\4\5\6\7\0", "listnone": b"\0\3", "listcut": b"\3\3\2\1", "listends": b"\3\3\2\1\4", "listfar": b"\3\3\2\1\0"}.get(mode, b"")
         counts, out = [len(said), 2 if mode == "listmark" else 0, 0], said + out[len(said):]
@@ -145,6 +146,9 @@ def nonsense(room, engines):
     # Tables that are not those of the streams in the book make no page, and are not compared.
     for words in [COMMANDS[9], COMMANDS[11]]:
         hold(room, fake["sleepy"], words, "says what is no answer")
+    # A part of a table that is an entry short.
+    for words in [COMMANDS[4], ["table", "kiln.book", "1", "7", "1"]]:
+        hold(room, program(engines, "engine-tableshort", FAKE.encode()), words, "says what is no answer")
     # One book in two versions whose tables differ, if only in what is sent from above and what from the buffer.
     engines.put("tables", b"".join(bytes([op]) + id.to_bytes(2, "big") for node in range(old.n) for op, id in old.table(node)))
     room.put("old.book", old.in_version(1).image())
@@ -243,18 +247,21 @@ def indexes(room, engines, posted):
 def called_lawful(room, engines):
     """Bytes that a wrong engine calls lawful do no harm."""
     engine, book = program(engines, "engine-lawful", FAKE.encode()), room.get("kiln.book")
-    row = book.index(bytes([0, 1, 1, 10, 7]))
-    unsound = {"a period of 0": (row + 3, 0), "a period of 3": (row + 3, 3), "a node beyond the site": (row + 5, 8), "offsets that fall": (row + 13, 255),
+    row = book.index(bytes([0, 1, 1, 0, 10, 7]))
+    unsound = {"a period of 0": (row + 4, 0), "a period of 3": (row + 4, 3), "a node beyond the site": (row + 6, 8), "offsets that fall": (row + 14, 255),
                "a second route without a first": (row + 2, 2), "a third route": (row + 2, 3), "ids that fall": (row, 1),
                "no slots": (5, 0), "no tiles": (6, 0), "more control slots than slots": (9, 9), "more nodes than rows hold": (11, 65)}
     cases = {what: book[:at] + bytes([byte]) + book[at + 1:] for what, (at, byte) in unsound.items()}
     pond = room.get("pond.book")
-    second = pond.index(bytes([0, 1, 2, 10, 5]))
-    unsound = {"a second route of another period": (second + 3, 20), "a second route to another end": (second + 10, 1), "two first routes": (second + 2, 1)}
+    second = pond.index(bytes([0, 1, 2, 0, 10, 5]))
+    unsound = {"a second route of another period": (second + 4, 20), "a second route to another end": (second + 11, 1), "two first routes": (second + 2, 1)}
     cases.update((what, pond[:at] + bytes([byte]) + pond[at + 1:]) for what, (at, byte) in unsound.items())
+    older = tool.work_out.Book.read(book).in_version(3).image()
+    row = older.index(bytes([0, 1, 1, 10, 7]))
+    cases["a period of 200 in version 3"] = older[:row + 3] + b"\xc8" + older[row + 4:]
     # The last are without a row of streams, and end behind the links or inside the hearing.
     rows = [book[:12] + bytes(4) + book[16:end] for end in (16 + 8 * 8, 16 + 16 * 8 - 1)]
-    others = [b"", b"SLB", book[:40], b"SLB\0\1" + bytes(11), b"SLB\0\2" + b"\xff" * 4000, b"SLB\0\3" + b"\xff" * 4001, bytes(4096), book[:12] + b"\x40" + book[13:], *rows]
+    others = [b"", b"SLB", book[:40], b"SLB\0\1" + bytes(11), b"SLB\0\2" + b"\xff" * 4000, b"SLB\0\3" + b"\xff" * 4001, b"SLB\0\4" + b"\xff" * 4002, bytes(4096), book[:12] + b"\x40" + book[13:], *rows]
     cases.update(("%d bytes" % len(data), data) for data in others)
     for what, data in cases.items():
         room.put("odd.book", data)

@@ -89,9 +89,23 @@ def at_work(book, tile):
     return [way for way in book.ways if any(t in own for o in way.offsets for t in book.takes(way.period, o))]
 
 
+def drawn_tiles(book):
+    """How many tiles are drawn: a repeat, and of a long one the first 100."""
+    return min(100, book.repeats())
+
+
+def extent(book):
+    """What is said of the tiles that are drawn, and of hops that are not."""
+    repeat, shown = book.repeats(), drawn_tiles(book)
+    what = "one repeat is shown" if shown == repeat else "the first 100 of them are shown"
+    later = [way for way in book.ways if max(way.offsets) >= shown * book.s]
+    hops = " Hops in later tiles, not shown: streams %s." % ranges(later) if later else ""
+    return "<p>The picture repeats after %s: %s, and a cycle of 1000 tiles has %s.%s" % (work_out.many(repeat, "tile"), what, work_out.many(1000 // repeat, "repeat"), hops)
+
+
 def tiles(book):
     """The label of every tile that is drawn: all of a repeat, but no long run without a stream."""
-    shown = [(tile, at_work(book, tile)) for tile in range(book.repeats())]
+    shown = [(tile, at_work(book, tile)) for tile in range(drawn_tiles(book))]
     for place, (tile, ways) in enumerate(shown):
         start = next((p for p in range(place, -1, -1) if shown[p][1]), -1) + 1
         end = next((p for p in range(place, len(shown)) if shown[p][1]), len(shown))
@@ -101,9 +115,11 @@ def tiles(book):
 
 
 def hops(book):
-    """What every hop does, in words."""
+    """What every hop in a tile that is drawn does, in words."""
     for way in book.ways:
         for place, ((a, b), offset) in enumerate(zip(way.hops, way.offsets)):
+            if offset >= drawn_tiles(book) * book.s:
+                continue
             sends = "sends from above" if place == 0 else "forwards from buffer"
             receives = "receives for above" if place == len(way.hops) - 1 else "receives to buffer"
             yield "%s, offset %d: node %d %s, node %d %s" % (called(way), offset, a, sends, b, receives)
@@ -165,7 +181,7 @@ def dashed(what, text, book):
     arrows = re.findall(r'<g class="arrow k\d+( second)?" [^>]*><title>[^<]*?(, second route)?, offset', text)
     check(all(bool(dashes) == bool(said) for dashes, said in arrows), "%s: the dashed arrows: %s" % (what, arrows))
     groups = re.findall(r'<g id="r\d+t\d+" class="k\d+( second)?"><g><title>stream \d+(, second route)?,', text)
-    check(all(bool(dashes) == bool(said) for dashes, said in groups) and len(groups) >= len(book.ways), "%s: the dashed cells: %s" % (what, groups))
+    check(all(bool(dashes) == bool(said) for dashes, said in groups) and len(groups) >= sum(min(way.offsets) < drawn_tiles(book) * book.s for way in book.ways), "%s: the dashed cells: %s" % (what, groups))
     legends = ["A second route is dashed.", "the id of a second route is marked ′", "receiving on a second route"]
     check(all((legend in text) == bool(second) for legend in legends), "%s: what is said of second routes" % what)
     surviving = sum(len(ways) == 2 and work_out.survives(ways) for ways in book.streams())
@@ -189,6 +205,7 @@ def hold(what, text, book, title):
     check([label for label in page.labels if label.startswith("Route of ")] == routes, "%s: the routes" % what)
     drawn = [label for label in page.labels if label.startswith("Tile ")]
     check(drawn == list(tiles(book)), "%s: the tiles: %s" % (what, set(drawn) ^ set(tiles(book))))
+    check([part.startswith((" ", "\n")) for part in text.split(extent(book))[1:]] == [True], "%s: what is said of the tiles, and not %s" % (what, extent(book)))
     dashed(what, text, book)
     joined(what, text, book)
 
@@ -200,6 +217,11 @@ def samples(room):
         said = room.run("page", book + ".book")
         check(said.status == 0 and said.err == "", "page %s: %s" % (book, said.err))
         hold(book, said.out, work_out.Book.read(room.get(book + ".book")), book + ".book")
+    # Streams that send late in a long cycle.
+    for name in ["seldom.book", "oftener.book"]:
+        book = work_out.others()[name]
+        room.put(name, book.image())
+        hold(name, room.run("page", name).out, book, name)
 
 
 def by_chance(room):

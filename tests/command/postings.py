@@ -173,7 +173,7 @@ def refused(room):
     """A list of which none is done leaves the file as it is, be it of an older version; so does a book that is none."""
     text = work_out.lists()["refused.list"]
     room.put("refused.list", text.encode())
-    for version in [1, 2, 3]:
+    for version in [1, 2, 3, 4]:
         book = work_out.sample("kiln").in_version(version)
         room.put("own.book", book.image())
         before = look(room, "own.book")
@@ -256,7 +256,7 @@ def site(turn):
         book = chance.plan(dice)[1]
         for count in [0, 1, REQUESTS, 64]:
             if turn % 2:
-                book = book.but(heard=[], version=1) if all(w.number == 1 for w in book.ways) else book
+                book = book.but(heard=[]).older(1 + turn // 2 % 3)
             text = some(dice, book, count)
             for name in ["own.book", "single.book"]:
                 room.put(name, book.image())

@@ -16,33 +16,21 @@ VARIABLE = "LINDURASK_STATEMENT"
 
 def every_pair(room):
     """Every two of the books, both ways round, in one statement."""
-    books = dict(work_out.others(), **{name + ".book": work_out.sample(name) for name in ["kiln", "pond", "ridge"]})
+    books = dict(work_out.others(), **{name + ".book": work_out.sample(name) for name in ["kiln", "pond", "ridge", "pins"]})
     pairs = list(itertools.product(books, books))
     words = [name for pair in pairs for name in pair]
-    known = {name: Known(book) for name, book in books.items()}
-    sites = [(this.removesuffix(".book"), known[last], known[this]) for last, this in pairs]
+    sites = [(this.removesuffix(".book"), books[last], books[this]) for last, this in pairs]
     said = room.says(0, work_out.statement(sites), "statement", *words)
     check(max(map(len, said.out.split("\n"))) <= 80, "a statement is wider than 80 columns")
     room.says(0, work_out.statement_raw(sites), "statement", *words, "--raw")
 
 
-class Known(work_out.Book):
-    """A book whose balances are worked out once."""
-
-    def __init__(self, book):
-        super().__init__(book.s, book.kinds, book.d, book.u, book.rows, book.ways, book.version, book.heard)
-        self.balances = [book.balance(v) for v in range(book.n)]
-
-    def balance(self, node):
-        return self.balances[node]
-
-
 def refused(room):
     """A book that is refused, by every number that a book has, in either month or both; the sites behind it are read."""
     good, kiln, pond = room.get("kiln.book"), work_out.sample("kiln"), work_out.sample("pond")
-    row = good.index(bytes([0, 1, 1, 10, 7]))
+    row = good.index(bytes([0, 1, 1, 0, 10, 7]))
     cases = [(b"", 14), (good[:-1], 14), (good + b"x", 14), (good + bytes(65535 - len(good)), 14), (b"X" + good[1:], 13), (good[:5] + b"\x21" + good[6:], 10),
-             (good[:16] + bytes(7) + b"\x03" + good[24:], 11), (good[:80] + bytes(8) + good[88:], 11), (good[:row + 3] + b"\x03" + good[row + 4:], 15), (good[:-1] + b"\x02", 16)]
+             (good[:16] + bytes(7) + b"\x03" + good[24:], 11), (good[:80] + bytes(8) + good[88:], 11), (good[:row + 4] + b"\x03" + good[row + 5:], 15), (good[:-1] + b"\x02", 16)]
     for data, number in cases:
         room.put("bad.book", data)
         for names, books in [(["bad.book", "kiln.book"], (number, kiln)), (["kiln.book", "bad.book"], (kiln, number)), (["bad.book", "bad.book"], (number, number))]:
@@ -56,7 +44,7 @@ def words(room):
     """An odd number of books, none, too many, and words that are no options; 1,000 sites are read."""
     for books in [[], ["kiln.book"], ["kiln.book"] * 3, ["none.book"] * 5, ["kiln.book"] * 2002, ["kiln.book", "kiln.book", "--json"], ["kiln.book", "--raw"]]:
         room.says(2, USAGE, "statement", *books)
-    kiln = Known(work_out.sample("kiln"))
+    kiln = work_out.sample("kiln")
     room.says(0, work_out.statement([("kiln", kiln, kiln)] * 1000), "statement", *["kiln.book"] * 2000)
 
 

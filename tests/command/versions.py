@@ -3,7 +3,7 @@ import tool
 from tool import check, work_out
 
 # The sample books that each older version can hold.
-OLDER = {1: ["kiln", "yard", "site"], 2: ["kiln", "yard", "site", "pond"]}
+OLDER = {1: ["kiln", "yard", "site"], 2: ["kiln", "yard", "site", "pond"], 3: ["kiln", "pond", "ridge"]}
 NEWEST = work_out.NEWEST
 READERS = [["check"], ["show"], ["show", "7"], ["show", "--stream"], ["table", "1"], ["balance"], ["quote", "3", "0"], ["routes", "3", "0"], ["page"]]
 
@@ -43,11 +43,11 @@ def changed(room, name):
 
 
 def with_second(room, version):
-    """A second route is had in a book that was of an older version before."""
+    """A second route, of a period that no older version has, is had in a book that was of one before."""
     old = work_out.Book.read(room.get("yard.book")).in_version(version)
     room.put("old.book", old.image())
-    got = old.opened(7, 4, 9, 20, True)
-    room.says(0, work_out.stream("opened ", got), "open", "old.book", "7", "4", "9", "20", "second")
+    got = old.opened(7, 4, 9, 200, True)
+    room.says(0, work_out.stream("opened ", got), "open", "old.book", "7", "4", "9", "200", "second")
     check(len(got) == 2 and room.get("old.book") == old.with_ways(got).image(), "a second route in a book of version %d" % version)
     room.says(0, work_out.closed(got), "close", "old.book", "7")
     check(room.get("old.book") == old.in_version(NEWEST).image(), "a close of both routes")
@@ -65,8 +65,8 @@ def longest(room):
     """The longest book of each version is read, and changed into the newest: 64 nodes, 64 routes and 512 hops, each in a slot of its own."""
     links = [(1 << a - 1 if a else 0) | (1 << a + 1 if a < 63 else 0) for a in range(64)]
     ways = [work_out.Way(id, 100, list(range(id % 55, id % 55 + 9)), list(range(8 * id, 8 * id + 8))) for id in range(1, 65)]
-    for version, length in {1: 2384, 2: 2448, 3: 2960}.items():
-        book = work_out.Book(32, [True], 0, 0, links, ways, version, [(0, 63)] if version == 3 else [])
+    for version, length in {1: 2384, 2: 2448, 3: 2960, 4: 3024}.items():
+        book = work_out.Book(32, [True], 0, 0, links, ways, version, [(0, 63)] if version >= 3 else [])
         room.put("long.book", book.image())
         check(len(book.image()) == length, "the longest book of version %d has %d bytes" % (version, len(book.image())))
         room.says(0, "lawful: %s" % work_out.counts(book), "check", "long.book")

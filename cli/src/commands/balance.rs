@@ -14,18 +14,19 @@ pub const BALANCE: Command = Command {
     choices: &[JSON],
     summary: "print the balance of a node, or of all",
     explains: "\
-Prints for a node, or for all, the data slots of a cycle, those it uses, and
-those that are free. Free slots are not yet slots that can be sold: a stream
-needs slots in turn on its whole route. What can be sold is what quote says.",
+Prints for a node, or for all, the data slots of a cycle of 1000 tiles, those it
+uses, and those that are free. Free slots are not yet slots that can be sold: a
+stream needs slots in turn on its whole route. What can be sold is what quote
+says.",
     example: "lindurask balance kiln.book",
     run,
 };
 
 /// The line above balances.
-const HEAD: &str = "node data used free\n";
+const HEAD: &str = "node  data  used  free\n";
 
 fn line((node, balance): (&u8, &Balance)) -> String {
-    format!("{node:>4}{:>5}{:>5}{:>5}\n", balance.data, balance.used, balance.free)
+    format!("{node:>4}{:>6}{:>6}{:>6}\n", balance.data, balance.used, balance.free)
 }
 
 fn run(words: &Words) -> Result<Report, Trouble> {

@@ -10,6 +10,7 @@ use crate::loaded::{unreadable, Loaded};
 use crate::page::agrees;
 use crate::table::Entry;
 use crate::text::{count, plain, row};
+use crate::tiles::Tiles;
 use crate::trouble::Trouble;
 use crate::words::{Words, JSON};
 use std::path::Path;
@@ -192,13 +193,12 @@ fn in_json(difference: &Difference) -> String {
     ])
 }
 
-/// A book and its tables, which the engine says and the rows of the book bear out.
-fn read(path: &Path) -> Result<(Book, Vec<Vec<Entry>>), Trouble> {
-    let mut loaded = Loaded::read(path).map_err(Trouble::of_file)?;
+/// These tiles of the tables of a book, which the engine says and the rows of the book bear out.
+fn tables(mut loaded: Loaded, tiles: Tiles) -> Result<(Book, Vec<Vec<Entry>>), Trouble> {
     let nodes = loaded.nodes(None)?;
-    let tables = loaded.tables(&nodes)?;
+    let tables = loaded.tables(&nodes, tiles, "")?;
     loaded.engine.finish()?;
-    if !agrees(&loaded.book, &tables) {
+    if !agrees(&loaded.book, tiles, &tables) {
         return Err(unreadable());
     }
     Ok((loaded.book, tables))
@@ -206,8 +206,11 @@ fn read(path: &Path) -> Result<(Book, Vec<Vec<Entry>>), Trouble> {
 
 fn run(words: &Words) -> Result<Report, Trouble> {
     let paths = [words.path(0), words.path(1)];
+    let read = |path: &Path| Loaded::read(path).map_err(Trouble::of_file);
     let [first, second] = [read(paths[0])?, read(paths[1])?];
-    let difference = Difference::of([&first.0, &second.0], [&first.1, &second.1]);
+    let tiles = Tiles::repeat(&[&first.book, &second.book]);
+    let [first, second] = [tables(first, tiles)?, tables(second, tiles)?];
+    let difference = Difference::of([&first.0, &second.0], tiles, [&first.1, &second.1]);
     let is_same = difference.is_none();
     if is_same && difference.seen.is_some() {
         return Err(unreadable());

@@ -18,8 +18,9 @@ pub const OPEN: Command = Command {
     summary: "open a stream",
     explains: "\
 Opens a stream from node SOURCE to node DESTINATION that sends every PERIOD
-tiles: 1, 2, 5, 10, 20, 50 or 100. It takes the shortest route and the first
-free slots on it. ID is a number from 1 to 65535 that no stream has yet.
+tiles: 1, 2, 5, 10, 20, 50, 100, 200, 500 or 1000. It takes the shortest route
+and the first free slots on it. ID is a number from 1 to 65535 that no stream
+has yet.
 With the word second it takes a second route too, of at most 6 hops and with no
 relay of the first: whichever relay is lost, one of the two is left. It takes
 both or none. With --mains only NODES may stand in the middle of its routes, be

@@ -5,6 +5,7 @@ use crate::files;
 use crate::loaded::{unreadable, Loaded};
 use crate::page::{agrees, page};
 use crate::text::plain;
+use crate::tiles::Tiles;
 use crate::trouble::Trouble;
 use crate::words::Words;
 
@@ -16,8 +17,10 @@ pub const PAGE: Command = Command {
     summary: "draw a book as a page for a browser",
     explains: "\
 Draws the book as one HTML page: the site and its routes, the slots of the
-cycle, the streams, and what each node has left. The page goes to FILE, or to
-standard output. A file that is there already is never replaced.",
+cycle, the streams, and what each node has left. Of the slots it draws the tiles
+up to where they repeat, at most 100, and names the streams with later hops. The
+page goes to FILE, or to standard output. A file that is there already is never
+replaced.",
     example: "lindurask page kiln.book kiln.html",
     run,
 };
@@ -27,9 +30,10 @@ fn run(words: &Words) -> Result<Report, Trouble> {
     let mut loaded = Loaded::read(path)?;
     let nodes = loaded.nodes(None)?;
     let balances = loaded.balances(&nodes)?;
-    let tables = loaded.tables(&nodes)?;
+    let tiles = Tiles::repeat(&[&loaded.book]);
+    let tables = loaded.tables(&nodes, tiles, "")?;
     loaded.engine.finish()?;
-    if !agrees(&loaded.book, &tables) {
+    if !agrees(&loaded.book, tiles, &tables) {
         return Err(unreadable());
     }
     let title = plain(path.file_name().unwrap_or(path.as_os_str()));

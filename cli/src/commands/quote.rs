@@ -77,7 +77,7 @@ fn refused(number: u8) -> String {
 }
 
 fn lines(offer: &Offer) -> String {
-    let period = format!("period {:>3}:", offer.period);
+    let period = format!("period {:>4}:", offer.period);
     match (&offer.first, &offer.second) {
         (Err(number), _) => format!("{period} {}", refused(*number)),
         (Ok(first), second) => {

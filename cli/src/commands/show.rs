@@ -1,15 +1,16 @@
 //! Draws a book for a person.
 
 use super::{Command, Report};
-use crate::book::{Balance, Book, Stream, CYCLE};
+use crate::book::{Balance, Book, Stream};
 use crate::colour::Colour;
 use crate::describe::{self, HEARD, INDENT};
 use crate::frame;
 use crate::json;
 use crate::loaded::{accepted, Loaded};
-use crate::picture::{label, Picture, Row};
+use crate::picture::{label, shown, Picture, Row};
 use crate::table::Entry;
 use crate::text::{count, row};
+use crate::tiles::Tiles;
 use crate::trouble::Trouble;
 use crate::words::{Words, JSON, NODE, NO_LISTS, STREAM};
 
@@ -131,14 +132,15 @@ struct Nodes {
     balances: Vec<Balance>,
     /// How many links it has.
     links: Vec<u8>,
+    /// What it does in the tiles of the picture.
     tables: Vec<Vec<Entry>>,
 }
 
 impl Nodes {
-    fn ask(loaded: &mut Loaded) -> Result<Nodes, Trouble> {
+    fn ask(loaded: &mut Loaded, tiles: Tiles) -> Result<Nodes, Trouble> {
         let nodes = loaded.nodes(None)?;
         let (balances, links) = (loaded.balances(&nodes)?, loaded.links(&nodes)?);
-        Ok(Nodes { balances, links, tables: loaded.tables(&nodes)? })
+        Ok(Nodes { balances, links, tables: loaded.tables(&nodes, tiles, "")? })
     }
 
     /// The rows of the picture.
@@ -201,20 +203,21 @@ fn in_json(book: &Book, part: &Part, nodes: &Nodes) -> String {
 }
 
 fn run(words: &Words) -> Result<Report, Trouble> {
-    let from = words.tile_if(1, CYCLE)?.unwrap_or(0);
+    let from = words.tile_of_cycle(1)?.unwrap_or(0);
     if words.has(&STREAM) && words.has(&NODE) {
         return Err(SHOW.misused());
     }
     let mut loaded = Loaded::read(words.path(0))?;
     let part = part(words, &mut loaded)?;
-    let nodes = Nodes::ask(&mut loaded)?;
+    let tiles = shown(&loaded.book, from);
+    let nodes = Nodes::ask(&mut loaded, tiles)?;
     loaded.engine.finish()?;
     let book = &loaded.book;
     if words.has(&JSON) {
         return Ok(in_json(book, &part, &nodes).into());
     }
     let colour = Colour::for_output();
-    let picture = Picture { book, rows: nodes.rows(book, &part), from, colour };
+    let picture = Picture { book, rows: nodes.rows(book, &part), tiles, colour };
     let mut text = describe::counts(book);
     if !words.has(&NO_LISTS) {
         text += &lists(book, &part, &nodes, colour);

@@ -1,22 +1,25 @@
 //! Prints what nodes do in each slot of a cycle.
 
 use super::{Command, Report};
-use crate::book::Book;
+use crate::book::{Book, CYCLE};
 use crate::json;
 use crate::loaded::Loaded;
 use crate::table::Entry;
-use crate::text;
+use crate::text::{self, count};
+use crate::tiles::Tiles;
 use crate::trouble::Trouble;
-use crate::words::{Words, JSON};
+use crate::words::{Number, Words, JSON};
 
 pub const TABLE: Command = Command {
     name: "table",
-    operands: "BOOK [NODE]",
-    takes: [1, 2],
+    operands: "BOOK [NODE [TILE [COUNT]]]",
+    takes: [1, 4],
     choices: &[JSON],
     summary: "print the slot table of a node, or of all",
-    explains: "Prints what a node, or every node, does in each slot of the 100 tiles of a cycle.",
-    example: "lindurask table kiln.book 2",
+    explains: "\
+Prints what a node, or every node, does in each slot of the 1000 tiles of a
+cycle, or of those from TILE on, or of COUNT tiles from TILE on.",
+    example: "lindurask table kiln.book 2 0 20",
     run,
 };
 
@@ -37,32 +40,49 @@ fn entry(entry: Entry, width: usize) -> String {
     format!("{:>width$}", format!("{}{id}", entry.letter()))
 }
 
-/// A node's table, a line for each tile.
-fn table(book: &Book, node: u8, entries: &[Entry]) -> String {
+/// Tiles of a node's table, from the first on, a line for each.
+fn table(book: &Book, node: u8, first: u16, entries: &[Entry]) -> String {
     let width = 1 + digits(book);
-    let tile = |(tile, slots): (usize, &[Entry])| {
-        text::row(&format!("tile {tile:>2}"), slots.iter().map(|&slot| entry(slot, width)))
+    let tile = |(tile, slots): (u16, &[Entry])| {
+        text::row(&format!("tile {tile:>3}"), slots.iter().map(|&slot| entry(slot, width)))
     };
-    let tiles = entries.chunks(book.slots.into()).enumerate();
+    let tiles = (first..).zip(entries.chunks(book.slots.into()));
     format!("node {node}\n{}", tiles.map(tile).collect::<String>())
 }
 
-fn in_json(node: u8, entries: &[Entry]) -> String {
+fn in_json(node: u8, first: u16, entries: &[Entry]) -> String {
     let entry = |entry: &Entry| json::array([entry.operation.into(), entry.id]);
-    json::object([("node", node.to_string()), ("entries", json::array(entries.iter().map(entry)))])
+    json::object([
+        ("node", node.to_string()),
+        ("tile", first.to_string()),
+        ("entries", json::array(entries.iter().map(entry))),
+    ])
+}
+
+/// The tiles that the words name: all, those from one on, or so many from one on. The engine says whether the cycle has them.
+fn tiles(words: &Words) -> Result<(Tiles, String), Trouble> {
+    let (first, number) = (words.tile_if(2)?.unwrap_or(Number(0)), words.count_if(3)?);
+    let rest = u64::from(CYCLE).saturating_sub(first.0).max(1);
+    let most = u64::from(CYCLE) + 1;
+    let wanted = number.map_or(rest, |Number(number)| number).min(most);
+    let about = match number {
+        None => format!("tile {}", first.0),
+        Some(Number(number)) => format!("{} from tile {} on", count(number, "tile"), first.0),
+    };
+    Ok((Tiles { first: first.tiles(), count: wanted as u16 }, about))
 }
 
 fn run(words: &Words) -> Result<Report, Trouble> {
-    let one = words.node_if(1)?;
+    let (one, (tiles, about)) = (words.node_if(1)?, tiles(words)?);
     let mut loaded = Loaded::read(words.path(0))?;
     let nodes = loaded.nodes(one)?;
-    let tables = loaded.tables(&nodes)?;
+    let tables = loaded.tables(&nodes, tiles, &about)?;
     loaded.engine.finish()?;
     let all = nodes.iter().zip(&tables);
     if words.has(&JSON) {
-        let list = json::array(all.map(|(&node, entries)| in_json(node, entries)));
+        let list = json::array(all.map(|(&node, entries)| in_json(node, tiles.first, entries)));
         return Ok(json::answer([("tables", list)]).into());
     }
-    let text = all.map(|(&node, entries)| table(&loaded.book, node, entries));
+    let text = all.map(|(&node, entries)| table(&loaded.book, node, tiles.first, entries));
     Ok((LETTERS.to_string() + &text.collect::<String>()).into())
 }

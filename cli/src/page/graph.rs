@@ -118,7 +118,7 @@ mod tests {
         assert_eq!(drawn.matches("<g class=\"arrow shared\"").count(), 56);
         assert!(drawn.contains(
             "Node 0 to node 1: streams 60000, 60008, 60016, 60024, 60032, 60040, 60048, 60056; \
-             800 slots"
+             8000 slots"
         ));
         assert!(drawn.contains(">×8</text>"));
     }

@@ -4,10 +4,13 @@ mod parts;
 mod sketch;
 
 use super::markup::{joined, scrolling};
+use super::traffic::names;
 use crate::book::{Book, CYCLE};
 use crate::text::count;
 use sketch::Sketch;
 
+/// The most tiles of a repeat that are drawn.
+const MOST_DRAWN: u16 = 100;
 /// The most idle tiles in a row that are drawn all the same: those of the longest plan.
 const IDLE_DRAWN: usize = 10;
 /// The most nodes for which tiles go on in a further line, where there is room, and not sideways.
@@ -15,8 +18,8 @@ const FEW_NODES: usize = 24;
 
 /// The grid with its legend and what it leaves out.
 pub fn grid(book: &Book) -> String {
-    let sketch = Sketch::new(book);
-    let tiles = (0..book.repeats_after()).collect::<Vec<_>>();
+    let sketch = Sketch::new(book, book.repeats_after().min(MOST_DRAWN));
+    let tiles = (0..sketch.shown).collect::<Vec<_>>();
     let runs = tiles.chunk_by(|&a, &b| sketch.is_idle(a) == sketch.is_idle(b)).collect::<Vec<_>>();
     let is_left_out = |run: &[u16]| sketch.is_idle(run[0]) && run.len() > IDLE_DRAWN;
     let left_out = runs.iter().filter(|run| is_left_out(run)).map(|run| span(run));
@@ -31,7 +34,7 @@ pub fn grid(book: &Book) -> String {
     let class = if book.links.len() > FEW_NODES { "slots" } else { "slots few" };
     format!(
         "<p>{}{} {READING}</p>\n{}{}{}",
-        extent(book),
+        extent(&sketch),
         omission(&left_out.collect::<Vec<_>>()),
         legend(book),
         sketch.parts(),
@@ -44,20 +47,21 @@ const READING: &str = "An offset of a stream counts slots from the start of the 
     takes that slot and comes again after every period. The table of streams says the same in \
     numbers.";
 
-/// How much of the cycle is shown.
-fn extent(book: &Book) -> String {
-    let shown = book.repeats_after();
-    if shown == CYCLE {
-        return format!(
-            "The picture repeats only with the cycle of {CYCLE} tiles, which is shown."
-        );
+/// How much of the cycle is shown, and whose hops are not.
+fn extent(sketch: &Sketch) -> String {
+    let repeat = sketch.book.repeats_after();
+    let (tiles, times) = (count(repeat, "tile"), count(CYCLE / repeat, "repeat"));
+    let shown = match sketch.shown == repeat {
+        true => "one repeat is shown".to_string(),
+        false => format!("the first {} of them are shown", sketch.shown),
+    };
+    let said = format!(
+        "The picture repeats after {tiles}: {shown}, and a cycle of {CYCLE} tiles has {times}."
+    );
+    match names(sketch.book, &sketch.later()) {
+        none if none.is_empty() => said,
+        names => format!("{said} Hops in later tiles, not shown: streams {names}."),
     }
-    let tiles = count(shown, "tile");
-    let times = CYCLE / shown;
-    format!(
-        "The picture repeats after {tiles}: one repeat is shown, and a cycle of {CYCLE} tiles has \
-         {times} of them."
-    )
 }
 
 /// What the picture leaves out, if anything.

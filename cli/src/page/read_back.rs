@@ -73,10 +73,16 @@ fn tiles(tags: &[Tag]) -> BTreeMap<usize, Vec<String>> {
     tiles
 }
 
-/// After how many tiles the picture comes again, as the page says it.
-fn tiles_shown(page: &str) -> usize {
-    let number = page.split("repeats after ").nth(1).and_then(|rest| rest.split(' ').next());
-    number.map_or(TILES, |number| number.parse().expect("a number of tiles"))
+/// A number of tiles that the page says behind these words.
+fn said_behind(page: &str, words: &str) -> Option<usize> {
+    let number = page.split(words).nth(1).and_then(|rest| rest.split(' ').next());
+    number.map(|number| number.parse().expect("a number of tiles"))
+}
+
+/// After how many tiles the picture comes again, and how many of these are shown, as the page says it.
+fn tiles_shown(page: &str) -> (usize, usize) {
+    let repeat = said_behind(page, "repeats after ").expect("the repeat");
+    (repeat, said_behind(page, "the first ").unwrap_or(repeat))
 }
 
 /// Marks a slot with a cell that is drawn over it; only the ground of a tile has others over it.
@@ -86,7 +92,7 @@ fn mark(place: &mut String, cell: &Cell) {
     *place = cell.meaning.clone();
 }
 
-/// The table of the whole cycle as the picture shows it; what is left out of it is marked so.
+/// The table of the whole cycle as the picture shows it; what is left out of it is marked so, and what is not shown.
 fn read_back(book: &Book) -> Table {
     let page = grid::grid(book);
     let tags = tags(&page);
@@ -96,11 +102,11 @@ fn read_back(book: &Book) -> Table {
         grounds.clone().find(|cell| cell.meaning == "sleep").expect("the ground of a tile");
     let (slots, nodes) = (usize::from(book.slots), book.links.len());
     let (column, row) = (ground.width / slots, ground.height / nodes);
-    let shown = tiles_shown(&page);
+    let (repeat, shown) = tiles_shown(&page);
     let mut table = vec![vec!["left out".to_string(); TILES * slots]; nodes];
     for tile in 0..TILES {
         let cells = tiles
-            .get(&(tile % shown))
+            .get(&(tile % repeat))
             .into_iter()
             .flatten()
             .flat_map(|part| parts.get(part).into_iter().flatten());
@@ -111,8 +117,17 @@ fn read_back(book: &Book) -> Table {
                 columns.clone().for_each(|slot| mark(&mut row[tile * slots + slot], cell));
             }
         }
+        if shown <= tile % repeat {
+            let places = table.iter_mut().flat_map(|row| &mut row[tile * slots..][..slots]);
+            places.for_each(|place| mark(place, &not_shown()));
+        }
     }
     table
+}
+
+/// What stands for a slot of a tile that is not shown.
+fn not_shown() -> Cell {
+    Cell { meaning: "not shown".into(), left: 0, top: 0, width: 0, height: 0 }
 }
 
 /// The table of the whole cycle by document 01: control by the plan, each hop in all its repeats.
@@ -140,14 +155,14 @@ fn by_the_document(book: &Book) -> Table {
     table
 }
 
-/// The picture agrees with the document in every slot; only tiles without streams are left out.
+/// The picture agrees with the document in every slot of its tiles; only tiles without streams are left out.
 fn assert_agrees(book: &Book) {
     let (drawn, wanted) = (read_back(book), by_the_document(book));
     for (node, (drawn, wanted)) in drawn.iter().zip(&wanted).enumerate() {
         for (slot, (drawn, wanted)) in drawn.iter().zip(wanted).enumerate() {
             let is_left_out = drawn == "left out" && (wanted == "sleep" || wanted == "control");
             assert!(
-                drawn == wanted || is_left_out,
+                drawn == wanted || is_left_out || drawn == "not shown",
                 "node {node}, slot {slot}: drawn {drawn}, by the document {wanted}"
             );
         }
@@ -203,10 +218,37 @@ fn plans_at_the_ends_of_their_ranges_are_drawn() {
 #[test]
 fn the_page_says_after_how_many_tiles_the_picture_repeats() {
     assert!(grid::grid(&kiln()).contains(
-        "The picture repeats after 20 tiles: one repeat is shown, and a cycle of 100 tiles has 5"
+        "The picture repeats after 20 tiles: one repeat is shown, and a cycle of 1000 tiles has 50 \
+         repeats."
     ));
-    assert!(grid::grid(&full_site())
-        .contains("The picture repeats only with the cycle of 100 tiles, which is shown."));
+    assert!(grid::grid(&full_site()).contains(
+        "The picture repeats after 100 tiles: one repeat is shown, and a cycle of 1000 tiles has 10 \
+         repeats."
+    ));
+}
+
+#[test]
+fn of_a_long_repeat_the_first_tiles_are_shown_and_later_hops_are_named() {
+    let quick = stream(1, 50, &[0, 1], &[5]);
+    let slow = stream(9, 1000, &[1, 0], &[799]);
+    let book = line_book(2, vec![quick.clone(), slow]);
+    assert_agrees(&book);
+    let shown = read_back(&book)[0].iter().filter(|drawn| *drawn != "not shown").count();
+    assert_eq!(shown, 100 * 8);
+    let drawn = grid::grid(&book);
+    assert!(drawn.contains(
+        "The picture repeats after 1000 tiles: the first 100 of them are shown, and a cycle of \
+         1000 tiles has 1 repeat."
+    ));
+    assert!(!drawn.contains("Hops in later tiles"));
+    // The next slot is in tile 100.
+    let book = line_book(2, vec![quick, stream(9, 500, &[1, 0, 1], &[799, 800])]);
+    assert_agrees(&book);
+    let drawn = grid::grid(&book);
+    assert!(drawn.contains(
+        "a cycle of 1000 tiles has 2 repeats. Hops in later tiles, not shown: streams 9."
+    ));
+    assert!(drawn.contains("stream 9, offset 799:") && !drawn.contains("stream 9, offset 800:"));
 }
 
 #[test]

@@ -71,8 +71,8 @@ pub fn ring() -> Book {
 
 /// The balances of the line of kilns: each hop counts at both its nodes, as often as its period.
 pub fn kiln_balances() -> Vec<Balance> {
-    let used = [35, 120, 120, 70, 50, 30, 80, 65];
-    used.map(|used| Balance { data: 650, used, free: 650 - used }).into()
+    let used = [350, 1200, 1200, 700, 500, 300, 800, 650];
+    used.map(|used| Balance { data: 6500, used, free: 6500 - used }).into()
 }
 
 /// A site of 64 nodes with 64 streams of long ids and every period, each along a row of nodes.

@@ -63,7 +63,7 @@ mod tests {
                 ("Site", "8 nodes, 7 links"),
                 ("Streams", "5 of at most 64"),
                 ("Hops", "20 of at most 512"),
-                ("Cycle", "100 tiles of 8 slots"),
+                ("Cycle", "1000 tiles of 8 slots"),
                 ("Tile plan", "downlink, uplink"),
                 ("Control slots of a tile", "downlink 2, uplink 1"),
             ],

@@ -73,7 +73,7 @@ mod tests {
         let book = kiln();
         let traffic = traffic(&book);
         assert_eq!(names(&book, &traffic[&(2, 1)]), "1, 3, 4");
-        assert_eq!(slots_in_use(&book, &traffic[&(2, 1)]), 10 + 20 + 50);
+        assert_eq!(slots_in_use(&book, &traffic[&(2, 1)]), 100 + 200 + 500);
         assert_eq!(names(&book, &traffic[&(6, 7)]), "2, 5");
         assert_eq!(traffic.len(), 14);
     }
@@ -83,7 +83,7 @@ mod tests {
         let rows = [3, 4, 5, 8].map(|id| stream(id, 50, &[1, 2], &[id]));
         let book = line_book(4, rows.into());
         let listed = listing(&book, &traffic(&book));
-        assert!(listed.contains("<li><b>1 → 2</b> 3–5, 8 <small>(8 slots)</small></li>"));
+        assert!(listed.contains("<li><b>1 → 2</b> 3–5, 8 <small>(80 slots)</small></li>"));
         assert!(listed.contains("Links without a stream: 0–1, 2–3."));
     }
 }

@@ -49,7 +49,6 @@ pub record Parts (route offsets : List ℕ) : Type 0 where
 pub record Puttable (s : List ℕ) (at : ℕ) (q : Asked) (rows hops : ℕ) : Type 0 where
   pub image : NewestImage s
   pub vacant : Vacant s (q .id) at
-  pub period : q .period < 256
   pub streams : streamsOf s + rows ≤ mostStreams
   pub hops-in-all : hopsOf s + hops ≤ mostHops
 

@@ -13,10 +13,10 @@ use image::Book;
 use rules::Asked;
 
 // The bytes of the longest row,
-const LONGEST_ROW: usize = 51;
+const LONGEST_ROW: usize = 52;
 
 // and of the two rows of a stream.
-const LONGEST_ROWS: usize = 102;
+const LONGEST_ROWS: usize = 104;
 
 // The ways of a stream: its first route,
 const FIRST: u8 = 1;
@@ -56,7 +56,7 @@ fn put_in(
 // The bytes of a row of so many hops.
 fn row_size(hops: usize) -> usize
     requires { ⌜ hops ≤ mostRouteHops ⌝ }
-    ensures { λ r. ⌜ (r ≡ rowLength newest + 3 * hops) × (r ≤ 51) ⌝ }
+    ensures { λ r. ⌜ (r ≡ rowLength newest + 3 * hops) × (r ≤ 52) ⌝ }
 {
     image::row_length(image::NEWEST) + image::HOP * hops
 }

@@ -3,7 +3,7 @@ use libc::STDOUT_FILENO;
 use planner::Balance;
 use rules::Node;
 
-// No more than 4,096 bytes are read. An image whose bytes 0 to 15 are in range has at most 2,960
+// No more than 4,096 bytes are read. An image whose bytes 0 to 15 are in range has at most 3,024
 // bytes, so for a longer input those bytes and the fact that it is longer decide the number: 13, 10
 // or 14. The first 4,096 bytes have both, and so the same number.
 fn main() {

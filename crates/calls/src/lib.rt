@@ -47,6 +47,15 @@ fn open_stream(frame: &[u8], book: &[u8], out: &mut [u8]) -> Reply
     frames::answered(planner::open_stream(book, asked, out))
 }
 
+// Writes a part of a node's slot table.
+fn expand(frame: &[u8], book: &[u8], out: &mut [u8]) -> Reply
+    requires { ⌜ headLength ≤ length (now frame) ⌝ }
+{
+    let first = Tile(image::word_at(frame, 22));
+    let tiles = Tile(image::word_at(frame, 24));
+    frames::answered(planner::expand(book, Node(frame[3]), first, tiles, out))
+}
+
 // Gives a node's balance.
 fn balance(frame: &[u8], book: &[u8]) -> Reply
     requires { ⌜ headLength ≤ length (now frame) ⌝ }
@@ -116,7 +125,7 @@ pub fn call(frame: &[u8], book: &[u8], out: &mut [u8]) -> Reply
         2 => frames::answered(planner::rewrite(book, out)),
         3 => open_stream(frame, book, out),
         4 => frames::answered(planner::close_stream(book, image::word_at(frame, 1), out)),
-        5 => frames::answered(planner::expand(book, Node(frame[3]), out)),
+        5 => expand(frame, book, out),
         7 => routes_between(frame, book, out),
         KEEPS => keeps_to(frame, book),
         LINKS => links(frame, book),

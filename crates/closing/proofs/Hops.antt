@@ -33,7 +33,7 @@ module _ {s : List ℕ} {at : ℕ} (h : LawfulImage s) (w : RowHere s at) where
 
   module _ {repeats : Repeats} (v : RepeatsOf (planOf s .slots) (rowAt s at .period) repeats) (i : ℕ) where
     pub hop-in-index : {o : ℕ} → i < hops (rowAt s at) → o ≡ rowOffset (rowAt s at) i → InIndex repeats o
-    hop-in-index l e = in-index v (h .lawful .site .plan .most) (w .lawful .period) (rw e (offset-within (w .lawful) i l))
+    hop-in-index l e = in-index v (h .lawful .site .plan .most) (rw e (offset-within (w .lawful) i l))
 
     -- one hop more is taken out
     module _ {from to : Node} {o : ℕ} (e : from .0 ≡ getD (rowAt s at .route) i 0) (f : to .0 ≡ getD (rowAt s at .route) (i + 1) 0) (g : o ≡ rowOffset (rowAt s at) i) where

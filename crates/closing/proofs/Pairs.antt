@@ -28,7 +28,7 @@ use Rattle.closing.specs.Gone.{RowOut, GoneAt}
 row-out : {b : Book} {r : Row} {rows more : List Row} {t u : List ℕ} → LawfulBook b → With r rows more → RisingByKey more → ((x : Row) → x ∈ more → x ∈ b .rows)
     → IndexOf (b .site .plan .slots) more t → Removes (HopsTake (b .site .plan .slots) r (hops r)) t u → IndexOf (b .site .plan .slots) rows u
 row-out {b} {r} {rows} {more} l p up known w a =
-    index-without (b .site) r rows (λ x m. lawful-quiet b l r x (known r (with-this p)) (known x (with-other x p m)) (λ e. with-alone x p up m (sym e)))
+    index-without (b .site) r rows (l .rows r (known r (with-this p)) .period) (λ x m. lawful-quiet b l r x (known r (with-this p)) (known x (with-other x p m)) (λ e. with-alone x p up m (sym e)))
     (index-alike (λ x m. with-in x p m) (λ x m. ⊎-elim (λ (e : x ≡ r). subst (λ (v : Row). v ∈ more) (sym e) (with-this p)) (λ (k : x ∈ rows). with-other x p k) m) w) a
 
 module _ {s : List ℕ} {id at : ℕ} (t : Taken s id at) where

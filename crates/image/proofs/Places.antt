@@ -9,7 +9,7 @@ use lib.Dec.{leb}
 use lib.ListN.{length, getD, drop}
 use lib.Seq.{getD-drop, drop-drop}
 use Rattle.rules.specs.Book.{Row, hops, rowOffset}
-use Rattle.rules.specs.Image.{hasWays, hasHearing, headerLength, linksStart, hearingStart, rowsStart, periodPlace, hopsPlace, rowLength}
+use Rattle.rules.specs.Image.{hasWays, hasHearing, hasWide, headerLength, linksStart, hearingStart, rowsStart, periodPlace, hopsPlace, rowLength}
 use Rattle.rules.specs.Image.{wordAt, word64At, topologyAt, versionOf, nodesOf, hearingOf, rowsPlace, streamsOf}
 use Rattle.rules.specs.Words.{Tests}
 use Rattle.rules.proofs.Tests.{never, alike, tests-le}
@@ -19,11 +19,18 @@ use Rattle.rules.proofs.Reading.{readRows, rowsIn}
 use Rattle.image.specs.Places.{hearingPlace, rowAt, nextAt, rowsFrom, Whole}
 
 -- in the versions before 2 a row has no way
-pub place-without : (v : ℕ) → v < 2 → hopsPlace v ≡ 3
-place-without v l = ap (λ (t : Bool). 2 + cond t 1 0 + 1) (lt-leb 2 v l)
+pub place-without : (v : ℕ) → v < 2 → periodPlace v ≡ 2
+place-without v l = ap (λ (t : Bool). 2 + cond t 1 0) (lt-leb 2 v l)
 
-pub place-with : (v : ℕ) → 2 ≤ v → hopsPlace v ≡ 4
-place-with v l = ap (λ (t : Bool). 2 + cond t 1 0 + 1) (le-leb 2 v l)
+pub place-with : (v : ℕ) → 2 ≤ v → periodPlace v ≡ 3
+place-with v l = ap (λ (t : Bool). 2 + cond t 1 0) (le-leb 2 v l)
+
+-- in those before 4 its period has one byte
+pub hops-narrow : (v p : ℕ) → v < 4 → p ≡ periodPlace v → p + 1 ≡ hopsPlace v
+hops-narrow v p l e = let f = ap (λ (t : Bool). cond {A = ℕ} t 1 0) (lt-leb 4 v l) in omega arith
+
+pub hops-wide : (v p : ℕ) → 4 ≤ v → p ≡ periodPlace v → p + 2 ≡ hopsPlace v
+hops-wide v p l e = let f = ap (λ (t : Bool). cond {A = ℕ} t 1 0) (le-leb 4 v l) in omega arith
 
 -- in the versions before 3 the hearing stands where the links do
 pub hearing-without : (v N : ℕ) → v < 3 → hearingPlace v N ≡ headerLength
@@ -74,9 +81,20 @@ module _ (s : List ℕ) (at : ℕ) where
   pub way-with : 2 ≤ versionOf s → rowAt s at .way ≡ getD s (at + 2) 0
   way-with l = row-way ∙ ap (λ (t : Bool). cond t (getD s (at + 2) 0) 1) (le-leb 2 (versionOf s) l)
 
-  pub row-period : rowAt s at .period ≡ getD s (at + periodPlace (versionOf s)) 0
-  unfolding rowAt
+  period : Bool → ℕ
+  period t = cond t (wordAt s (at + periodPlace (versionOf s))) (getD s (at + periodPlace (versionOf s)) 0)
+
+  row-period : rowAt s at .period ≡ period (hasWide (versionOf s))
+  unfolding rowAt period
   row-period = front-period (versionOf s) s at
+
+  pub period-wide : (p : ℕ) → p ≡ periodPlace (versionOf s) → hasWide (versionOf s) ≡ true → wordAt s (at + p) ≡ rowAt s at .period
+  unfolding period
+  period-wide p e t = ap (λ (n : ℕ). wordAt s (at + n)) e ∙ sym (row-period ∙ ap period t)
+
+  pub period-narrow : (p : ℕ) → p ≡ periodPlace (versionOf s) → hasWide (versionOf s) ≡ false → getD s (at + p) 0 ≡ rowAt s at .period
+  unfolding period
+  period-narrow p e t = ap (λ (n : ℕ). getD s (at + n) 0) e ∙ sym (row-period ∙ ap period t)
 
   pub next-stated : (p h : ℕ) → p ≡ hopsPlace (versionOf s) → h ≡ getD s (at + p) 0 → at + (p + 2 + 3 * h) ≡ nextAt s at
   unfolding nextAt

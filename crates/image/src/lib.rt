@@ -4,7 +4,7 @@ ghost use Prim.Native.Nat.{_+_, _*_, _<_, _≤_};
 ghost use lib.ListN.{length, getD, take};
 ghost use Rattle.rules.specs.Words.{Tests, TwoBytes};
 ghost use Rattle.rules.specs.Book.{hops, rowOffset};
-ghost use Rattle.rules.specs.Image.{headerLength, rowsStart, periodPlace, hopsPlace, rowLength, imageLength, mark, Version, versionOf, wordAt, word64At};
+ghost use Rattle.rules.specs.Image.{headerLength, rowsStart, hasWide, periodPlace, hopsPlace, rowLength, imageLength, mark, Version, versionOf, wordAt, word64At};
 ghost use Rattle.image.specs.Places.{hearingPlace, rowAt, nextAt, Whole};
 ghost use Rattle.image.specs.Header.{HeaderOf};
 use rules::Node;
@@ -19,13 +19,16 @@ pub const HEADER: usize = 16;
 pub const MARK: [u8; 3] = *b"SLB";
 
 // The newest version, in which new and changed books are written.
-pub const NEWEST: u16 = 3;
+pub const NEWEST: u16 = 4;
 
 // The first version whose rows hold their ways.
 const WAYS: u16 = 2;
 
 // The first version that holds who hears whom.
 const HEARING: u16 = 3;
+
+// The first version that holds periods in two bytes.
+const WIDE: u16 = 4;
 
 // The bytes of a topology row,
 pub const SET: usize = 8;
@@ -94,34 +97,50 @@ pub fn word64_at(image: &[u8], at: usize) -> u64
     (half * 65536 + long_word_at(image, at + 4)) * 65536 + long_word_at(image, at + 6)
 }
 
-// In a row of a version, the bytes before the hop count.
-fn hops_place(version: u16) -> usize
-    ensures { λ r. ⌜ (r ≡ hopsPlace version) × (r ≤ 4) ⌝ }
+// In a row of a version, the bytes before the period: its id, and its way where the version holds it.
+fn period_place(version: u16) -> usize
+    ensures { λ r. ⌜ (r ≡ periodPlace version) × (r ≤ 3) ⌝ }
 {
-    if version < WAYS { 3 } else { 4 }
+    if version < WAYS { 2 } else { 3 }
+}
+
+// Those before the hop count: the period too, in one byte or two.
+fn hops_place(version: u16) -> usize
+    ensures { λ r. ⌜ (r ≡ hopsPlace version) × (r ≤ 5) ⌝ }
+{
+    let place = period_place(version);
+    if version < WIDE { place + 1 } else { place + 2 }
 }
 
 // The bytes of a row of a version beside its hops.
 pub fn row_length(version: u16) -> usize
-    ensures { λ r. ⌜ (r ≡ rowLength version) × (r ≤ 6) ⌝ }
+    ensures { λ r. ⌜ (r ≡ rowLength version) × (r ≤ 7) ⌝ }
 {
     hops_place(version) + 2
 }
 
-// In a row of the image, the bytes before the hop count.
-fn hops_place_in(image: &[u8]) -> usize
+// In a row of the image, the bytes before the period.
+fn period_place_in(image: &[u8]) -> usize
     requires { ⌜ 5 ≤ length (now image) ⌝ }
-    ensures { λ r. ⌜ (r ≡ hopsPlace (versionOf (now (image .entry)))) × (r ≤ 4) ⌝ }
+    ensures { λ r. ⌜ (r ≡ periodPlace (versionOf (now (image .entry)))) × (r ≤ 3) ⌝ }
+{
+    period_place(word_at(image, 3))
+}
+
+// In a row of the image, the bytes before the hop count.
+pub fn hops_place_in(image: &[u8]) -> usize
+    requires { ⌜ 5 ≤ length (now image) ⌝ }
+    ensures { λ r. ⌜ (r ≡ hopsPlace (versionOf (now (image .entry)))) × (r ≤ 5) ⌝ }
 {
     hops_place(word_at(image, 3))
 }
 
-// In a row of the image, the bytes before the period: its id, and its way where the version holds it.
-pub fn period_place_in(image: &[u8]) -> usize
+// Whether the image holds its periods in two bytes.
+pub fn is_wide(image: &[u8]) -> bool
     requires { ⌜ 5 ≤ length (now image) ⌝ }
-    ensures { λ r. ⌜ (r ≡ periodPlace (versionOf (now (image .entry)))) × (r ≤ 3) ⌝ }
+    ensures { λ r. ⌜ r ≡ hasWide (versionOf (now (image .entry))) ⌝ }
 {
-    hops_place_in(image) - 1
+    WIDE <= word_at(image, 3)
 }
 
 impl Book {
@@ -135,7 +154,7 @@ impl Book {
     pub const ROUTE_HOPS: usize = 15;
 
     // Its longest image in the newest version.
-    pub const LONGEST: usize = 2960;
+    pub const LONGEST: usize = 3024;
 
     // What the header of an image says.
     pub fn read(image: &[u8]) -> Book
@@ -251,9 +270,14 @@ pub fn way_at(image: &[u8], at: usize) -> u8
 // Its period.
 pub fn period_at(image: &[u8], at: usize) -> Tile
     requires { ⌜ Whole (now image) at ⌝ }
-    ensures { λ r. ⌜ (r .0 ≡ rowAt (now (image .entry)) at .period) × (r .0 < 256) ⌝ }
+    ensures { λ r. ⌜ (r .0 ≡ rowAt (now (image .entry)) at .period) × TwoBytes (r .0) ⌝ }
 {
-    Tile(wide16(image[at + period_place_in(image)]))
+    let place = at + period_place_in(image);
+    if is_wide(image) {
+        Tile(word_at(image, place))
+    } else {
+        Tile(wide16(image[place]))
+    }
 }
 
 // How many hops it has.

@@ -12,7 +12,7 @@ use Rattle.rules.specs.Topology.{Hop}
 use Rattle.bitset.specs.Sets.{SetOf}
 use Rattle.clash.specs.Reach.{End, nodeAt}
 use Rattle.clash.specs.Reach.End.{sender, receiver}
-use Rattle.index.specs.Index.{wordAt, AtWork}
+use Rattle.index.specs.Index.{indexSlots, slowPlace, wordAt, AtWork}
 use Rattle.index.specs.Marks.{Adds}
 
 pub adds-none : {P : End → ℕ → ℕ → Type 0} (t : List ℕ) → ((end : End) (slot node : ℕ) → P end slot node → ⊥) → Adds P t t
@@ -22,6 +22,7 @@ adds-none t f = record {
   only = λ end slot node m. inl m;
   kept = λ end slot node m. m;
   all = λ end slot node p. absurd (f end slot node p);
+  behind = refl;
 }
 
 pub adds-alike : {P Q : End → ℕ → ℕ → Type 0} {s t : List ℕ} → ((end : End) (slot node : ℕ) → P end slot node → Q end slot node)
@@ -32,6 +33,7 @@ adds-alike f g a = record {
   only = λ end slot node m. ⊎-elim (λ k. inl k) (λ p. inr (f end slot node p)) (a .only end slot node m);
   kept = a .kept;
   all = λ end slot node q. a .all end slot node (g end slot node q);
+  behind = a .behind;
 }
 
 pub adds-both : {P Q : End → ℕ → ℕ → Type 0} {s t u : List ℕ} → Adds P s t → Adds Q t u → Adds (λ (end : End) (slot node : ℕ). P end slot node ⊎ Q end slot node) s u
@@ -42,6 +44,7 @@ adds-both a b = record {
       ⊎-elim (λ k. ⊎-elim (λ l. inl l) (λ p. inr (inl p)) (a .only end slot node k)) (λ q. inr (inr q)) (b .only end slot node m);
   kept = λ end slot node m. b .kept end slot node (a .kept end slot node m);
   all = λ end slot node p. ⊎-elim (λ k. b .kept end slot node (a .all end slot node k)) (λ k. b .all end slot node k) p;
+  behind = b .behind ∙ a .behind;
 }
 
 -- words of zeros have no nodes
@@ -70,7 +73,12 @@ module _ (t : List ℕ) (slot : ℕ) (h : Hop) (v w : ℕ) (inside : 2 * slot + 
   elsewhere receiver s f =
       getD-set-other (set t (2 * slot) v) (2 * slot + 1) (2 * s + 1) w 0 (λ e. f (omega arith)) ∙ getD-set-other t (2 * slot) (2 * s + 1) v 0 (λ e. omega arith)
 
-  module _ (first : SetOf (λ (node : ℕ). AtWork t sender slot node ⊎ (node ≡ h .from)) v)
+  -- and so does the word behind the slots
+  pub behind-slots : slot < indexSlots → getD after slowPlace 0 ≡ getD t slowPlace 0
+  behind-slots l =
+      getD-set-other (set t (2 * slot) v) (2 * slot + 1) slowPlace w 0 (λ e. omega arith) ∙ getD-set-other t (2 * slot) slowPlace v 0 (λ e. omega arith)
+
+  module _ (low : slot < indexSlots) (first : SetOf (λ (node : ℕ). AtWork t sender slot node ⊎ (node ≡ h .from)) v)
       (second : SetOf (λ (node : ℕ). AtWork t receiver slot node ⊎ (node ≡ h .to)) w) where
     sets : (end : End) → SetOf (λ (node : ℕ). AtWork t end slot node ⊎ (node ≡ nodeAt end h)) (the-word end)
     sets sender = first
@@ -83,6 +91,7 @@ module _ (t : List ℕ) (slot : ℕ) (h : Hop) (v w : ℕ) (inside : 2 * slot + 
       only = λ end s node m. only end s node (ℕ-discrete s slot) m;
       kept = λ end s node m. kept end s node (ℕ-discrete s slot) m;
       all = λ end s node p. put end s node (p .0) (sets end .all node (inr (p .1)));
+      behind = behind-slots low;
     }
       where
         -- what the word has that was set

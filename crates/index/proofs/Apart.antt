@@ -4,12 +4,14 @@ use mathlib.Core.Logic.{inl, inr}
 use mathlib.Core.List.{List, _∷_}
 use Prim.Native.Nat.{ℕ}
 use Rattle.rules.specs.Words.{_∈_}
+use Rattle.rules.specs.Tiles.{Period}
 use Rattle.rules.specs.Topology.{Hop, Touches}
 use Rattle.rules.specs.Book.{Site, Row, Book, key, hops, rowHop, RowsMeet, LawfulBook}
 use Rattle.clash.specs.Reach.{End, nodeAt}
 use Rattle.clash.specs.Reach.End.{sender, receiver}
 use Rattle.index.specs.Index.{Ends, IndexOf}
 use Rattle.index.specs.Marks.{Removes, HopsTake}
+use Rattle.index.proofs.Turns.{short-takes}
 use Rattle.index.proofs.Removing.{index-less}
 
 -- the node at an end is one of the hop
@@ -18,7 +20,7 @@ touches sender h e = inl e
 touches receiver h e = inr e
 
 -- a row that meets none of the others
-module _ (site : Site) (r : Row) (rows : List Row) (quiet : (x : Row) → x ∈ rows → RowsMeet site r x → ⊥) where
+module _ (site : Site) (r : Row) (rows : List Row) (period : Period (r .period)) (quiet : (x : Row) → x ∈ rows → RowsMeet site r x → ⊥) where
   pub apart : (end : End) (slot node : ℕ) → Ends (site .plan .slots) rows end slot node → HopsTake (site .plan .slots) r (hops r) end slot node → ⊥
   apart end slot node e h = quiet (e .row) (e .row-there) (record {
     hop = h .hop;
@@ -27,13 +29,13 @@ module _ (site : Site) (r : Row) (rows : List Row) (quiet : (x : Row) → x ∈ 
       hop = e .hop;
       there = e .hop-there;
       clash = inl (node, touches end (rowHop r (h .hop)) (h .is-end), touches end (rowHop (e .row) (e .hop)) (e .is-end));
-      meet = record { slot = slot; left = h .takes; right = e .takes };
+      meet = record { slot = slot; left = short-takes period (h .takes); right = e .takes };
     };
   })
 
   -- once its hops are taken out, the words are the index of the others
   pub index-without : {t u : List ℕ} → IndexOf (site .plan .slots) (r ∷ rows) t → Removes (HopsTake (site .plan .slots) r (hops r)) t u → IndexOf (site .plan .slots) rows u
-  index-without w a = index-less w a apart
+  index-without w a = index-less w period a apart
 
 -- a row of a lawful book meets none of another key
 pub lawful-quiet : (b : Book) → LawfulBook b → (r x : Row) → r ∈ b .rows → x ∈ b .rows → (key r ≡ key x → ⊥) → RowsMeet (b .site) r x → ⊥

@@ -1,5 +1,6 @@
 pub mod Adding
 pub mod Turns
+pub mod Noting
 pub mod Seeing
 pub mod Rows
 pub mod Meets

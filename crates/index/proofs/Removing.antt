@@ -8,7 +8,7 @@ use native.Mathlib.Nat.{eq-or-lt-of-le}
 use native.Mathlib.Omega.{arith}
 use lib.ListN.{length, getD, set, length-set}
 use Rattle.rules.specs.Words.{_∈_, Has, NoBitFrom}
-use Rattle.rules.specs.Tiles.{Takes}
+use Rattle.rules.specs.Tiles.{Period, shortTiles}
 use Rattle.rules.specs.Topology.{Hop}
 use Rattle.rules.specs.Book.{Row, hops, rowHop, rowOffset}
 use Rattle.bitset.specs.Sets.{SetOf}
@@ -16,13 +16,14 @@ use Rattle.clash.specs.Reach.{End, nodeAt}
 use Rattle.clash.specs.Reach.End.{sender, receiver}
 use Rattle.index.specs.declared.Repeats.{Repeats}
 use Rattle.index.specs.Index.{indexSlots, wordAt, AtWork, Ends, IndexOf}
-use Rattle.index.specs.Turns.{RepeatsOf, TakesFirst, TakesIn}
+use Rattle.index.specs.Turns.{RepeatsOf, TakesFirst, TakesShort, TakesIn}
 use Rattle.index.specs.Marks.{Removes, HopsTake}
-use Rattle.index.proofs.Adding.{after, the-word, here, elsewhere}
-use Rattle.index.proofs.Turns.{Turning, more, split, in-takes, takes-in}
+use Rattle.index.proofs.Adding.{after, the-word, here, elsewhere, behind-slots}
+use Rattle.index.proofs.Rows.{one-more, own-hop}
+use Rattle.index.proofs.Turns.{Turning, turning-inside, more, split, in-takes, takes-in}
 
 pub removes-none : {P : End → ℕ → ℕ → Type 0} (t : List ℕ) → ((end : End) (slot node : ℕ) → P end slot node → ⊥) → Removes P t t
-removes-none t f = record { size = refl; fits = λ end slot l. l; only = λ end slot node m. (m, f end slot node); all = λ end slot node m n. m }
+removes-none t f = record { size = refl; fits = λ end slot l. l; only = λ end slot node m. (m, f end slot node); all = λ end slot node m n. m; behind = refl }
 
 pub removes-alike : {P Q : End → ℕ → ℕ → Type 0} {s t : List ℕ} → ((end : End) (slot node : ℕ) → P end slot node → Q end slot node)
     → ((end : End) (slot node : ℕ) → Q end slot node → P end slot node) → Removes P s t → Removes Q s t
@@ -31,6 +32,7 @@ removes-alike f g a = record {
   fits = a .fits;
   only = λ end slot node m. let k = a .only end slot node m in (k .0, λ q. k .1 (g end slot node q));
   all = λ end slot node m n. a .all end slot node m (λ p. n (f end slot node p));
+  behind = a .behind;
 }
 
 pub removes-both : {P Q : End → ℕ → ℕ → Type 0} {s t u : List ℕ} → Removes P s t → Removes Q t u
@@ -43,10 +45,11 @@ removes-both a b = record {
       let j = a .only end slot node (k .0) in
       (j .0, λ p. ⊎-elim (λ q. j .1 q) (λ q. k .1 q) p);
   all = λ end slot node m n. b .all end slot node (a .all end slot node m (λ p. n (inl p))) (λ q. n (inr q));
+  behind = b .behind ∙ a .behind;
 }
 
 -- ONE HOP IN ONE SLOT: its two words are set
-module _ (t : List ℕ) (slot : ℕ) (h : Hop) (v w : ℕ) (inside : 2 * slot + 1 < length t)
+module _ (t : List ℕ) (slot : ℕ) (h : Hop) (v w : ℕ) (inside : 2 * slot + 1 < length t) (low : slot < indexSlots)
     (first : SetOf (λ (node : ℕ). AtWork t sender slot node × (node ≡ h .from → ⊥)) v)
     (second : SetOf (λ (node : ℕ). AtWork t receiver slot node × (node ≡ h .to → ⊥)) w) where
   sets : (end : End) → SetOf (λ (node : ℕ). AtWork t end slot node × (node ≡ nodeAt end h → ⊥)) (the-word t slot h v w inside end)
@@ -59,6 +62,7 @@ module _ (t : List ℕ) (slot : ℕ) (h : Hop) (v w : ℕ) (inside : 2 * slot + 
     fits = λ end s l. fits end s l (ℕ-discrete s slot);
     only = λ end s node m. only end s node (ℕ-discrete s slot) m;
     all = λ end s node m n. all end s node (ℕ-discrete s slot) m n;
+    behind = behind-slots t slot h v w inside low;
   }
     where
       fits : (end : End) (s : ℕ) → NoBitFrom 64 (getD t (wordAt end s) 0) → Dec (s ≡ slot) → NoBitFrom 64 (getD (after t slot h v w inside) (wordAt end s) 0)
@@ -92,7 +96,7 @@ pub unmarks-more : {span o turns turn slot : ℕ} (h : Hop) {v w : ℕ} {before 
     → UnmarksFirst span o h before turn t → UnmarksFirst span o h before (turn + 1) (set (set t (2 * slot) v) (2 * slot + 1) w)
 unmarks-more {slot = slot} h {v} {w} {t = t} g l inside first second a =
     removes-alike (λ end x node p. ⊎-elim (λ q. (more g l x (inl (q .0)), q .1)) (λ q. (more g l x (inr (q .0)), q .1)) p)
-    (λ end x node p. ⊎-elim (λ q. inl (q, p .1)) (λ e. inr (e, p .1)) (split g l x (p .0))) (removes-both a (one-less t slot h v w inside first second))
+    (λ end x node p. ⊎-elim (λ q. inl (q, p .1)) (λ e. inr (e, p .1)) (split g l x (p .0))) (removes-both a (one-less t slot h v w inside (turning-inside g l) first second))
 
 pub unmarks-done : (span o : ℕ) (h : Hop) {turn turns : ℕ} {before t : List ℕ} → turn ≡ turns → UnmarksFirst span o h before turn t → UnmarksFirst span o h before turns t
 unmarks-done span o h {before = before} {t} e a = subst (λ (n : ℕ). UnmarksFirst span o h before n t) e a
@@ -116,31 +120,29 @@ module _ (S : ℕ) (r : Row) where
       part end slot node k =
           ⊎-elim
           (λ (q : k .hop ≡ n).
-          inr (takes-in w (subst (λ (p : ℕ). Takes S (r .period) p slot) (ap (rowOffset r) q) (k .takes)), k .is-end ∙ ap (λ (i : ℕ). nodeAt end (rowHop r i)) q))
+          inr (takes-in w (subst (λ (p : ℕ). TakesShort S (r .period) p slot) (ap (rowOffset r) q) (k .takes)), k .is-end ∙ ap (λ (i : ℕ). nodeAt end (rowHop r i)) q))
           (λ (l : k .hop < n). inl (record { hop = k .hop; there = l; takes = k .takes; is-end = k .is-end })) (eq-or-lt-of-le (omega (arith, k .there)))
 
   pub unhops-done : {n : ℕ} {before t : List ℕ} → n ≡ hops r → Removes (HopsTake S r n) before t → Removes (HopsTake S r (hops r)) before t
   unhops-done {before = before} {t} e a = subst (λ (k : ℕ). Removes (HopsTake S r k) before t) e a
 
 -- THE INDEX of a row less, whose ends no other row shares
-pub index-less : {S : ℕ} {r : Row} {rows : List Row} {t u : List ℕ} → IndexOf S (r ∷ rows) t → Removes (HopsTake S r (hops r)) t u
+pub index-less : {S : ℕ} {r : Row} {rows : List Row} {t u : List ℕ} → IndexOf S (r ∷ rows) t → Period (r .period) → Removes (HopsTake S r (hops r)) t u
     → ((end : End) (slot node : ℕ) → Ends S rows end slot node → HopsTake S r (hops r) end slot node → ⊥) → IndexOf S rows u
-index-less {S} {r} {rows} {t} {u} w a apart =
-    record { size = a .size ∙ w .size; sets = λ end slot l. record { fits = a .fits end slot (w .sets end slot l .fits); only = only end slot l; all = all end slot l } }
+index-less {S} {r} {rows} {t} {u} w p a apart = record {
+  size = a .size ∙ w .size;
+  sets = λ end slot l. record { fits = a .fits end slot (w .sets end slot l .fits); only = only end slot l; all = all end slot l };
+  none-slow = λ z x m. w .none-slow (sym (a .behind) ∙ z) x (inr m);
+}
   where
-    only : (end : End) (slot : ℕ) → slot < indexSlots → (node : ℕ) → AtWork u end slot node → Ends S rows end slot node
+    only : (end : End) (slot : ℕ) → slot < shortTiles * S → (node : ℕ) → AtWork u end slot node → Ends S rows end slot node
     only end slot l node m = kept (w .sets end slot l .only node (a .only end slot node m .0))
       where
         kept : Ends S (r ∷ rows) end slot node → Ends S rows end slot node
-        kept k = ⊎-elim
-            (λ (e : k .row ≡ r).
-            absurd (a .only end slot node m .1
-            (subst (λ (x : Row). HopsTake S x (hops x) end slot node) e (record { hop = k .hop; there = k .hop-there; takes = k .takes; is-end = k .is-end }))))
-            (λ (h : k .row ∈ rows). record { row = k .row; row-there = h; hop = k .hop; hop-there = k .hop-there; takes = k .takes; is-end = k .is-end })
+        kept k = ⊎-elim (λ (e : k .row ≡ r). absurd (a .only end slot node m .1 (own-hop p l k e)))
+            (λ (h : k .row ∈ rows).
+            record { row = k .row; row-there = h; short = k .short; hop = k .hop; hop-there = k .hop-there; takes = k .takes; is-end = k .is-end })
             (k .row-there)
 
-    all : (end : End) (slot : ℕ) → slot < indexSlots → (node : ℕ) → Ends S rows end slot node → AtWork u end slot node
-    all end slot l node k =
-        a .all end slot node
-        (w .sets end slot l .all node (record { row = k .row; row-there = inr (k .row-there); hop = k .hop; hop-there = k .hop-there; takes = k .takes; is-end = k .is-end }))
-        (apart end slot node k)
+    all : (end : End) (slot : ℕ) → slot < shortTiles * S → (node : ℕ) → Ends S rows end slot node → AtWork u end slot node
+    all end slot l node k = a .all end slot node (w .sets end slot l .all node (one-more k)) (apart end slot node k)

@@ -1,26 +1,26 @@
--- The index of slots: for each slot of the first 100 tiles the set of nodes that send there, and of those that receive.
+-- The index of slots: for each slot of the first 100 tiles the set of nodes that send there, and of those that receive, of periods up to 100.
 use mathlib.Core.Path.{_≡_}
 use mathlib.Core.List.{List}
-use Prim.Native.Nat.{ℕ, _+_, _*_, _<_}
+use Prim.Native.Nat.{ℕ, _+_, _*_, _<_, _≤_}
 use lib.ListN.{length, getD}
 use Rattle.rules.specs.Words.{Has, _∈_}
-use Rattle.rules.specs.Tiles.{Takes}
+use Rattle.rules.specs.Tiles.{shortTiles, Takes}
 use Rattle.rules.specs.Book.{Row, hops, rowHop, rowOffset}
 use Rattle.bitset.specs.Sets.{SetOf}
 use Rattle.clash.specs.Reach.{End, nodeAt}
 use Rattle.clash.specs.Reach.End.{sender, receiver}
 
--- it is that of the first 100 tiles
-abbrev pub indexTiles : ℕ
-indexTiles = 100
-
--- of at most 32 slots
+-- it has room for tiles of 32 slots
 abbrev pub indexSlots : ℕ
-indexSlots = indexTiles * 32
+indexSlots = shortTiles * 32
 
--- two words for each slot
+-- behind the slots stands a word that is 0 only where no period is over 100
+abbrev pub slowPlace : ℕ
+slowPlace = 2 * indexSlots
+
+-- two words for each slot, and that one
 abbrev pub indexLength : ℕ
-indexLength = 2 * indexSlots
+indexLength = slowPlace + 1
 
 -- where they stand: the nodes that send, then the nodes that receive
 abbrev pub wordAt : End → ℕ → ℕ
@@ -31,10 +31,11 @@ wordAt receiver slot = 2 * slot + 1
 abbrev pub AtWork : List ℕ → End → ℕ → ℕ → Type 0
 AtWork words end slot node = Has (getD words (wordAt end slot) 0) node
 
--- a hop of the rows takes the slot, with the node at this end
+-- a hop of the rows, of a period up to 100, takes the slot, with the node at this end
 pub record Ends (S : ℕ) (rows : List Row) (end : End) (slot node : ℕ) : Type 0 where
   pub row : Row
   pub row-there : row ∈ rows
+  pub short : row .period ≤ shortTiles
   pub hop : ℕ
   pub hop-there : hop < hops row
   pub takes : Takes S (row .period) (rowOffset row hop) slot
@@ -43,4 +44,5 @@ pub record Ends (S : ℕ) (rows : List Row) (end : End) (slot node : ℕ) : Type
 -- the words are the index of the rows: each set has exactly the ends of the hops that take the slot
 pub record IndexOf (S : ℕ) (rows : List Row) (words : List ℕ) : Type 0 where
   pub size : length words ≡ indexLength
-  pub sets : (end : End) (slot : ℕ) → slot < indexSlots → SetOf (Ends S rows end slot) (getD words (wordAt end slot) 0)
+  pub sets : (end : End) (slot : ℕ) → slot < shortTiles * S → SetOf (Ends S rows end slot) (getD words (wordAt end slot) 0)
+  pub none-slow : getD words slowPlace 0 ≡ 0 → (x : Row) → x ∈ rows → x .period ≤ shortTiles

@@ -3,16 +3,16 @@ use mathlib.Core.Path.{_≡_}
 use mathlib.Core.Logic.{_⊎_}
 use mathlib.Core.Bool.{Bool}
 use mathlib.Core.List.{List}
-use Prim.Native.Nat.{ℕ, _<_}
+use Prim.Native.Nat.{ℕ, _<_, _≤_}
 use lib.ListN.{length, getD}
 use Rattle.rules.specs.Words.{Has, NoBitFrom, Tests}
-use Rattle.rules.specs.Tiles.{Takes}
+use Rattle.rules.specs.Tiles.{shortTiles}
 use Rattle.rules.specs.Topology.{Hop}
 use Rattle.rules.specs.Book.{Row, rowHop, rowOffset}
 use Rattle.clash.specs.Reach.{End, nodeAt, setAt}
 use Rattle.clash.specs.declared.Reach.{Reach}
-use Rattle.index.specs.Index.{wordAt, AtWork}
-use Rattle.index.specs.Turns.{TakesFirst, TakesIn}
+use Rattle.index.specs.Index.{indexSlots, slowPlace, wordAt, AtWork}
+use Rattle.index.specs.Turns.{TakesFirst, TakesShort, TakesIn}
 use Rattle.index.specs.declared.Repeats.{Repeats}
 
 -- the sets have the nodes that they had before, and those with P
@@ -22,6 +22,7 @@ pub record Adds (P : End → ℕ → ℕ → Type 0) (before after : List ℕ) :
   pub only : (end : End) (slot node : ℕ) → AtWork after end slot node → AtWork before end slot node ⊎ P end slot node
   pub kept : (end : End) (slot node : ℕ) → AtWork before end slot node → AtWork after end slot node
   pub all : (end : End) (slot node : ℕ) → P end slot node → AtWork after end slot node
+  pub behind : getD after slowPlace 0 ≡ getD before slowPlace 0
 
 -- the sets have the nodes that they had before, without those with P
 pub record Removes (P : End → ℕ → ℕ → Type 0) (before after : List ℕ) : Type 0 where
@@ -29,12 +30,20 @@ pub record Removes (P : End → ℕ → ℕ → Type 0) (before after : List ℕ
   pub fits : (end : End) (slot : ℕ) → NoBitFrom 64 (getD before (wordAt end slot) 0) → NoBitFrom 64 (getD after (wordAt end slot) 0)
   pub only : (end : End) (slot node : ℕ) → AtWork after end slot node → AtWork before end slot node × (P end slot node → ⊥)
   pub all : (end : End) (slot node : ℕ) → AtWork before end slot node → (P end slot node → ⊥) → AtWork after end slot node
+  pub behind : getD after slowPlace 0 ≡ getD before slowPlace 0
 
--- one of the row's first n hops takes the slot, with the node at this end
+-- a period was noted: where none is over 100, it is not, and the sets are as before
+pub record Notes (K : ℕ) (before after : List ℕ) : Type 0 where
+  pub size : length after ≡ length before
+  pub same : (end : End) (slot : ℕ) → slot < indexSlots → getD after (wordAt end slot) 0 ≡ getD before (wordAt end slot) 0
+  pub kept : getD after slowPlace 0 ≡ 0 → getD before slowPlace 0 ≡ 0
+  pub short : getD after slowPlace 0 ≡ 0 → K ≤ shortTiles
+
+-- one of the row's first n hops takes the slot in the first 100 tiles, with the node at this end
 pub record HopsTake (S : ℕ) (r : Row) (n : ℕ) (end : End) (slot node : ℕ) : Type 0 where
   pub hop : ℕ
   pub there : hop < n
-  pub takes : Takes S (r .period) (rowOffset r hop) slot
+  pub takes : TakesShort S (r .period) (rowOffset r hop) slot
   pub is-end : node ≡ nodeAt end (rowHop r hop)
 
 -- a node with C is at work in the slot
@@ -68,8 +77,8 @@ pub record Marks (r : Repeats) (o : ℕ) (h : Hop) (reach : Reach) (before after
   pub adds : Adds (λ (end : End) (slot node : ℕ). TakesIn r o slot × (node ≡ nodeAt end h)) before after
   pub met : Tests t (Finds (InReach reach) before r o)
 
--- by the words a hop of period K and offset o takes a slot where a node with C is at work
+-- by the words a hop of period K and offset o takes a slot in the first 100 tiles where a node with C is at work
 pub record MeetsIn (C : End → ℕ → Type 0) (S : ℕ) (words : List ℕ) (K o : ℕ) : Type 0 where
   pub slot : ℕ
-  pub takes : Takes S K o slot
+  pub takes : TakesShort S K o slot
   pub busy : Busy C words slot

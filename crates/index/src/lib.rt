@@ -1,37 +1,61 @@
-// The index of slots: for each slot of the first 100 tiles the set of nodes that send there, and of those that receive.
+// The index of slots: for each slot of the first 100 tiles the set of nodes that send there, and of those that receive,
+// in streams of periods up to 100.
 ghost use mathlib.Core.Path.{_≡_};
+ghost use mathlib.Core.Bool.{false};
 ghost use Prim.Native.Nat.{ℕ, _<_, _≤_};
-ghost use lib.ListN.{length};
+ghost use lib.ListN.{length, getD};
 ghost use Rattle.rules.specs.Words.{Tests};
 ghost use Rattle.rules.specs.Tiles.{periodAt};
 ghost use Rattle.rules.specs.Periods.{InList};
 ghost use Rattle.bitset.specs.Sets.{SetOf};
 ghost use Rattle.clash.specs.Reach.{End, nodeAt, hop};
-ghost use Rattle.index.specs.Index.{indexLength};
+ghost use Rattle.index.specs.Index.{indexLength, slowPlace};
 ghost use Rattle.index.specs.Turns.{RepeatsOf, TakesIn, InIndex};
-ghost use Rattle.index.specs.Marks.{Removes, Common, Marks, InReach, Finds};
+ghost use Rattle.index.specs.Marks.{Removes, Notes, Common, Marks, InReach, Finds};
 use clash::Reach;
 use rules::Node;
 use rules::Slot;
+use rules::Tile;
 
-// Two words for each slot of 100 tiles of 32 slots.
-pub const WORDS: usize = 6400;
+// Behind the slots stands a word that is 0 only where no period is over 100.
+const SLOW: usize = 6400;
 
-// How a period repeats: the slots from a turn to the next, and how many turns a cycle has.
+// Two words for each slot of 100 tiles of 32 slots, and that one.
+pub const WORDS: usize = 6401;
+
+// How a period repeats: the slots from a turn to the next, and how many turns 100 tiles have.
 pub struct Repeats {
     pub span: Slot,
     pub turns: u16,
 }
 
-// How the period at a place repeats.
+// How the period at a place repeats: one over 100 has no turn, and is neither marked nor found.
 pub fn repeats_of(slots: Slot, period: usize) -> Repeats
     requires { ⌜ (slots .0 ≤ 32) × InList period ⌝ }
     ensures { λ r. ⌜ RepeatsOf (slots .0) (periodAt period) r ⌝ }
 {
+    let tiles = rules::period_at(period);
     Repeats {
         span: rules::span(slots, period),
-        turns: rules::repeats_at(period),
+        turns: rules::SHORT / tiles.0,
     }
+}
+
+// Notes the period of a row.
+pub fn note(index: &mut [u64; WORDS], period: Tile)
+    requires { ⌜ length (now index) ≡ indexLength ⌝ }
+    ensures { λ _. ⌜ Notes (period .0) (now (index .entry)) (now (index .exit)) ⌝ }
+{
+    if rules::SHORT < period.0 {
+        index[SLOW] = 1;
+    }
+}
+
+// Whether a period over 100 was noted.
+pub fn has_slow(index: &[u64; WORDS]) -> bool
+    ensures { λ r. ⌜ (r ≡ false → getD (now (index .entry)) slowPlace 0 ≡ 0) ⌝ }
+{
+    index[SLOW] != 0
 }
 
 // Which of the nodes that send and of those that receive are in reach.

@@ -1,32 +1,44 @@
-// Whether clashing hops of different rows meet: each row is compared with the index of the rows before it.
+// Whether clashing hops of different rows meet: each row is compared with the index of the rows before it, and by the plain
+// test with those that the index leaves out.
 ghost use Prim.Native.Nat.{_<_};
 ghost use mathlib.Core.Path.{_≡_};
 ghost use lib.ListN.{length};
 ghost use Rattle.rules.specs.Book.{hops};
+ghost use Rattle.rules.specs.Image.{planOf};
 ghost use Rattle.index.specs.Index.{indexLength};
 ghost use Rattle.image.specs.Places.{rowAt};
-ghost use Rattle.meeting.specs.Meeting.{HopMarked, RowMarked, RowsIndexed, RowPlaced, HearingRead, HopsRead};
+ghost use Rattle.plain.specs.Plain.{RowsThere};
+ghost use Rattle.meeting.specs.Meeting.{HopMarked, RowMarked, RowCompared, RowsIndexed, RowPlaced, RowBehind, HearingRead, HopsRead};
 use image::Book;
 use index::Repeats;
 use rules::Place;
+use rules::Slot;
 
-// Marks hop i of the row; whether a node that clashes with it was at work in a slot that it takes.
+// Marks hop i of the row; whether a node that clashes with it was at work in a slot that it takes, or it agrees with a
+// clashing hop of the rows that have moduli.
 fn hop_meets(
     image: &[u8],
     hearing: &[u64],
     at: usize,
     i: usize,
     repeats: Repeats,
+    start: usize,
+    rows: usize,
+    moduli: &[u16; plain::ROWS],
     index: &mut [u64; index::WORDS],
 ) -> bool
-    requires { ⌜ RowPlaced (now image) at repeats × HearingRead (now image) (now hearing) × (i < hops (rowAt (now image) at)) × (length (now index) ≡ indexLength) ⌝ }
-    ensures { λ r. ⌜ HopMarked (now (image .entry)) at i repeats (now (index .entry)) (now (index .exit)) r ⌝ }
+    requires { ⌜ RowPlaced (now image) at repeats × HearingRead (now image) (now hearing) × (i < hops (rowAt (now image) at)) × (length (now index) ≡ indexLength)
+        × RowsThere (now image) start rows ⌝ }
+    ensures { λ r. ⌜ HopMarked (now (image .entry)) start rows (now (moduli .entry)) at i repeats (now (index .entry)) (now (index .exit)) r ⌝ }
 {
     let from = image::node_at(image, at, i);
     let to = image::node_at(image, at, i + 1);
     let offset = image::offset_at(image, at, i);
     let reach = clash::reach_of(hearing, from, to);
-    index::mark(index, repeats, offset, from, to, reach)
+    if index::mark(index, repeats, offset, from, to, reach) {
+        return true;
+    }
+    plain::agrees(image, start, rows, moduli, reach, offset)
 }
 
 // Marks the row's hops up to the first that meets one of the rows before; whether there is such a hop.
@@ -35,19 +47,50 @@ fn row_meets(
     hearing: &[u64],
     at: usize,
     repeats: Repeats,
+    start: usize,
+    rows: usize,
+    moduli: &[u16; plain::ROWS],
     index: &mut [u64; index::WORDS],
 ) -> bool
-    requires { ⌜ RowPlaced (now image) at repeats × HearingRead (now image) (now hearing) × (length (now index) ≡ indexLength) ⌝ }
-    ensures { λ r. ⌜ RowMarked (now (image .entry)) at (now (index .entry)) (now (index .exit)) r ⌝ }
+    requires { ⌜ RowPlaced (now image) at repeats × HearingRead (now image) (now hearing) × (length (now index) ≡ indexLength) × RowsThere (now image) start rows ⌝ }
+    ensures { λ r. ⌜ RowMarked (now (image .entry)) start rows (now (moduli .entry)) at (now (index .entry)) (now (index .exit)) r ⌝ }
 {
     let h = image::hops_at(image, at);
     let mut i = 0;
     while i < h {
-        if hop_meets(image, hearing, at, i, repeats, index) {
+        if hop_meets(image, hearing, at, i, repeats, start, rows, moduli, index) {
             return true;
         }
         i += 1;
     }
+    false
+}
+
+// Compares the row with the n rows before it, and puts it into the index; whether a hop of it meets one of theirs.
+fn compare(
+    image: &[u8],
+    hearing: &[u64],
+    start: usize,
+    n: usize,
+    at: usize,
+    slots: Slot,
+    moduli: &mut [u16; plain::ROWS],
+    index: &mut [u64; index::WORDS],
+) -> bool
+    requires { ⌜ RowBehind (now image) start n at (now index) (now moduli) × HearingRead (now image) (now hearing) × (slots .0 ≡ planOf (now image) .slots) ⌝ }
+    ensures { λ r. ⌜ RowCompared (now (image .entry)) start n at (now (index .entry)) (now (index .exit)) r × (length (now (moduli .exit)) ≡ 64) ⌝ }
+{
+    let period = image::period_at(image, at);
+    let Place::At(place) = rules::place_of(period) else {
+        return true;
+    };
+    let repeats = index::repeats_of(slots, place);
+    let slow = index::has_slow(index);
+    let rows = plain::weigh(image, start, n, slots, period, slow, moduli);
+    if row_meets(image, hearing, at, repeats, start, rows, moduli, index) {
+        return true;
+    }
+    index::note(index, period);
     false
 }
 
@@ -57,15 +100,23 @@ pub fn hops_meet(image: &[u8], book: Book, hearing: &[u64], index: &mut [u64; in
     ensures { λ r. ⌜ RowsIndexed (now (image .entry)) (now (index .exit)) r ⌝ }
 {
     let slots = book.plan.slots;
+    let streams = book.streams;
     *index = [0u64; index::WORDS];
-    let mut at = book.rows_start();
-    let mut left = book.streams;
+    let mut moduli = [0u16; plain::ROWS];
+    let start = book.rows_start();
+    let mut at = start;
+    let mut left = streams;
     while 0 < left {
-        let Place::At(period) = rules::place_of(image::period_at(image, at)) else {
-            return true;
-        };
-        let repeats = index::repeats_of(slots, period);
-        if row_meets(image, hearing, at, repeats, index) {
+        if compare(
+            image,
+            hearing,
+            start,
+            streams - left,
+            at,
+            slots,
+            &mut moduli,
+            index,
+        ) {
             return true;
         }
         at = image::next(image, at);

@@ -3,20 +3,21 @@ use mathlib.Core.Path.{_≡_, refl, sym, subst}
 use mathlib.Core.Logic.{inl, inr, _↔_}
 use mathlib.Core.Bool.{Bool, true, false, cond, _&&_}
 use mathlib.Core.List.{List, [], _∷_}
-use Prim.Native.Nat.{ℕ, zero, suc, _*_, _^_}
+use Prim.Native.Nat.{ℕ, zero, suc, _+_, _*_, _^_}
 use native.Mathlib.Omega.{arith}
 use lib.Dec.{eqb}
 use lib.ListN.{length, getD, length-replicate}
 use Rattle.rules.specs.Words.{_∈_, Tests}
 use Rattle.rules.specs.Says.{Refusal, Says}
-use Rattle.rules.specs.Tiles.{Plan, PlanInRange, shortTiles}
+use Rattle.rules.specs.Tiles.{Plan, PlanInRange, cycleTiles, shortTiles}
 use Rattle.rules.specs.Topology.{nodes, NodesInRange, middles, allNodes}
 use Rattle.rules.specs.Book.{Row, Book}
 use Rattle.rules.specs.Image.{newest, longestImage, encode, topologyAt, versionOf, nodesOf, linksOf, imageRefusals, Stored}
 use Rattle.rules.specs.Table.{tableLength, used, BalanceOf}
 use Rattle.rules.specs.Index.{indexLength, IndexOf, Indexed}
 use Rattle.rules.specs.Calls.{Wrote, Unchanged, Reply, SaysOf, CallOf, ReplyOf, TopologiesGiven, newBook, newRefusals, checkRefusals, rewriteRefusals}
-use Rattle.rules.specs.Calls.{Request, Work, InOrder, mostRequests, Beyond, postRefusals, Posted, expandRefusals, balanceRefusals, keepsRefusals, BookKeepsTo}
+use Rattle.rules.specs.Calls.{Request, Work, InOrder, mostRequests, Beyond, postRefusals, Posted, balanceRefusals, keepsRefusals, BookKeepsTo}
+use Rattle.rules.specs.Calls.{mostTiles, PartInRange, expandRefusals}
 use Rattle.rules.specs.Calls.{New, Check, Rewrite, Post, Serve, Expand, Balance, LinksOf, Links, Keeps}
 use Rattle.rules.proofs.Tests.{never, alike, tests-and, tests-or, tests-not, tests-eq, tests-le, tests-lt, allOf, tests-every}
 use Rattle.rules.proofs.Counts.{counted}
@@ -26,16 +27,16 @@ use Rattle.rules.proofs.Written.{Bytes, length-sets-at}
 use Rattle.rules.proofs.Reading.{bookIn, LawfulImage, lawful-stored}
 use Rattle.model.specs.Test.{has, joined}
 use Rattle.model.specs.Answer.{Tested, firstNumber, whenDone, answersOf, lastBook}
-use Rattle.model.specs.Table.{tableOf, dataCount, freeCount}
+use Rattle.model.specs.Table.{partOf, dataCount, freeCount}
 use Rattle.model.specs.Index.{indexOf}
 use Rattle.model.specs.Reading.{areSound, imageNumber}
-use Rattle.model.specs.Calls.{Output, put, kept, writes, numberOf, replies, newTests, new, rewriteTests, rewrite, expandTests, expand}
+use Rattle.model.specs.Calls.{Output, put, kept, writes, numberOf, replies, newTests, new, rewriteTests, rewrite, isPartInRange, expandTests, expand}
 use Rattle.model.specs.Calls.{isBeyond, postTests, postNumber, imageAfter, someDone, postOutput, indexAfter, post, ownIndex, postOne, serve}
 use Rattle.model.specs.Calls.{balanceTests, balanceNumber, balance, linkCount, links, keepsTests, bookKeeps, keepsNumber, keeps}
 use Rattle.model.proofs.Firsts.{Agree, first-says}
 use Rattle.model.proofs.Tests.{tests-in, tests-has, tests-joined}
 use Rattle.model.proofs.Answers.{workable, in-order-computed, last-workable}
-use Rattle.model.proofs.Tables.{table-computed, balance-computed}
+use Rattle.model.proofs.Tables.{part-computed, balance-computed}
 use Rattle.model.proofs.Index.{index-computed}
 use Rattle.model.proofs.Reading.{stable, tests-plan, tests-nodes, tests-topologies, image-says, stored-in}
 
@@ -232,11 +233,17 @@ module _ (image : List ℕ) (bytes : Bytes image) where
         done (suc n) answer e = absurd (omega arith)
 
   module _ (node : ℕ) where
-    pub expand-computed : (out : List ℕ) → Expand image node out (expand image node out .number) (expand image node out .len) (expand image node out .out)
-    expand-computed out =
-        reply-of image bytes (expandRefusals node (length out)) (expandTests node (length out))
-        (λ v b w. (refl, tests-le (nodes (b .site .links)) node, λ n4. (refl, tests-lt (length out) (tableLength (b .site .plan)), λ n12. tt)))
-        (λ v b. tableOf b node) (λ v b w e. table-computed b node) out
+    module _ (first tiles : ℕ) (out : List ℕ) where
+      tests-part : Tests (isPartInRange first tiles) (PartInRange first tiles)
+      tests-part =
+          alike (tests-and (tests-le 1 tiles) (tests-and (tests-le tiles mostTiles) (tests-le (first + tiles) cycleTiles)))
+          (λ p. record { some = p .0; most = p .1 .0; inside = p .1 .1 }) (λ p. (p .some, (p .most, p .inside)))
+
+      pub expand-computed : Expand image node first tiles out (expand image node first tiles out .number) (expand image node first tiles out .len) (expand image node first tiles out .out)
+      expand-computed =
+          reply-of image bytes (expandRefusals node first tiles (length out)) (expandTests node first tiles (length out))
+          (λ v b w. (refl, tests-le (nodes (b .site .links)) node, λ n4. (refl, tests-not tests-part, λ n21. (refl, tests-lt (length out) (tableLength (b .site .plan) tiles), λ n12. tt))))
+          (λ v b. partOf b node first tiles) (λ v b w e. part-computed b node first tiles) out
 
     zeros : (n : ℕ) → (n ≡ 0 → ⊥) → (x : ℕ) → whenDone n x 0 ≡ 0
     zeros zero f x = absurd (f refl)

@@ -23,7 +23,7 @@ use Rattle.model.specs.Answer.{passes, routesOf, newRows}
 use Rattle.model.specs.Table.{cellOf}
 use Rattle.model.specs.Reading.{rowFits, isLawfulBook}
 use Rattle.model.specs.Examples.{planA, lineA, heardA, square, pair, empty, asked, askedTwo, opening, openingTwo, numberOn, SaysOn, after, rowsOn, opensWith, isStored}
-use Rattle.model.specs.Examples.{anyMiddle, after2, after3, after7, hop, operationsP9, imageP10, imageP11, olderP10, olderP11, oldP10, oldP11, examples, Leaves, OpensWith, ExamplesHold}
+use Rattle.model.specs.Examples.{anyMiddle, after2, after3, after7, hop, operationsP9, imageP10, imageP11, heardP10, heardP11, olderP10, olderP11, oldP10, oldP11, examples, Leaves, OpensWith, ExamplesHold}
 use Rattle.model.proofs.Tests.{tests-same-by, tests-same, tests-same-row, tests-on-data, tests-meets, tests-clashes}
 use Rattle.model.proofs.Routes.{route-found, route-only}
 use Rattle.model.proofs.Firsts.{tests-passes}
@@ -129,6 +129,8 @@ examples-hold = record {
   p11-old = stored oldP11 1 after7 refl (holds 20);
   p10-older = stored olderP10 2 (empty pair) refl (holds 24);
   p11-older = stored olderP11 2 after7 refl (holds 25);
+  p10-heard = stored heardP10 3 (empty pair) refl (holds 26);
+  p11-heard = stored heardP11 3 after7 refl (holds 27);
   second = opens-with (empty square) tt (askedTwo 1 0 3 2) ((0 ∷ 1 ∷ 3 ∷ []) ∷ (0 ∷ 2 ∷ 3 ∷ []) ∷ []) ((2 ∷ 3 ∷ []) ∷ (3 ∷ 5 ∷ []) ∷ []) (holds 21);
   no-second = number-says (empty lineA) tt (openingTwo 1 3 0 2) 18 (holds 22);
 }

@@ -9,12 +9,12 @@ use lib.Dec.{eqb, ltb}
 use lib.ListN.{length, getD, take, drop}
 use Rattle.rules.specs.Words.{Has, NoBitFrom, Pairwise, Tests}
 use Rattle.rules.specs.Says.{Says}
-use Rattle.rules.specs.Tiles.{Plan, PlanInRange, tileCounts, periods}
+use Rattle.rules.specs.Tiles.{Plan, PlanInRange, tileCounts, shortPeriods, periods}
 use Rattle.rules.specs.Topology.{Topology, nodes, NodesInRange, Joined, SoundTopology, SoundTopologies}
 use Rattle.rules.specs.Topology.{LinkedInTurn, Path, hopCount, middles, mostRouteHops, mostShortHops, Beside}
 use Rattle.rules.specs.Book.{Site, Row, Book, key, hops, hopsInAll, rowHop, rowOffset, RisingByKey, LawfulSite, LawfulRow, RowsMeet, ClashingHopsMeet}
 use Rattle.rules.specs.Book.{mostStreams, mostHops, Pair, Paired, LawfulBook}
-use Rattle.rules.specs.Image.{newest, Version, hasWays, RowFits, mark, inTurn, encodeRow, headerLength, statedLength, versionOf, planOf, nodesOf, streamsOf, hopsOf}
+use Rattle.rules.specs.Image.{newest, Version, hasWays, hasWide, RowFits, mark, inTurn, encodeRow, headerLength, statedLength, versionOf, planOf, nodesOf, streamsOf, hopsOf}
 use Rattle.rules.specs.Image.{linksOf, hearingOf, siteOf, bookOf, rowsPlace, FieldsInRange, RowsOf, imageRefusals}
 use Rattle.rules.proofs.Tests.{never, alike, tests-and, tests-not, tests-eq, tests-le, tests-lt, allBelow, tests-all, tests-some, someOf, tests-member, tests-every}
 use Rattle.rules.proofs.Says.{None, says-none}
@@ -145,12 +145,15 @@ tests-lawful site r =
 pub tests-rising : (rows : List Row) → Tests (isRising rows) (RisingByKey rows)
 tests-rising = tests-pairs (λ (r x : Row). key r < key x) (λ r x. ltb (key r) (key x)) (λ r x. tests-lt (key r) (key x))
 
+-- a test where the version does not hold something
+tests-older : (t : Bool) {u : Bool} {P : Type 0} → Tests u P → Tests (t || u) (t ≡ false → P)
+tests-older true h = record { yes = λ e f. never (sym f); back = λ f. refl }
+tests-older false h = record { yes = λ e f. h .yes e; back = λ f. h .back (f refl) }
+
 pub tests-fits : (v : ℕ) (r : Row) → Tests (rowFits v r) (RowFits v r)
-tests-fits v r = alike (go (hasWays v)) (λ f. record { one-way = f }) (λ f. f .one-way)
-  where
-    go : (t : Bool) → Tests (t || eqb (r .way) 1) (t ≡ false → r .way ≡ 1)
-    go true = record { yes = λ e f. never (sym f); back = λ f. refl }
-    go false = record { yes = λ e f. tests-eq (r .way) 1 .yes e; back = λ f. tests-eq (r .way) 1 .back (f refl) }
+tests-fits v r =
+    alike (tests-and (tests-older (hasWays v) (tests-eq (r .way) 1)) (tests-older (hasWide v) (tests-in (r .period) shortPeriods)))
+    (λ f. record { one-way = f .0; short = f .1 }) (λ f. (f .one-way, f .short))
 
 -- PAIRS
 tests-beside : (first p : List ℕ) → Tests (isBeside first p) (Beside first p)

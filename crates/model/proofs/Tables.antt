@@ -10,11 +10,11 @@ use native.Mathlib.Nat.{lt-of-not-le, add-zero}
 use lib.Dec.{eqb}
 use lib.ListN.{length, take, drop}
 use Rattle.rules.specs.Words.{_∈_, Tests}
-use Rattle.rules.specs.Tiles.{Takes, Data, cycleSlots}
+use Rattle.rules.specs.Tiles.{Takes, Data, slotsOf, cycleSlots}
 use Rattle.rules.specs.Topology.{Touches}
 use Rattle.rules.specs.Book.{Row, Book, hops, rowHop, rowOffset, LawfulBook}
 use Rattle.rules.specs.Image.{word}
-use Rattle.rules.specs.Table.{Does, onWay, Entry, TableOf, BalanceOf, used}
+use Rattle.rules.specs.Table.{Does, onWay, Entry, TablePart, BalanceOf, used}
 use Rattle.rules.specs.Table.Does.{sends, receives, forwards, delivers}
 use Rattle.rules.specs.Table.Entry.{sleep, works, control}
 use Rattle.rules.proofs.Entries.{does-work, on-way-works, idle-not-working, entry-unique}
@@ -23,7 +23,7 @@ use Rattle.rules.proofs.Counts.{counted}
 use Rattle.rules.proofs.Slots.{isData, takes, tests-data, tests-takes}
 use Rattle.model.specs.Search.{andThen}
 use Rattle.model.specs.Answer.{orGiven}
-use Rattle.model.specs.Table.{Cell, operationOf, cellIn, cellOf, tableFrom, tableOf, dataCount, freeCount}
+use Rattle.model.specs.Table.{Cell, operationOf, cellIn, cellOf, tableFrom, partOf, dataCount, freeCount}
 use Rattle.model.proofs.Searches.{Found, FirstAt, first-found}
 
 module _ (b : Book) (node slot : ℕ) where
@@ -124,10 +124,11 @@ module _ (b : Book) (node : ℕ) where
       ap (λ (x : ℕ). take 3 (drop x (tableFrom b node (suc n) slot))) e ∙ table-at n (suc slot) k (omega arith)
       ∙ ap cell f
 
-  pub table-computed : TableOf b node (tableOf b node)
-  table-computed = record {
-    size = table-length (cycleSlots (b .site .plan)) 0;
-    entries = λ slot l. (_, _, entry-computed b node slot, table-at (cycleSlots (b .site .plan)) 0 slot l ∙ ap cell (omega arith));
+  pub part-computed : (first tiles : ℕ) → TablePart b node first tiles (partOf b node first tiles)
+  part-computed first tiles = record {
+    size = table-length (slotsOf (b .site .plan) tiles) (slotsOf (b .site .plan) first);
+    entries = λ slot l.
+        (_, _, entry-computed b node (slotsOf (b .site .plan) first + slot), table-at (slotsOf (b .site .plan) tiles) (slotsOf (b .site .plan) first) slot l);
   }
 
 -- THE BALANCE

@@ -1,20 +1,24 @@
 -- The tests say what the rules mean.
 use mathlib.Core.Path.{_≡_, refl, sym, ap, ap₂, subst}
 use mathlib.Core.Logic.{_⊎_, inl, inr, ⊎-elim}
-use mathlib.Core.Bool.{Bool, true, false, not, _&&_, _||_}
+use mathlib.Core.Bool.{Bool, true, false, not, cond, _&&_, _||_}
 use mathlib.Core.List.{List, [], _∷_}
-use Prim.Native.Nat.{ℕ, _+_, _*_}
+use Prim.Native.Nat.{ℕ, zero, suc, _+_, _*_, _%_, _<_, _≤_}
+use native.Mathlib.Nat.{mod-lt, dvd-of-mod-eq-zero}
 use native.Mathlib.Omega.{arith}
-use lib.Dec.{eqb}
+use lib.Dec.{eqb, ltb}
 use lib.ListN.{length, getD, drop}
 use Rattle.rules.specs.Words.{_∈_, Has, Tests}
-use Rattle.rules.specs.Tiles.{Plan, Data, Takes, Meet, repeats}
+use Rattle.rules.specs.Tiles.{Plan, cycleTiles, Data, Takes, Meet, Gcd, repeats}
 use Rattle.rules.specs.Topology.{Topology, Joined, Hop, Touches, Clash}
 use Rattle.rules.specs.Book.{Site, Row, Book, hops, rowHop, rowOffset, OnData, MeetsClashing, Known}
 use Rattle.rules.specs.Placing.{Free}
-use Rattle.rules.proofs.Tests.{never, alike, tests-and, tests-or, tests-not, tests-eq, tests-all, tests-some, someOf, tests-member}
+use Rattle.rules.proofs.Tests.{never, alike, tests-and, tests-or, tests-not, tests-eq, tests-lt, tests-all, tests-some, someBelow, someOf, tests-member}
+use Rattle.rules.proofs.Bezout.{gcd-zero, gcd-step}
+use Rattle.rules.proofs.Meeting.{meet-iff}
+use Rattle.rules.proofs.Plans.{on-data-tests}
 use Rattle.rules.proofs.Slots.{isData, takes, tests-data, tests-takes, tests-touches}
-use Rattle.model.specs.Test.{sameBy, same, sameRow, has, joined, clashes, onData, meets, meetsClashing, isFree, isKnown}
+use Rattle.model.specs.Test.{sameBy, same, sameRow, has, joined, clashes, turnsOf, onData, gcdOf, isRuled, meets, meetsClashing, isFree, isKnown}
 
 -- LISTS
 module _ {A : Type 0} (f : A → A → Bool) (h : (x y : A) → Tests (f x y) (x ≡ y)) where
@@ -67,17 +71,67 @@ tests-clashes T h k =
     shared a (inr e) t = inr (subst (λ (x : ℕ). Touches x k) e t)
 
 -- SLOTS
+
+-- so many turns tell whether a hop takes only data slots
+record Enough (plan : Plan) (K turns : ℕ) : Type 0 where
+  most : turns ≤ repeats K
+  tell : (o : ℕ) → ((turn : ℕ) → turn < turns → Data plan (o + turn * (K * plan .slots))) → OnData plan K o
+
+turns-enough : (plan : Plan) (K : ℕ) → Enough plan K (turnsOf plan K)
+turns-enough plan K =
+    go (ltb 0 (plan .slots) && ltb 0 (plan .tiles)) (tests-and (tests-lt 0 (plan .slots)) (tests-lt 0 (plan .tiles))) (ltb (repeats K) (plan .tiles)) (tests-lt (repeats K) (plan .tiles))
+  where
+    all : Enough plan K (repeats K)
+    all = record { most = omega arith; tell = λ o g slot t. subst (Data plan) (sym (t .at)) (g (t .turn) (t .within)) }
+
+    go : (t : Bool) → Tests t ((0 < plan .slots) × (0 < plan .tiles)) → (u : Bool) → Tests u (repeats K < plan .tiles)
+        → Enough plan K (cond t (cond u (repeats K) (plan .tiles)) (repeats K))
+    go true h true g = all
+    go true h false g = record {
+      most = lt-or-le (λ l. never (g .back l));
+      tell = λ o. on-data-tests plan (h .yes refl .0) K o (h .yes refl .1) (plan .tiles) (inr refl);
+    }
+      where
+        lt-or-le : (repeats K < plan .tiles → ⊥) → plan .tiles ≤ repeats K
+        lt-or-le f = omega arith
+    go false h u g = all
+
 pub tests-on-data : (plan : Plan) (K o : ℕ) → Tests (onData plan K o) (OnData plan K o)
 tests-on-data plan K o =
-    alike (tests-all (λ turn. isData plan (o + turn * (K * plan .slots))) (λ turn. tests-data plan (o + turn * (K * plan .slots))) (repeats K))
-    (λ g slot t. subst (Data plan) (sym (t .at)) (g (t .turn) (t .within)))
-    (λ g turn l. g _ record { turn = turn; within = l; at = refl })
+    let w = turns-enough plan K in
+    alike (tests-all (λ turn. isData plan (o + turn * (K * plan .slots))) (λ turn. tests-data plan (o + turn * (K * plan .slots))) (turnsOf plan K))
+    (λ g. w .tell o g)
+    (λ g turn l. g _ record { turn = turn; within = omega (arith, w .most); at = refl })
+
+gcd-of : (n a b : ℕ) → b < n → Gcd a b (gcdOf n a b)
+gcd-of zero a b l = absurd (omega arith)
+gcd-of (suc n) a zero l = gcd-zero a
+gcd-of (suc n) a (suc b) l = let less : a % suc b < suc b = mod-lt a (omega arith) in gcd-step (gcd-of n (suc b) (a % suc b) (omega arith))
 
 pub tests-meets : (S K o L p : ℕ) → Tests (meets S K o L p) (Meet S K o L p)
-tests-meets S K o L p =
-    alike (tests-some (λ turn. takes S L p (o + turn * (K * S))) (λ turn. tests-takes S L p (o + turn * (K * S))) (repeats K))
-    (λ h. record { slot = o + h .0 * (K * S); left = record { turn = h .0; within = h .1; at = refl }; right = h .2 })
-    (λ m. (m .left .turn, m .left .within, subst (Takes S L p) (m .left .at) (m .right)))
+tests-meets S K o L p = go (isRuled S K o L p) refl
+  where
+    by-turns : Tests (someBelow (repeats K) (λ (turn : ℕ). takes S L p (o + turn * (K * S)))) (Meet S K o L p)
+    by-turns =
+        alike (tests-some (λ turn. takes S L p (o + turn * (K * S))) (λ turn. tests-takes S L p (o + turn * (K * S))) (repeats K))
+        (λ h. record { slot = o + h .0 * (K * S); left = record { turn = h .0; within = h .1; at = refl }; right = h .2 })
+        (λ m. (m .left .turn, m .left .within, subst (Takes S L p) (m .left .at) (m .right)))
+
+    tests-ruled : Tests (isRuled S K o L p) ((0 < S) × ((cycleTiles % K ≡ 0) × ((cycleTiles % L ≡ 0) × ((o < K * S) × (p < L * S)))))
+    tests-ruled =
+        tests-and (tests-lt 0 S) (tests-and (tests-eq (cycleTiles % K) 0) (tests-and (tests-eq (cycleTiles % L) 0) (tests-and (tests-lt o (K * S)) (tests-lt p (L * S)))))
+
+    by-rule : isRuled S K o L p ≡ true → Tests (eqb (o % (gcdOf (suc L) K L * S)) (p % (gcdOf (suc L) K L * S))) (Meet S K o L p)
+    by-rule e =
+        let h = tests-ruled .yes e in
+        let rule = meet-iff S K L (gcdOf (suc L) K L) o p (h .0) (dvd-of-mod-eq-zero _ (h .1 .0)) (dvd-of-mod-eq-zero _ (h .1 .1 .0))
+        (gcd-of (suc L) K L (omega arith)) (h .1 .1 .1 .0) (h .1 .1 .1 .1) in
+        alike (tests-eq _ _) (rule .1) (rule .0)
+
+    go : (t : Bool) → isRuled S K o L p ≡ t
+        → Tests (cond t (eqb (o % (gcdOf (suc L) K L * S)) (p % (gcdOf (suc L) K L * S))) (someBelow (repeats K) (λ (turn : ℕ). takes S L p (o + turn * (K * S))))) (Meet S K o L p)
+    go true e = by-rule e
+    go false e = by-turns
 
 -- ROWS
 pub tests-meets-clashing : (site : Site) (r : Row) (K : ℕ) (h : Hop) (o : ℕ) → Tests (meetsClashing site r K h o) (MeetsClashing site r K h o)

@@ -4,7 +4,7 @@ use mathlib.Core.List.{List, [], _∷_, _++_}
 use mathlib.Core.Option.{Option, some, none}
 use Prim.Native.Nat.{ℕ, zero, suc}
 use lib.Dec.{eqb}
-use Rattle.rules.specs.Tiles.{cycleSlots}
+use Rattle.rules.specs.Tiles.{cycleTiles, slotsOf, cycleSlots}
 use Rattle.rules.specs.Book.{Row, Book, hops, rowHop, rowOffset}
 use Rattle.rules.specs.Image.{word}
 use Rattle.rules.specs.Table.{onWay, sumBelow}
@@ -38,8 +38,12 @@ tableFrom b node zero slot = []
 tableFrom b node (suc n) slot =
     (cellOf b node slot (b .rows) .operation ∷ word (cellOf b node slot (b .rows) .stream)) ++ tableFrom b node n (suc slot)
 
+-- those of so many tiles from the first on
+abbrev pub partOf : Book → ℕ → ℕ → ℕ → List ℕ
+partOf b node first tiles = tableFrom b node (slotsOf (b .site .plan) tiles) (slotsOf (b .site .plan) first)
+
 abbrev pub tableOf : Book → ℕ → List ℕ
-tableOf b node = tableFrom b node (cycleSlots (b .site .plan)) 0
+tableOf b node = partOf b node 0 cycleTiles
 
 -- BALANCE
 abbrev pub dataCount : Book → ℕ

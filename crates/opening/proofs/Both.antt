@@ -8,21 +8,15 @@ use Rattle.rules.specs.Words.{total}
 use Rattle.rules.specs.Tiles.{Plan, periodAt}
 use Rattle.rules.specs.Topology.{hopCount}
 use Rattle.rules.specs.Book.{Offsets, LawfulBook}
-use Rattle.rules.specs.Placing.{Asked, FirstPlacing, Full}
+use Rattle.rules.specs.Placing.{Asked, FirstPlacing, Full, beside}
 use Rattle.rules.specs.Image.{planOf}
-use Rattle.rules.proofs.Periods.{period-most}
-use Rattle.rules.proofs.Reading.{rowsIn, bookIn, withRows}
+use Rattle.rules.proofs.Reading.{bookIn}
 use Rattle.image.specs.declared.Book.{Book}
-use Rattle.index.specs.Index.{indexLength, IndexOf}
-use Rattle.index.specs.Marks.{Removes, HopsTake}
-use Rattle.index.proofs.Apart.{index-without}
-use Rattle.placing.specs.Marking as marking
-use Rattle.placing.specs.Marking.{Markable, Marked, Unmarked}
+use Rattle.placing.specs.Marking.{Markable}
 use Rattle.adding.specs.Puts.{rowOn, Parts, Puttable}
 use Rattle.opening.specs.Keeping.{OneKept, TwoKept}
-use Rattle.opening.specs.Beside.{NewBeside, RouteBeside, PlacedBeside, MarkedBeside}
+use Rattle.opening.specs.Beside.{NewBeside, RouteBeside, PlacedBeside}
 use Rattle.opening.proofs.Routed.{room-left}
-use Rattle.opening.proofs.Keeping.{marked-row}
 
 module _ {s words : List ℕ} {book : Book} {q : Asked} {place at : ℕ} {hearing route : List ℕ} (w : RouteBeside s words book q place at hearing route) where
   lawful : LawfulBook (bookIn s)
@@ -52,38 +46,9 @@ puttable {s} w routes f e =
     record {
       image = w .asked .image .newest;
       vacant = w .vacant;
-      period = omega (arith, w .asked .period-is, period-most _ (w .asked .period));
       streams = left .0;
       hops-in-all = omega (arith, left .1, e);
     }
-
--- the first, marked
-module _ {s words : List ℕ} {book : Book} {q : Asked} {place at : ℕ} {hearing first offsets second : List ℕ} (w : PlacedBeside s words book q place at hearing first offsets second) where
-  pub markable : Markable (book .plan .slots .0) place first offsets
-  markable = route-markable (w .routes .first-route) (w .placed .placing .offsets-hold)
-
-  pub index-size : length words ≡ indexLength
-  index-size = w .routes .first-route .new .asked .image .index .size
-
-  pub marked-beside : {marks : List ℕ} → Marked (book .plan .slots .0) place first offsets words marks → MarkedBeside s marks book q place at hearing first offsets second
-  marked-beside {marks} m = record {
-    before = words;
-    placed = w;
-    index = marked-row {s = s} {q = q} 1 (record {
-      slots-are = route-slots (w .routes .first-route);
-      period-is = w .routes .first-route .new .asked .period-is;
-      markable = markable;
-      index = w .routes .first-route .new .asked .image .index;
-    }) m;
-  }
-
--- and taken out again: no row of the book has a node at work where one of its hops has
-pub unmarked-beside : {s words marks : List ℕ} {book : Book} {q : Asked} {place at : ℕ} {hearing first offsets second : List ℕ}
-    → (w : MarkedBeside s words book q place at hearing first offsets second) → Unmarked (book .plan .slots .0) place first offsets words marks → IndexOf (planOf s .slots) (rowsIn s) marks
-unmarked-beside {s} {words} {marks} {q = q} {first = first} {offsets} w m =
-    index-without (bookIn s .site) (rowOn q 1 first offsets) (rowsIn s) (λ x k h. w .placed .placed .placing .free (h .hop) (h .there) .never-meet x k (h .meets)) (w .index)
-    (subst₂ (λ (K S : ℕ). Removes (HopsTake S (marking.rowOn (q .id) 1 K first offsets) (hopCount first)) words marks) (w .placed .routes .first-route .new .asked .period-is)
-    (route-slots (w .placed .routes .first-route)) (m (q .id) 1))
 
 -- a placed route with room for its row can be put in and marked
 pub one-kept : {s words : List ℕ} {book : Book} {q : Asked} {place at : ℕ} {hearing route offsets : List ℕ} → RouteBeside s words book q place at hearing route
@@ -100,21 +65,22 @@ one-kept {s} {route = route} w p f = record {
 
 -- and the second beside the first
 pub two-kept : {s words : List ℕ} {book : Book} {q : Asked} {place at : ℕ} {hearing first offsets second others : List ℕ}
-    → (w : MarkedBeside s words book q place at hearing first offsets second) → FirstPlacing (withRows (bookIn s) (rowOn q 1 first offsets ∷ rowsIn s)) (q .period) second others
+    → (w : PlacedBeside s words book q place at hearing first offsets second) → FirstPlacing (beside (rowOn q 1 first offsets) (bookIn s)) (q .period) second others
     → TwoKept s words q (book .plan .slots .0) place at first offsets second others
 two-kept {s} {first = first} {second = second} w p =
-    let r = w .placed .routes in
-    let h = w .placed .placed .placing .offsets-hold in
+    let r = w .routes in
+    let h = w .placed .placing .offsets-hold in
     record {
       put = (
-        puttable (r .first-route .new) (first ∷ second ∷ []) (w .placed .room) (omega (arith, h .count, p .placing .offsets-hold .count)),
+        puttable (r .first-route .new) (first ∷ second ∷ []) (w .room) (omega (arith, h .count, p .placing .offsets-hold .count)),
         route-parts (r .first-route) h,
         route-parts (r .second-route) (p .placing .offsets-hold),
       );
       marked = record {
-        slots-are = route-slots (r .second-route);
-        period-is = r .second-route .new .asked .period-is;
-        markable = route-markable (r .second-route) (p .placing .offsets-hold);
-        index = w .index;
+        slots-are = route-slots (r .first-route);
+        period-is = r .first-route .new .asked .period-is;
+        markable = route-markable (r .first-route) h;
+        index = r .first-route .new .asked .image .index;
       };
+      markable = route-markable (r .second-route) (p .placing .offsets-hold);
     }

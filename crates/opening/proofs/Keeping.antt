@@ -3,16 +3,18 @@ use mathlib.Core.Path.{_≡_, sym, subst, subst₂}
 use mathlib.Core.Logic.{inl, inr}
 use mathlib.Core.List.{List, [], _∷_, _++_}
 use Prim.Native.Nat.{ℕ}
+use native.Mathlib.Omega.{arith}
 use Rattle.rules.specs.Words.{_∈_, Reordered}
-use Rattle.rules.specs.Tiles.{periodAt}
+use Rattle.rules.specs.Tiles.{Period, periodAt}
 use Rattle.rules.specs.Topology.{hopCount}
 use Rattle.rules.specs.Book.{Row, Book, Plus}
 use Rattle.rules.specs.Placing.{Asked}
 use Rattle.rules.specs.Image.{planOf}
+use Rattle.rules.proofs.Periods.{at-period}
 use Rattle.rules.proofs.Lists.{reordered-in, reordered-back}
 use Rattle.rules.proofs.Reading.{rowsIn, bookIn}
 use Rattle.index.specs.Index.{IndexOf}
-use Rattle.index.specs.Marks.{Adds, HopsTake}
+use Rattle.index.specs.Marks.{Adds, Notes, HopsTake}
 use Rattle.index.proofs.Rows.{index-more, index-alike}
 use Rattle.placing.specs.Marking as marking
 use Rattle.placing.specs.Marking.{Marked}
@@ -24,8 +26,14 @@ use Rattle.opening.specs.Keeping.{Keeps, MarkedAs, OneKept, TwoKept}
 pub marked-row : {s words marks : List ℕ} {q : Asked} {slots place : ℕ} {rows : List Row} {route offsets : List ℕ} (way : ℕ)
     → MarkedAs s words q slots place rows route offsets → Marked slots place route offsets words marks → IndexOf (planOf s .slots) (rowOn q way route offsets ∷ rows) marks
 marked-row {words = words} {marks} {q} {route = route} {offsets} way w m =
-    index-more (w .index)
-    (subst₂ (λ (K S : ℕ). Adds (HopsTake S (marking.rowOn (q .id) way K route offsets) (hopCount route)) words marks) (w .period-is) (w .slots-are) (m (q .id) way))
+    index-more (omega (arith, w .slots-are, w .markable .few)) (w .index) (subst Period (w .period-is) (at-period _ (w .markable .period)))
+    (subst₂ (λ (K S : ℕ). Adds (HopsTake S (marking.rowOn (q .id) way K route offsets) (hopCount route)) words (m .words)) (w .period-is) (w .slots-are) (m .adds (q .id) way))
+    (subst (λ (K : ℕ). Notes K (m .words) marks) (w .period-is) (m .notes))
+
+-- a second is marked beside the first
+pub first-marked : {s words mid : List ℕ} {q : Asked} {slots place at : ℕ} {first offsets second others : List ℕ} → TwoKept s words q slots place at first offsets second others
+    → Marked slots place first offsets words mid → MarkedAs s mid q slots place (rowOn q 1 first offsets ∷ rowsIn s) second others
+first-marked w m = record { slots-are = w .marked .slots-are; period-is = w .marked .period-is; markable = w .markable; index = marked-row 1 (w .marked) m }
 
 -- the rows put in, in whatever order they are marked
 pub kept : {s out words : List ℕ} {new rows : List Row} {len : ℕ} → PutIn s new len out → IndexOf (planOf s .slots) rows words
@@ -43,16 +51,16 @@ module _ {s words marks out : List ℕ} {q : Asked} {slots place at number len s
   keep-one {route} {offsets} w p m =
       (e, subst (λ (n : ℕ). Kept (Plus (bookIn s) (rowOn q 1 route offsets ∷ [])) s n out marks) (sym l) (kept p (marked-row 1 (w .marked) m) (λ x k. k) (λ x k. k)))
 
-  pub keep-two : {first offsets second others : List ℕ} → TwoKept s words q slots place at first offsets second others
-      → PutIn s (rowOn q 1 first offsets ∷ rowOn q 2 second others ∷ []) size out → Marked slots place second others words marks
-      → Keeps s (rowOn q 1 first offsets ∷ rowOn q 2 second others ∷ []) number len out marks
-  keep-two {first} {offsets} {second} {others} w p m = (
-    e,
-    subst (λ (n : ℕ). Kept (Plus (bookIn s) (rowOn q 1 first offsets ∷ rowOn q 2 second others ∷ [])) s n out marks) (sym l)
-        (kept p (marked-row 2 (w .marked) m) (λ x k. swapped (rowsIn s) k) (λ x k. swapped (rowsIn s) k)),
-  )
-    where
-      swapped : {x y z : Row} (rows : List Row) → x ∈ y ∷ z ∷ rows → x ∈ z ∷ y ∷ rows
-      swapped rows (inl k) = inr (inl k)
-      swapped rows (inr (inl k)) = inl k
-      swapped rows (inr (inr k)) = inr (inr k)
+  module _ {first offsets second others mid : List ℕ} (w : TwoKept s words q slots place at first offsets second others) (m : Marked slots place first offsets words mid) where
+    pub keep-two : PutIn s (rowOn q 1 first offsets ∷ rowOn q 2 second others ∷ []) size out → Marked slots place second others mid marks
+        → Keeps s (rowOn q 1 first offsets ∷ rowOn q 2 second others ∷ []) number len out marks
+    keep-two p n = (
+      e,
+      subst (λ (k : ℕ). Kept (Plus (bookIn s) (rowOn q 1 first offsets ∷ rowOn q 2 second others ∷ [])) s k out marks) (sym l)
+          (kept p (marked-row 2 (first-marked w m) n) (λ x k. swapped (rowsIn s) k) (λ x k. swapped (rowsIn s) k)),
+    )
+      where
+        swapped : {x y z : Row} (rows : List Row) → x ∈ y ∷ z ∷ rows → x ∈ z ∷ y ∷ rows
+        swapped rows (inl k) = inr (inl k)
+        swapped rows (inr (inl k)) = inl k
+        swapped rows (inr (inr k)) = inr (inr k)

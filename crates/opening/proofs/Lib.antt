@@ -2,6 +2,7 @@ pub mod Outcomes
 pub mod Judging
 pub mod Routed
 pub mod Planned
+pub mod Around
 pub mod Placed
 pub mod Both
 pub mod Seconds

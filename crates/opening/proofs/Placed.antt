@@ -1,56 +1,114 @@
--- The placing that was found by an index is that of the book with the rows of the index.
-use mathlib.Core.Path.{_≡_, sym, ap, subst, subst₂}
-use mathlib.Core.List.{List}
-use Prim.Native.Nat.{ℕ}
+-- The placing that was found by the index, the moduli and another route is that of a book with the rows of the image.
+use mathlib.Core.Path.{_≡_, refl, sym, ap, _∙_, subst, subst₂}
+use mathlib.Core.Logic.{_⊎_, inl, inr}
+use mathlib.Core.List.{List, [], _∷_}
+use Prim.Native.Nat.{ℕ, _-_, _<_, _≤_}
 use native.Mathlib.Omega.{arith}
-use lib.ListN.{take}
-use Rattle.rules.specs.Tiles.{Plan, periodAt}
-use Rattle.rules.specs.Topology.{Topology, hopCount}
+use lib.ListN.{length, getD}
+use Rattle.rules.specs.Words.{_∈_}
+use Rattle.rules.specs.Tiles.{Plan, Period, periodAt, shortTiles}
+use Rattle.rules.specs.Topology.{Topology}
 use Rattle.rules.specs.Periods.{thePlan}
 use Rattle.rules.specs.Book.{Row, LawfulBook}
-use Rattle.rules.specs.Placing.{Asked, FirstPlacing}
-use Rattle.rules.specs.Placing as rules
-use Rattle.rules.specs.Image.{planOf, hearingOf}
+use Rattle.rules.specs.Placing.{Asked, beside}
+use Rattle.rules.specs.Image.{planOf, hearingOf, streamsOf, rowsPlace}
 use Rattle.rules.proofs.Periods.{at-period}
-use Rattle.rules.proofs.Reading.{bookIn, withRows}
+use Rattle.rules.proofs.Reading.{rowsIn, bookIn}
 use Rattle.image.specs.declared.Book.{Book}
 use Rattle.bitset.specs.Rows.{topology}
-use Rattle.index.specs.Index.{IndexOf}
-use Rattle.index.specs.Marks.{Adds, HopsTake}
+use Rattle.index.specs.Index.{slowPlace}
+use Rattle.plain.specs.Plain.{nthRow, RowsThere, Weighs}
+use Rattle.placing.specs.Covers.{RowOn, Covers}
 use Rattle.placing.specs.Answers as placing
-use Rattle.placing.specs.Answers.{AnswersBy}
-use Rattle.placing.specs.declared.Found.{Found}
-use Rattle.placing.specs.declared.Found.the-variants.{Placed, NoPlacing}
+use Rattle.placing.specs.Answers.{around, Standing, AnswersBy}
+use Rattle.placing.specs.declared.Placing.{Placing}
 use Rattle.placing.proofs.Beside.{first-beside, none-beside}
-use Rattle.opening.specs.Beside.{RouteBeside}
+use Rattle.adding.specs.Puts.{rowOn}
+use Rattle.opening.specs.Beside.{RouteAsked, RouteBeside, PlacedOn, PlacedBeside}
+use Rattle.opening.proofs.Around.{image-beside}
 
-module _ {s words : List ℕ} {book : Book} {q : Asked} {place at : ℕ} {hearing route : List ℕ} (w : RouteBeside s words book q place at hearing route) where
+-- what is asked of a route is known where its row would stand
+pub asked-route : {s words : List ℕ} {book : Book} {q : Asked} {place at : ℕ} {hearing route : List ℕ} → RouteBeside s words book q place at hearing route
+    → RouteAsked s words book q place hearing route
+asked-route w = record { asked = w .new .asked; heard = w .heard; path = w .path; few = w .few }
+
+module _ {s words : List ℕ} {book : Book} {q : Asked} {place : ℕ} {hearing route : List ℕ} (w : RouteAsked s words book q place hearing route) where
   lawful : LawfulBook (bookIn s)
-  lawful = w .new .asked .image .newest .lawful .lawful
+  lawful = w .asked .image .newest .lawful .lawful
+
+  pub asked-period : Period (q .period)
+  asked-period = subst Period (w .asked .period-is) (at-period place (w .asked .period))
 
   pub placing-asked : placing.Asked (thePlan (book .plan)) (topology hearing) route place
   placing-asked =
-      subst₂ (λ (plan : Plan) (T : Topology). placing.Asked plan T route place) (sym (w .new .asked .header .plan)) (sym (ap topology (w .heard))) (record {
+      subst₂ (λ (plan : Plan) (T : Topology). placing.Asked plan T route place) (sym (w .asked .header .plan)) (sym (ap topology (w .heard))) (record {
         in-range = lawful .site .plan;
         sound = lawful .site .topologies .hearing-sound;
         most = omega (arith, lawful .site .topologies .even, lawful .site .nodes .1);
         some = omega (arith, w .path .some);
         few = w .few;
         known = λ a m. omega (arith, lawful .site .topologies .even, w .path .known a m);
-        period = w .new .asked .period;
+        period = w .asked .period;
       })
 
-  module _ (rows : List Row) (marks : List ℕ) (index : IndexOf (planOf s .slots) rows marks)
-      (r : Found) (offsets : List ℕ) (a : AnswersBy (thePlan (book .plan)) (topology hearing) marks (periodAt place) route r offsets) where
-    answers : AnswersBy (planOf s) (hearingOf s) marks (periodAt place) route r offsets
-    answers = subst₂ (λ (plan : Plan) (T : Topology). AnswersBy plan T marks (periodAt place) route r offsets) (w .new .asked .header .plan) (ap topology (w .heard)) a
+  module _ {start n : ℕ} (e : start ≡ rowsPlace s) (f : n ≡ streamsOf s) where
+    -- the rows of the image stand from the start on
+    pub rows-stand : RowsThere s start n
+    rows-stand = subst₂ (RowsThere s) (sym e) (sym f) (image-beside (w .asked .image) .there)
 
-    pub placed-first : r ≡ Placed → FirstPlacing (withRows (bookIn s) rows) (q .period) route (take (hopCount route) offsets)
-    placed-first e =
-        subst (λ (K : ℕ). FirstPlacing (withRows (bookIn s) rows) K route (take (hopCount route) offsets)) (w .new .asked .period-is)
-        (first-beside (withRows (bookIn s) rows) index (lawful .site .plan .most) (at-period place (w .new .asked .period)) route r offsets answers e)
+    -- where no period over 100 was noted, none is
+    pub none-noted : getD words slowPlace 0 ≡ 0 → (i : ℕ) → i < n → nthRow s start i .period ≤ shortTiles
+    none-noted z i l =
+        let b = image-beside (w .asked .image) in
+        subst (λ (k : ℕ). nthRow s k i .period ≤ shortTiles) (sym e) (b .index .none-slow z _ (b .known i (omega (arith, l, f))))
 
-    pub placed-none : r ≡ NoPlacing → rules.NoPlacing (withRows (bookIn s) rows) (q .period) route
-    placed-none e =
-        subst (λ (K : ℕ). rules.NoPlacing (withRows (bookIn s) rows) K route) (w .new .asked .period-is)
-        (none-beside (withRows (bookIn s) rows) index (lawful .site .plan .most) (at-period place (w .new .asked .period)) route r offsets answers e)
+    module _ {K rows : ℕ} {moduli first taken : List ℕ} (g : K ≡ q .period) (v : Weighs s start n K moduli rows) where
+      pub stands-around : length taken ≤ length first - 1 → ((a : ℕ) → a ∈ first → a < 64) → Standing (around words s start rows moduli first taken)
+      stands-around fits small =
+          record { there = record { each = λ i l. rows-stand .each i (omega (arith, l, v .most)); few = omega (arith, v .most, rows-stand .few) }; fits = fits; small = small }
+
+      pub placed-on : (r : Placing) → AnswersBy (thePlan (book .plan)) (topology hearing) (around words s start rows moduli first taken) (periodAt place) route (r .found) (r .offsets)
+          → PlacedOn s q route first taken r
+      placed-on r a c h =
+          let b = image-beside (w .asked .image) in
+          let weighs = subst₂ (λ (k m : ℕ). Weighs s k m (q .period) moduli rows) e f (subst (λ (K : ℕ). Weighs s start n K moduli rows) g v) in
+          record {
+            placed = first-beside b asked-period weighs h route (r .found) (r .offsets) answers;
+            none = none-beside b asked-period weighs h route (r .found) (r .offsets) answers;
+          }
+        where
+          answers : AnswersBy (planOf s) (hearingOf s) (around words s (rowsPlace s) rows moduli first taken) (q .period) route (r .found) (r .offsets)
+          answers =
+              subst₂ (λ (k K : ℕ). AnswersBy (planOf s) (hearingOf s) (around words s k rows moduli first taken) K route (r .found) (r .offsets)) e (w .asked .period-is)
+              (subst₂ (λ (plan : Plan) (T : Topology). AnswersBy plan T (around words s start rows moduli first taken) (periodAt place) route (r .found) (r .offsets))
+              (w .asked .header .plan) (ap topology (w .heard)) a)
+
+-- the book itself has no other row
+pub covers-none : (s : List ℕ) (K : ℕ) → Covers s (rowsIn s) K [] [] (bookIn s)
+covers-none s K =
+    record { site = refl; known = λ x m. m; each = λ x m. inl m; other = λ l. absurd (omega arith); count = refl; within = λ o m. absurd m }
+
+-- and with the first's row it has that one
+pub covers-first : {s words : List ℕ} {book : Book} {q : Asked} {place at : ℕ} {hearing first offsets second : List ℕ} → PlacedBeside s words book q place at hearing first offsets second
+    → Covers s (rowsIn s) (q .period) first offsets (beside (rowOn q 1 first offsets) (bookIn s))
+covers-first {s} {q = q} {first = first} {offsets} w = record {
+  site = refl;
+  known = λ x m. inr m;
+  each = each;
+  other = λ l. (rowOn q 1 first offsets, inl refl, record { period-is = refl; route-is = refl; offsets-are = refl });
+  count = w .placed .placing .offsets-hold .count;
+  within = w .placed .placing .offsets-hold .within;
+}
+  where
+    each : (x : Row) → x ∈ (rowOn q 1 first offsets ∷ rowsIn s) → (x ∈ rowsIn s) ⊎ RowOn (q .period) first offsets x
+    each x (inl e) = inr (record { period-is = ap (λ (r : Row). r .period) e; route-is = ap (λ (r : Row). r .route) e; offsets-are = ap (λ (r : Row). r .offsets) e })
+    each x (inr m) = inl m
+
+-- the second is asked for beside the first
+pub beside-asked : {s words : List ℕ} {book : Book} {q : Asked} {place at : ℕ} {hearing first offsets second : List ℕ} → PlacedBeside s words book q place at hearing first offsets second
+    → RouteAsked s words book q place hearing second × (length offsets ≤ length first - 1) × ((a : ℕ) → a ∈ first → a < 64)
+beside-asked w = (
+  asked-route (w .routes .second-route),
+  omega (arith, w .placed .placing .offsets-hold .count),
+  λ a m. omega (arith, w .routes .first-route .path .known a m, w .routes .first-route .new .asked .image .newest .lawful .lawful .site .nodes .1),
+)

@@ -3,17 +3,21 @@ use mathlib.Core.Path.{_≡_}
 use mathlib.Core.Bool.{true}
 use mathlib.Core.List.{List, [], _∷_}
 use Prim.Native.Nat.{ℕ, _<_, _≤_}
+use lib.ListN.{take}
+use Rattle.rules.specs.Book as rules
 use Rattle.rules.specs.Tiles.{periodAt}
 use Rattle.rules.specs.Topology.{Path, hopCount, mostRouteHops, Route}
 use Rattle.rules.specs.Periods.{InList}
+use Rattle.rules.specs.Placing as placing
 use Rattle.rules.specs.Placing.{Asked, FirstPlacing, Full}
-use Rattle.rules.specs.Image.{planOf, nodesOf, linksOf, hearingOf}
+use Rattle.rules.specs.Image.{nodesOf, linksOf, hearingOf}
 use Rattle.rules.proofs.Reading.{rowsIn, bookIn}
 use Rattle.image.specs.Header.{HeaderOf}
 use Rattle.image.specs.declared.Book.{Book}
-use Rattle.index.specs.Index.{IndexOf}
 use Rattle.index.specs.Beside.{ImageBeside}
-use Rattle.adding.specs.Puts.{rowOn}
+use Rattle.placing.specs.Covers.{Covers}
+use Rattle.placing.specs.declared.Placing.{Placing}
+use Rattle.placing.specs.declared.Found.the-variants.{Placed, NoPlacing}
 use Rattle.finding.specs.Spot.{Vacant}
 
 -- with what the header says; the request is in order, its period at the place
@@ -30,6 +34,22 @@ pub record AskedBeside (s words : List ℕ) (book : Book) (q : Asked) (place : �
 pub record NewBeside (s words : List ℕ) (book : Book) (q : Asked) (place at : ℕ) : Type 0 where
   pub asked : AskedBeside s words book q place
   pub vacant : Vacant s (q .id) at
+
+-- with the hearing, and a route
+pub record RouteAsked (s words : List ℕ) (book : Book) (q : Asked) (place : ℕ) (hearing route : List ℕ) : Type 0 where
+  pub asked : AskedBeside s words book q place
+  pub heard : hearing ≡ hearingOf s .rows
+  pub path : Path (linksOf s) route
+  pub few : hopCount route ≤ mostRouteHops
+
+-- the route's first placing in the book is found, or it has none
+pub record PlacedIn (c : rules.Book) (q : Asked) (route : List ℕ) (r : Placing) : Type 0 where
+  pub placed : r .found ≡ Placed → FirstPlacing c (q .period) route (take (hopCount route) (r .offsets))
+  pub none : r .found ≡ NoPlacing → placing.NoPlacing c (q .period) route
+
+-- in each book that has the rows of the image, and beside them only one on the first route, with the offsets that it has taken
+abbrev pub PlacedOn : List ℕ → Asked → List ℕ → List ℕ → List ℕ → Placing → Type 0
+PlacedOn s q route first taken r = (c : rules.Book) → Covers s (rowsIn s) (q .period) first taken c → PlacedIn c q route r
 
 -- and with the hearing, and a route
 pub record RouteBeside (s words : List ℕ) (book : Book) (q : Asked) (place at : ℕ) (hearing route : List ℕ) : Type 0 where
@@ -48,12 +68,6 @@ pub record PlacedBeside (s words : List ℕ) (book : Book) (q : Asked) (place at
   pub routes : RoutesBeside s words book q place at hearing first second
   pub placed : FirstPlacing (bookIn s) (q .period) first offsets
   pub room : Full (bookIn s) (first ∷ second ∷ []) → ⊥
-
--- and the first marked in the index: the words are that of the rows and the first's
-pub record MarkedBeside (s words : List ℕ) (book : Book) (q : Asked) (place at : ℕ) (hearing first offsets second : List ℕ) : Type 0 where
-  pub before : List ℕ
-  pub placed : PlacedBeside s before book q place at hearing first offsets second
-  pub index : IndexOf (planOf s .slots) (rowOn q 1 first offsets ∷ rowsIn s) words
 
 -- where the first is the planner's, with the set of nodes that may stand in the middle: with the links
 pub record PlannedBeside (s words : List ℕ) (mains : ℕ) (book : Book) (q : Asked) (place at : ℕ) (links first : List ℕ) : Type 0 where

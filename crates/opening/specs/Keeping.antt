@@ -28,7 +28,8 @@ pub record OneKept (s words : List ℕ) (q : Asked) (slots place at : ℕ) (rout
   pub put : OnePut s at q route offsets
   pub marked : MarkedAs s words q slots place (rowsIn s) route offsets
 
--- a second, beside them and the first
+-- and a second
 pub record TwoKept (s words : List ℕ) (q : Asked) (slots place at : ℕ) (first offsets second others : List ℕ) : Type 0 where
   pub put : TwoPut s at q first offsets second others
-  pub marked : MarkedAs s words q slots place (rowOn q 1 first offsets ∷ rowsIn s) second others
+  pub marked : MarkedAs s words q slots place (rowsIn s) first offsets
+  pub markable : Markable slots place second others

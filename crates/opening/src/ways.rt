@@ -2,20 +2,20 @@
 ghost use mathlib.Core.Path.{_≡_};
 ghost use mathlib.Core.List.{[], _∷_};
 ghost use mathlib.Core.Logic.{_⊎_};
-ghost use Prim.Native.Nat.{_+_, _<_, _≤_};
+ghost use Prim.Native.Nat.{ℕ, _+_, _-_, _<_, _≤_};
 ghost use lib.ListN.{length};
-ghost use Rattle.rules.specs.Words.{Tests, TwoBytes};
+ghost use Rattle.rules.specs.Words.{_∈_, Tests, TwoBytes};
 ghost use Rattle.rules.specs.Periods.{theAsked};
 ghost use Rattle.rules.specs.Book.{mostStreams, mostHops};
 ghost use Rattle.opening.specs.Open.{Routed, OpensNew};
-ghost use Rattle.index.specs.Index.{indexLength};
-ghost use Rattle.placing.specs.Marking.{Markable, Unmarked};
+ghost use Rattle.rules.proofs.Reading.{bookIn};
 ghost use Rattle.adding.specs.Puts.{rowOn};
 ghost use Rattle.opening.specs.Keeping.{OneKept, TwoKept, Keeps};
-ghost use Rattle.opening.specs.Beside.{RouteBeside, RoutesBeside, PlacedBeside, MarkedBeside, PlannedBeside, SecondBeside};
+ghost use Rattle.opening.specs.Beside.{RouteAsked, RouteBeside, RoutesBeside, PlacedIn, PlacedOn, PlacedBeside, PlannedBeside, SecondBeside};
 use answers::Answer;
 use image::Book;
 use placing::Found;
+use placing::Placing;
 use rules::Asked;
 use rules::Slot;
 
@@ -28,6 +28,77 @@ fn is_full(book: Book, rows: usize, hops: usize) -> bool
         return true;
     }
     Book::HOPS < book.hops + hops
+}
+
+// The first placing of a route beside the rows of the image, and beside another that has taken these offsets.
+fn place_beside(
+    image: &[u8],
+    index: &[u64; index::WORDS],
+    book: Book,
+    q: Asked,
+    place: usize,
+    hearing: &[u64],
+    route: &[u8],
+    first: &[u8],
+    taken: &[u16],
+) -> Placing
+    requires { ⌜ RouteAsked (now image) (now index) book (theAsked q) place (now hearing) (now route) × (length (now taken) ≤ length (now first) - 1)
+        × ((a : ℕ) → a ∈ now first → a < 64) ⌝ }
+    ensures { λ r. ⌜ PlacedOn (now (image .entry)) (theAsked q) (now (route .entry)) (now (first .entry)) (now (taken .entry)) r ⌝ }
+{
+    let plan = book.plan;
+    let start = book.rows_start();
+    let slow = index::has_slow(index);
+    let mut moduli = [0u16; plain::ROWS];
+    let rows = plain::weigh(
+        image,
+        start,
+        book.streams,
+        plan.slots,
+        q.period,
+        slow,
+        &mut moduli,
+    );
+    placing::first_placing(
+        plan,
+        hearing,
+        route,
+        place,
+        index,
+        image,
+        start,
+        rows,
+        &moduli,
+        first,
+        taken,
+    )
+}
+
+// The first placing of a route beside the rows of the image alone.
+fn place_alone(
+    image: &[u8],
+    index: &[u64; index::WORDS],
+    book: Book,
+    q: Asked,
+    place: usize,
+    hearing: &[u64],
+    route: &[u8],
+) -> Placing
+    requires { ⌜ RouteAsked (now image) (now index) book (theAsked q) place (now hearing) (now route) ⌝ }
+    ensures { λ r. ⌜ PlacedIn (bookIn (now (image .entry))) (theAsked q) (now (route .entry)) r ⌝ }
+{
+    let none = [0u16; 1];
+    place_beside(
+        image,
+        index,
+        book,
+        q,
+        place,
+        hearing,
+        route,
+        &route[..0],
+        &none[..0],
+    )
 }
 
 // Writes the image with the row of a placed route, and marks it in the index.
@@ -70,7 +141,7 @@ fn open_one(
         return answers::refused(8);
     }
     let plan = book.plan;
-    let placing = placing::first_placing(plan, hearing, route, place, index);
+    let placing = place_alone(image, index, book, q, place, hearing, route);
     let found = placing.found;
     let offsets = placing.offsets;
     match found {
@@ -89,7 +160,7 @@ fn open_one(
     }
 }
 
-// Writes the image with the rows of two placed routes, and marks the second in the index.
+// Writes the image with the rows of two placed routes, and marks both in the index.
 fn keep_two(
     image: &[u8],
     index: &mut [u64; index::WORDS],
@@ -107,67 +178,13 @@ fn keep_two(
     ensures { λ r. ⌜ Keeps (now (image .entry)) (rowOn (theAsked q) 1 (now (first .entry)) (now (offsets .entry)) ∷ rowOn (theAsked q) 2 (now (second .entry)) (now (others .entry)) ∷ []) (r .number) (r .length) (now (out .exit)) (now (index .exit)) ⌝ }
 {
     let length = adding::put_two(image, at, q, first, offsets, second, others, out);
+    placing::marking::mark(slots, place, first, offsets, index);
     placing::marking::mark(slots, place, second, others, index);
     answers::done(length)
 }
 
-// Takes the first route out of the index again, since the second has no placing beside it.
-fn give_up(
-    slots: Slot,
-    place: usize,
-    first: &[u8],
-    offsets: &[u16],
-    index: &mut [u64; index::WORDS],
-) -> Answer
-    requires { ⌜ Markable (slots .0) place (now first) (now offsets) × (length (now index) ≡ indexLength) ⌝ }
-    ensures { λ r. ⌜ (r .number ≡ 9) × Unmarked (slots .0) place (now (first .entry)) (now (offsets .entry)) (now (index .entry)) (now (index .exit)) ⌝ }
-{
-    placing::marking::unmark(slots, place, first, offsets, index);
-    answers::refused(9)
-}
-
-// Places the second route beside the first, which is placed and marked, and writes the image with both rows.
+// Places the second route beside the first, which is placed, and writes the image with both rows.
 fn place_second(
-    image: &[u8],
-    index: &mut [u64; index::WORDS],
-    book: Book,
-    q: Asked,
-    place: usize,
-    at: usize,
-    hearing: &[u64],
-    first: &[u8],
-    offsets: &[u16],
-    second: &[u8],
-    out: &mut [u8; Book::LONGEST],
-) -> Answer
-    requires { ⌜ MarkedBeside (now image) (now index) book (theAsked q) place at (now hearing) (now first) (now offsets) (now second) ⌝ }
-    ensures { λ r. ⌜ Routed (now (image .entry)) (theAsked q) (now (first .entry) ∷ now (second .entry) ∷ []) (r .number) (r .length) (now (out .exit)) (now (index .exit)) ⌝ }
-{
-    let hops = second.len() - 1;
-    let plan = book.plan;
-    let placing = placing::first_placing(plan, hearing, second, place, index);
-    let found = placing.found;
-    let others = placing.offsets;
-    match found {
-        Found::NoPlacing => give_up(plan.slots, place, first, offsets, index),
-        Found::Placed => keep_two(
-            image,
-            index,
-            q,
-            plan.slots,
-            place,
-            at,
-            first,
-            offsets,
-            second,
-            &others[..hops],
-            out,
-        ),
-    }
-}
-
-// Marks the first route, which is placed, and places the second beside it.
-fn open_second(
     image: &[u8],
     index: &mut [u64; index::WORDS],
     book: Book,
@@ -183,20 +200,37 @@ fn open_second(
     requires { ⌜ PlacedBeside (now image) (now index) book (theAsked q) place at (now hearing) (now first) (now offsets) (now second) ⌝ }
     ensures { λ r. ⌜ Routed (now (image .entry)) (theAsked q) (now (first .entry) ∷ now (second .entry) ∷ []) (r .number) (r .length) (now (out .exit)) (now (index .exit)) ⌝ }
 {
-    placing::marking::mark(book.plan.slots, place, first, offsets, index);
-    place_second(
+    let hops = second.len() - 1;
+    let plan = book.plan;
+    let placing = place_beside(
         image,
         index,
         book,
         q,
         place,
-        at,
         hearing,
+        second,
         first,
         offsets,
-        second,
-        out,
-    )
+    );
+    let found = placing.found;
+    let others = placing.offsets;
+    match found {
+        Found::NoPlacing => answers::refused(9),
+        Found::Placed => keep_two(
+            image,
+            index,
+            q,
+            plan.slots,
+            place,
+            at,
+            first,
+            offsets,
+            second,
+            &others[..hops],
+            out,
+        ),
+    }
 }
 
 // Places the stream on two routes, and writes the image with its rows.
@@ -220,12 +254,12 @@ fn open_both(
         return answers::refused(8);
     }
     let plan = book.plan;
-    let placing = placing::first_placing(plan, hearing, first, place, index);
+    let placing = place_alone(image, index, book, q, place, hearing, first);
     let found = placing.found;
     let offsets = placing.offsets;
     match found {
         Found::NoPlacing => answers::refused(9),
-        Found::Placed => open_second(
+        Found::Placed => place_second(
             image,
             index,
             book,

@@ -12,20 +12,18 @@ use Rattle.rules.specs.Book.{Row, Book, hopsInAll, mostStreams, mostHops, rowOf
 use Rattle.rules.specs.Image.{newest, encode, Stored}
 use Rattle.rules.proofs.Tests.{tests-and, tests-eq, tests-le, allOf, tests-every}
 use Rattle.rules.proofs.Lists.{at-in}
+use Rattle.rules.proofs.Meeting.{same-place}
 use Rattle.rules.proofs.Reading.{lawful-stored}
 use Rattle.model.specs.Reading.{isLawful, isPaired}
 use Rattle.model.proofs.Reading.{tests-site, tests-lawful, tests-rising, tests-paired}
 use Rattle.order.specs.Examples.{longOnes}
 use Rattle.order.proofs.Premises.{so}
 
--- hops that come once in a cycle meet in their offset
-meet-once : (S o p : ℕ) → Meet S 100 o 100 p → o ≡ p
-meet-once S o p m =
-    let z : m .left .turn ≡ 0 = omega (arith, m .left .within) in
-    let y : m .right .turn ≡ 0 = omega (arith, m .right .within) in
-    omega (arith, m .left .at, m .right .at, ap (λ (t : ℕ). t * (100 * S)) z, ap (λ (t : ℕ). t * (100 * S)) y)
+-- hops of one period meet in their offset
+meet-once : (S K o p : ℕ) → o < K * S → p < K * S → Meet S K o K p → o ≡ p
+meet-once S K o p l k m = same-place (K * S) o p (m .left .turn) (m .right .turn) l k (sym (m .left .at) ∙ m .right .at)
 
--- the row comes once in a cycle, and its offsets are 15 that its id tells
+-- the row has the period 100, and its offsets are 15 that its id tells
 abbrev OwnSlots : Row → Type 0
 OwnSlots r = (r .period ≡ 100) × ((r .way ≡ 1) × ((o : ℕ) → o ∈ r .offsets → o / 15 + 1 ≡ r .id))
 
@@ -47,10 +45,13 @@ own-apart b lawful own m =
     let S : ℕ = b .site .plan .slots in
     let o : ℕ = rowOffset (m .one) (m .meets .hop) in
     let p : ℕ = rowOffset (m .other) (m .meets .meets .hop) in
-    let e : o ≡ p = meet-once S o p
-    (subst (λ (K : ℕ). Meet S K o 100 p) (f .0) (subst (λ (L : ℕ). Meet S (m .one .period) o L p) (g .0) (m .meets .meets .meet))) in
-    let ids : m .one .id ≡ m .other .id = sym (f .1 .1 o (at-in (m .one .offsets) (m .meets .hop) i)) ∙ ap (λ (x : ℕ). x / 15 + 1) e
-    ∙ g .1 .1 p (at-in (m .other .offsets) (m .meets .meets .hop) j) in
+    let k = at-in (m .one .offsets) (m .meets .hop) i in
+    let l = at-in (m .other .offsets) (m .meets .meets .hop) j in
+    let once : m .other .period ≡ m .one .period = g .0 ∙ sym (f .0) in
+    let e : o ≡ p = meet-once S (m .one .period) o p (lawful (m .one) (m .one-there) .offsets .within o k)
+    (subst (λ (K : ℕ). p < K * S) once (lawful (m .other) (m .other-there) .offsets .within p l))
+    (subst (λ (L : ℕ). Meet S (m .one .period) o L p) once (m .meets .meets .meet)) in
+    let ids : m .one .id ≡ m .other .id = sym (f .1 .1 o k) ∙ ap (λ (x : ℕ). x / 15 + 1) e ∙ g .1 .1 p l in
     m .different (omega (arith, ids, f .1 .0, g .1 .0))
 
 rows-lawful : (r : Row) → r ∈ longOnes .rows → LawfulRow (longOnes .site) r

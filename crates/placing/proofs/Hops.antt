@@ -7,21 +7,19 @@ use native.Mathlib.Numerals.{add-one}
 use native.Mathlib.Omega.{arith}
 use lib.ListN.{length, getD}
 use Rattle.rules.specs.Tiles.{periodAt}
+use Rattle.rules.specs.Topology.{hopCount}
 use Rattle.rules.proofs.Lists.{at-in}
-use Rattle.rules.proofs.Periods.{at-period}
-use Rattle.clash.specs.Reach.{End, nodeAt}
 use Rattle.clash.specs.declared.Reach.{Reach}
 use Rattle.index.specs.declared.Repeats.{Repeats}
-use Rattle.index.specs.Turns.{RepeatsOf, TakesIn, InIndex}
-use Rattle.index.specs.Marks.{Adds, Removes, HopsTake, Marks}
+use Rattle.index.specs.Turns.{RepeatsOf, InIndex}
+use Rattle.index.specs.Marks.{Adds, Notes, HopsTake, Marks}
 use Rattle.index.proofs.Rows.{hops-more}
-use Rattle.index.proofs.Removing.{unhops-more}
 use Rattle.index.proofs.Turns.{in-index}
-use Rattle.placing.specs.Marking.{Markable, rowOn}
+use Rattle.placing.specs.Marking.{Markable, Marked, rowOn}
 
 module _ {S place : ℕ} {route offsets : List ℕ} (w : Markable S place route offsets) {repeats : Repeats} (v : RepeatsOf S (periodAt place) repeats) where
   pub hop-inside : (i : ℕ) → i < length offsets → InIndex repeats (getD offsets i 0)
-  hop-inside i l = in-index v (w .few) (at-period place (w .period)) (w .within (getD offsets i 0) (at-in offsets i l))
+  hop-inside i l = in-index v (w .few) (w .within (getD offsets i 0) (at-in offsets i l))
 
   pub node-small : (i : ℕ) → i < length offsets + 1 → getD route i 0 < 64
   node-small i l = w .known (getD route i 0) (at-in route i (omega (arith, w .count)))
@@ -34,11 +32,8 @@ marked-more {S} {K} {route} {offsets} {before} {after} {index} {repeats} {reach}
     hops-more S (rowOn id way K route offsets) i v a
     (subst (λ (j : ℕ). Marks repeats (getD offsets i 0) (record { from = getD route i 0; to = getD route j 0 }) reach index after t) (add-one i) m .adds)
 
-pub unmarked-more : {S K : ℕ} {route offsets before after index : List ℕ} {repeats : Repeats} (v : RepeatsOf S K repeats) (i id way : ℕ)
-    → Removes (HopsTake S (rowOn id way K route offsets) i) before index
-    → Removes (λ (end : End) (slot node : ℕ). TakesIn repeats (getD offsets i 0) slot × (node ≡ nodeAt end (record { from = getD route i 0; to = getD route (i + 1) 0 }))) index after
-    → Removes (HopsTake S (rowOn id way K route offsets) (i + 1)) before after
-unmarked-more {S} {K} {route} {offsets} {before} {after} {index} {repeats} v i id way a m =
-    unhops-more S (rowOn id way K route offsets) i v a
-    (subst (λ (j : ℕ). Removes (λ (end : End) (slot node : ℕ). TakesIn repeats (getD offsets i 0) slot × (node ≡ nodeAt end (record { from = getD route i 0; to = getD route j 0 }))) index after)
-    (add-one i) m)
+-- and the period is noted
+pub marked : {S place K : ℕ} {route offsets before words after : List ℕ}
+    → ((id way : ℕ) → Adds (HopsTake S (rowOn id way (periodAt place) route offsets) (hopCount route)) before words) → K ≡ periodAt place → Notes K words after
+    → Marked S place route offsets before after
+marked {words = words} {after} a e n = record { words = words; adds = a; notes = subst (λ (K : ℕ). Notes K words after) e n }

@@ -1,2 +1,3 @@
 pub mod Answers
 pub mod Marking
+pub mod Covers

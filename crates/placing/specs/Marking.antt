@@ -8,7 +8,7 @@ use Rattle.rules.specs.Tiles.{periodAt}
 use Rattle.rules.specs.Topology.{hopCount}
 use Rattle.rules.specs.Periods.{InList}
 use Rattle.rules.specs.Book.{Row}
-use Rattle.index.specs.Marks.{Adds, Removes, HopsTake}
+use Rattle.index.specs.Marks.{Adds, Notes, HopsTake}
 
 -- a route over at most 64 nodes, with an offset within the period for each hop
 pub record Markable (S place : ℕ) (route offsets : List ℕ) : Type 0 where
@@ -22,10 +22,8 @@ pub record Markable (S place : ℕ) (route offsets : List ℕ) : Type 0 where
 abbrev pub rowOn : ℕ → ℕ → ℕ → List ℕ → List ℕ → Row
 rowOn id way K route offsets = record { id = id; way = way; period = K; route = route; offsets = offsets }
 
--- the hops of that row were marked
-abbrev pub Marked : ℕ → ℕ → List ℕ → List ℕ → List ℕ → List ℕ → Type 0
-Marked S place route offsets before after = (id way : ℕ) → Adds (HopsTake S (rowOn id way (periodAt place) route offsets) (hopCount route)) before after
-
--- or they were taken out
-abbrev pub Unmarked : ℕ → ℕ → List ℕ → List ℕ → List ℕ → List ℕ → Type 0
-Unmarked S place route offsets before after = (id way : ℕ) → Removes (HopsTake S (rowOn id way (periodAt place) route offsets) (hopCount route)) before after
+-- the hops of that row were marked, and then its period noted
+pub record Marked (S place : ℕ) (route offsets before after : List ℕ) : Type 0 where
+  pub words : List ℕ
+  pub adds : (id way : ℕ) → Adds (HopsTake S (rowOn id way (periodAt place) route offsets) (hopCount route)) before words
+  pub notes : Notes (periodAt place) words after

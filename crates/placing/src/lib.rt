@@ -1,4 +1,4 @@
-// The first placing of a route's hops beside the rows of an index.
+// The first placing of a route's hops beside the rows of an index, rows that it leaves out, and another route.
 ghost use mathlib.Core.Path.{_≡_};
 ghost use Prim.Native.Nat.{_*_, _<_};
 ghost use lib.ListN.{length};
@@ -9,7 +9,7 @@ ghost use Rattle.bitset.specs.Rows.{topology};
 ghost use Rattle.clash.specs.Reach.{hop, Clashes, Between};
 ghost use Rattle.index.specs.Turns.{RepeatsOf};
 ghost use Rattle.index.specs.Marks.{InReach};
-ghost use Rattle.placing.specs.Answers.{FreeBy, Searched, Asked, AnswersBy};
+ghost use Rattle.placing.specs.Answers.{around, Standing, FreeBy, Searched, Asked, AnswersBy};
 
 pub mod marking;
 
@@ -37,33 +37,72 @@ enum Next {
     Nowhere,
 }
 
-// Whether the offset takes only data slots, and none of them where a node in reach is at work.
+// Whether the offset takes only data slots, and meets no hop in reach: by the index, by the moduli of rows, and of the route
+// that has taken these offsets.
 fn is_free(
     plan: Plan,
     place: usize,
     repeats: Repeats,
     index: &[u64; index::WORDS],
+    image: &[u8],
+    start: usize,
+    rows: usize,
+    moduli: &[u16; plain::ROWS],
+    first: &[u8],
+    taken: &[u16],
     reach: Reach,
     o: u16,
 ) -> bool
-    requires { ⌜ PlanInRange (thePlan plan) × InList place × RepeatsOf (plan .slots .0) (periodAt place) repeats × (o < periodAt place * plan .slots .0) ⌝ }
-    ensures { λ r. ⌜ Tests r (FreeBy (InReach reach) (thePlan plan) (now (index .entry)) (periodAt place) o) ⌝ }
+    requires { ⌜ PlanInRange (thePlan plan) × InList place × RepeatsOf (plan .slots .0) (periodAt place) repeats × (o < periodAt place * plan .slots .0)
+        × Standing (around (now index) (now image) start rows (now moduli) (now first) (now taken)) ⌝ }
+    ensures { λ r. ⌜ Tests r (FreeBy (InReach reach) (thePlan plan) (around (now (index .entry)) (now (image .entry)) start rows (now (moduli .entry)) (now (first .entry)) (now (taken .entry))) (periodAt place) o) ⌝ }
 {
     if index::finds(index, repeats, Slot(o), reach) {
         return false;
     }
-    rules::on_data(plan, place, Slot(o))
+    if !rules::on_data(plan, place, Slot(o)) {
+        return false;
+    }
+    if plain::agrees(image, start, rows, moduli, reach, Slot(o)) {
+        return false;
+    }
+    !plain::route_meets(first, taken, reach, Slot(o))
 }
 
 // The least of those offsets from lo on.
-fn next_free(plan: Plan, place: usize, index: &[u64; index::WORDS], reach: Reach, lo: u16) -> Next
-    requires { ⌜ PlanInRange (thePlan plan) × InList place ⌝ }
-    ensures { λ r. ⌜ Searched (FreeBy (InReach reach) (thePlan plan) (now (index .entry)) (periodAt place)) lo (periodAt place * plan .slots .0) r ⌝ }
+fn next_free(
+    plan: Plan,
+    place: usize,
+    index: &[u64; index::WORDS],
+    image: &[u8],
+    start: usize,
+    rows: usize,
+    moduli: &[u16; plain::ROWS],
+    first: &[u8],
+    taken: &[u16],
+    reach: Reach,
+    lo: u16,
+) -> Next
+    requires { ⌜ PlanInRange (thePlan plan) × InList place × Standing (around (now index) (now image) start rows (now moduli) (now first) (now taken)) ⌝ }
+    ensures { λ r. ⌜ Searched (FreeBy (InReach reach) (thePlan plan) (around (now (index .entry)) (now (image .entry)) start rows (now (moduli .entry)) (now (first .entry)) (now (taken .entry))) (periodAt place)) lo (periodAt place * plan .slots .0) r ⌝ }
 {
     let repeats = index::repeats_of(plan.slots, place);
     let mut o = lo;
     while o < repeats.span.0 {
-        if is_free(plan, place, repeats, index, reach, o) {
+        if is_free(
+            plan,
+            place,
+            repeats,
+            index,
+            image,
+            start,
+            rows,
+            moduli,
+            first,
+            taken,
+            reach,
+            o,
+        ) {
             return Next::At(o);
         }
         o += 1;
@@ -71,7 +110,7 @@ fn next_free(plan: Plan, place: usize, index: &[u64; index::WORDS], reach: Reach
     Next::Nowhere
 }
 
-// The least offset from lo on that is free for the hop by the index.
+// The least offset from lo on that is free for the hop.
 fn next_offset(
     plan: Plan,
     hearing: &[u64],
@@ -79,26 +118,51 @@ fn next_offset(
     to: Node,
     place: usize,
     index: &[u64; index::WORDS],
+    image: &[u8],
+    start: usize,
+    rows: usize,
+    moduli: &[u16; plain::ROWS],
+    first: &[u8],
+    taken: &[u16],
     lo: u16,
 ) -> Next
-    requires { ⌜ PlanInRange (thePlan plan) × InList place × Between (topology (now hearing)) (hop from to) ⌝ }
-    ensures { λ r. ⌜ Searched (FreeBy (Clashes (topology (now (hearing .entry))) (hop from to)) (thePlan plan) (now (index .entry)) (periodAt place)) lo
+    requires { ⌜ PlanInRange (thePlan plan) × InList place × Between (topology (now hearing)) (hop from to)
+        × Standing (around (now index) (now image) start rows (now moduli) (now first) (now taken)) ⌝ }
+    ensures { λ r. ⌜ Searched (FreeBy (Clashes (topology (now (hearing .entry))) (hop from to)) (thePlan plan) (around (now (index .entry)) (now (image .entry)) start rows (now (moduli .entry)) (now (first .entry)) (now (taken .entry))) (periodAt place)) lo
         (periodAt place * plan .slots .0) r ⌝ }
 {
     let reach = clash::reach_of(hearing, from, to);
-    next_free(plan, place, index, reach, lo)
+    next_free(
+        plan,
+        place,
+        index,
+        image,
+        start,
+        rows,
+        moduli,
+        first,
+        taken,
+        reach,
+        lo,
+    )
 }
 
-// The first placing of the route by the index, at the period of the place.
+// The first placing of the route, at the period of the place.
 pub fn first_placing(
     plan: Plan,
     hearing: &[u64],
     route: &[u8],
     place: usize,
     index: &[u64; index::WORDS],
+    image: &[u8],
+    start: usize,
+    rows: usize,
+    moduli: &[u16; plain::ROWS],
+    first: &[u8],
+    taken: &[u16],
 ) -> Placing
-    requires { ⌜ Asked (thePlan plan) (topology (now hearing)) (now route) place ⌝ }
-    ensures { λ r. ⌜ AnswersBy (thePlan plan) (topology (now (hearing .entry))) (now (index .entry)) (periodAt place) (now (route .entry)) (r .found) (r .offsets) ⌝ }
+    requires { ⌜ Asked (thePlan plan) (topology (now hearing)) (now route) place × Standing (around (now index) (now image) start rows (now moduli) (now first) (now taken)) ⌝ }
+    ensures { λ r. ⌜ AnswersBy (thePlan plan) (topology (now (hearing .entry))) (around (now (index .entry)) (now (image .entry)) start rows (now (moduli .entry)) (now (first .entry)) (now (taken .entry))) (periodAt place) (now (route .entry)) (r .found) (r .offsets) ⌝ }
 {
     let hops = route.len() - 1;
     let mut offsets = [0u16; 15];
@@ -107,7 +171,21 @@ pub fn first_placing(
     while h < hops {
         let from = Node(route[h]);
         let to = Node(route[h + 1]);
-        match next_offset(plan, hearing, from, to, place, index, lo) {
+        match next_offset(
+            plan,
+            hearing,
+            from,
+            to,
+            place,
+            index,
+            image,
+            start,
+            rows,
+            moduli,
+            first,
+            taken,
+            lo,
+        ) {
             Next::At(o) => {
                 offsets[h] = o;
                 lo = o + 1;

@@ -1,13 +1,13 @@
-// A placing, marked in the index and taken out again.
+// A placing, marked in the index.
 ghost use mathlib.Core.Path.{_≡_};
 ghost use lib.ListN.{length};
 ghost use Rattle.index.specs.Index.{indexLength};
-ghost use Rattle.placing.specs.Marking.{Markable, Marked, Unmarked};
+ghost use Rattle.placing.specs.Marking.{Markable, Marked};
 use clash::Reach;
 use rules::Node;
 use rules::Slot;
 
-// Marks the hops of a route that has these offsets in every slot that they take.
+// Marks the hops of a route that has these offsets in every slot that they take, and notes their period.
 pub fn mark(
     slots: Slot,
     place: usize,
@@ -35,29 +35,5 @@ pub fn mark(
         );
         i += 1;
     }
-}
-
-// Takes them out again.
-pub fn unmark(
-    slots: Slot,
-    place: usize,
-    route: &[u8],
-    offsets: &[u16],
-    index: &mut [u64; index::WORDS],
-)
-    requires { ⌜ Markable (slots .0) place (now route) (now offsets) × (length (now index) ≡ indexLength) ⌝ }
-    ensures { λ _. ⌜ Unmarked (slots .0) place (now (route .entry)) (now (offsets .entry)) (now (index .entry)) (now (index .exit)) ⌝ }
-{
-    let repeats = index::repeats_of(slots, place);
-    let mut i = 0;
-    while i < offsets.len() {
-        index::unmark(
-            index,
-            repeats,
-            Slot(offsets[i]),
-            Node(route[i]),
-            Node(route[i + 1]),
-        );
-        i += 1;
-    }
+    index::note(index, rules::period_at(place));
 }

@@ -7,14 +7,14 @@ use native.Mathlib.Omega.{arith}
 use native.Mathlib.Decide.{ℕ-discrete}
 use lib.ListN.{length}
 use Rattle.rules.specs.Says.{Refusal, Says}
-use Rattle.rules.specs.Tiles.{PlanInRange}
+use Rattle.rules.specs.Tiles.{Plan, PlanInRange}
 use Rattle.rules.specs.Topology.{nodes}
 use Rattle.rules.specs.Periods.{thePlan}
 use Rattle.rules.specs.Book.{Book}
 use Rattle.rules.specs.Image.{imageRefusals, encode, linksStart, versionOf, planOf, nodesOf, linksOf}
-use Rattle.rules.specs.Table.{tableLength, TableOf, BalanceOf}
+use Rattle.rules.specs.Table.{tableLength, TablePart, BalanceOf}
 use Rattle.rules.specs.Calls.{SaysOf, CallOf, ReplyOf, rewriteRefusals}
-use Rattle.rules.specs.Calls.{expandRefusals, balanceRefusals, checkRefusals, Check, Rewrite, Expand, Balance}
+use Rattle.rules.specs.Calls.{PartInRange, expandRefusals, balanceRefusals, checkRefusals, Check, Rewrite, Expand, Balance}
 use Rattle.rules.proofs.Written.{length-sets-at}
 use Rattle.rules.proofs.Reading.{bookIn, LawfulImage}
 use Rattle.image.specs.Header.{HeaderOf}
@@ -44,8 +44,8 @@ module _ {s words : List ℕ} {n number : ℕ} (v : Verdict s n words) (f : n �
     pub rewrite-refused : Rewrite s out number len out
     rewrite-refused = reply-image (rewriteRefusals (length out)) (λ v b bytes. bytes ≡ encode v b) out b
 
-    pub expand-refused : (node : ℕ) → Expand s node out number len out
-    expand-refused node = reply-image (expandRefusals node (length out)) (λ v b. TableOf b node) out b
+    pub expand-refused : (node first tiles : ℕ) → Expand s node first tiles out number len out
+    expand-refused node first tiles = reply-image (expandRefusals node first tiles (length out)) (λ v b. TablePart b node first tiles) out b
 
   pub balance-refused : (node : ℕ) {d u e : ℕ} → d ≡ 0 → u ≡ 0 → e ≡ 0 → Balance s node number d u e
   balance-refused node x y z = image-refused (balanceRefusals node) (x, y, z)
@@ -91,26 +91,31 @@ module _ {s : List ℕ} (h : LawfulImage s) {book : head.Book} (read : HeaderOf 
   pub known : nodes (linksOf s) ≡ book .nodes
   known = length-sets-at s (linksStart (versionOf s)) (nodesOf s) ∙ sym (read .nodes)
 
-  size-is : {size : ℕ} → size ≡ tableLength (thePlan (book .plan)) → size ≡ tableLength (planOf s)
-  size-is e = e ∙ ap tableLength (read .plan)
+  size-is : {size : ℕ} (tiles : ℕ) → size ≡ tableLength (thePlan (book .plan)) tiles → size ≡ tableLength (planOf s) tiles
+  size-is tiles e = e ∙ ap (λ (plan : Plan). tableLength plan tiles) (read .plan)
 
-  module _ (node : ℕ) {number len : ℕ} (out : List ℕ) where
-    expand-on : {out′ : List ℕ} → Reply (expandRefusals node (length out) (versionOf s) (bookIn s)) (TableOf (bookIn s) node) out number len out′
-        → Expand s node out number len out′
-    expand-on w = reply-book h (expandRefusals node (length out)) (λ v b. TableOf b node) w
+  module _ (node first tiles : ℕ) {number len : ℕ} (out : List ℕ) where
+    expand-on : {out′ : List ℕ} → Reply (expandRefusals node first tiles (length out) (versionOf s) (bookIn s)) (TablePart (bookIn s) node first tiles) out number len out′
+        → Expand s node first tiles out number len out′
+    expand-on w = reply-book h (expandRefusals node first tiles (length out)) (λ v b. TablePart b node first tiles) w
 
-    pub expand-unknown : book .nodes ≤ node → number ≡ 4 → len ≡ 0 → Expand s node out number len out
+    pub expand-unknown : book .nodes ≤ node → number ≡ 4 → len ≡ 0 → Expand s node first tiles out number len out
     expand-unknown l a b = expand-on (reply-refused (omega (arith, known)) (λ z. omega arith) a b)
 
-    module _ (l : node < book .nodes) {size : ℕ} (e : size ≡ tableLength (thePlan (book .plan))) where
-      pub expand-short : length out < size → number ≡ 12 → len ≡ 0 → Expand s node out number len out
-      expand-short k a b = expand-on (reply-next (λ m. omega (arith, m, known)) (reply-refused (omega (arith, size-is e)) (λ z. omega arith) a b))
+    module _ (l : node < book .nodes) where
+      pub expand-outside : (PartInRange first tiles → ⊥) → number ≡ 21 → len ≡ 0 → Expand s node first tiles out number len out
+      expand-outside f a b = expand-on (reply-next (λ m. omega (arith, m, known)) (reply-refused f (λ z. omega arith) a b))
 
-      pub expand-done : {out′ : List ℕ} → size ≤ length out → number ≡ 0 → len ≡ size → Filled s node out out′ → Expand s node out number len out′
-      expand-done k a b f =
-          expand-on
-          (reply-next (λ m. omega (arith, m, known)) (reply-next (λ m. omega (arith, m, size-is e))
-          (reply-done (f .table) (f .table-of) a (b ∙ size-is e ∙ sym (f .table-of .size)) (f .buffer))))
+      module _ (p : PartInRange first tiles) {size : ℕ} (e : size ≡ tableLength (thePlan (book .plan)) tiles) where
+        pub expand-short : length out < size → number ≡ 12 → len ≡ 0 → Expand s node first tiles out number len out
+        expand-short k a b =
+            expand-on (reply-next (λ m. omega (arith, m, known)) (reply-next (λ f. f p) (reply-refused (omega (arith, size-is tiles e)) (λ z. omega arith) a b)))
+
+        pub expand-done : {out′ : List ℕ} → size ≤ length out → number ≡ 0 → len ≡ size → Filled s node first tiles out out′ → Expand s node first tiles out number len out′
+        expand-done k a b f =
+            expand-on
+            (reply-next (λ m. omega (arith, m, known)) (reply-next (λ f. f p) (reply-next (λ m. omega (arith, m, size-is tiles e))
+            (reply-done (f .table) (f .part-of) a (b ∙ size-is tiles e ∙ sym (f .part-of .size)) (f .buffer)))))
 
   -- BALANCE
   module _ (node : ℕ) {number d u f : ℕ} where

@@ -114,12 +114,19 @@ pub extern "C" fn lindurask_close(book: &[u8], id: u16, out: &mut [u8], length: 
     answer.number
 }
 
-// Writes a node's slot table.
+// Writes the part of a node's slot table that has so many tiles from the first on.
 #[no_mangle]
-pub extern "C" fn lindurask_expand(book: &[u8], node: u8, out: &mut [u8], length: &mut usize) -> u8
-    ensures { λ r. ⌜ Expand (now (book .entry)) node (now (out .entry)) r (now (length .exit)) (now (out .exit)) ⌝ }
+pub extern "C" fn lindurask_expand(
+    book: &[u8],
+    node: u8,
+    first: u16,
+    tiles: u16,
+    out: &mut [u8],
+    length: &mut usize,
+) -> u8
+    ensures { λ r. ⌜ Expand (now (book .entry)) node first tiles (now (out .entry)) r (now (length .exit)) (now (out .exit)) ⌝ }
 {
-    let answer = crate::expand(book, Node(node), out);
+    let answer = crate::expand(book, Node(node), Tile(first), Tile(tiles), out);
     *length = answer.length;
     answer.number
 }

@@ -15,6 +15,7 @@ use posting::Request;
 use rules::Asked;
 use rules::Node;
 use rules::Plan;
+use rules::Tile;
 
 mod interface;
 
@@ -130,9 +131,9 @@ pub fn close_stream(image: &[u8], id: u16, out: &mut [u8]) -> Answer
     posting::post_one(image, posting::all_nodes(image), request, out)
 }
 
-// Writes a node's slot table for all 100 tiles.
-pub fn expand(image: &[u8], node: Node, out: &mut [u8]) -> Answer
-    ensures { λ r. ⌜ Expand (now (image .entry)) (node .0) (now (out .entry)) (r .number) (r .length) (now (out .exit)) ⌝ }
+// Writes the part of a node's slot table that has so many tiles from the first on.
+pub fn expand(image: &[u8], node: Node, first: Tile, tiles: Tile, out: &mut [u8]) -> Answer
+    ensures { λ r. ⌜ Expand (now (image .entry)) (node .0) (first .0) (tiles .0) (now (out .entry)) (r .number) (r .length) (now (out .exit)) ⌝ }
 {
     let mut index = [0u64; index::WORDS];
     let number = lawful::verdict(image, &mut index);
@@ -143,11 +144,14 @@ pub fn expand(image: &[u8], node: Node, out: &mut [u8]) -> Answer
     if book.nodes <= node.0 as usize {
         return answers::refused(4);
     }
-    let length = tables::table_length(book.plan);
+    if !tables::part_in_range(first, tiles) {
+        return answers::refused(21);
+    }
+    let length = tables::table_length(book.plan, tiles);
     if out.len() < length {
         return answers::refused(12);
     }
-    tables::fill(image, book, node, out);
+    tables::fill(image, book, node, first, tiles, out);
     answers::done(length)
 }
 

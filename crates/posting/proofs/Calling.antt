@@ -191,11 +191,11 @@ module _ {image : List ℕ} (mains : ℕ) (rs : List Request) (index out : List 
 
 -- A LIST OF ONE, with an index of its own
 abbrev own : List ℕ
-own = replicate inner.indexLength 0
+own = replicate inner.slowPlace 0
 
-module _ {image : List ℕ} (mains : ℕ) (q : calls.Request) (out : List ℕ) (y : Answer) {buffer words : List ℕ} (h : Begun image mains 1 inner.indexLength (length out) y buffer words) where
+module _ {image : List ℕ} (mains : ℕ) (q : calls.Request) (out : List ℕ) (y : Answer) {buffer words : List ℕ} (h : Begun image mains 1 inner.slowPlace (length out) y buffer words) where
   own-says : SaysOf image (postRefusals mains 1 (length out) (length own)) (y .number)
-  own-says = subst (λ (k : ℕ). SaysOf image (postRefusals mains 1 (length out) k) (y .number)) (sym (length-replicate {A = ℕ} inner.indexLength 0)) (h .says)
+  own-says = subst (λ (k : ℕ). SaysOf image (postRefusals mains 1 (length out) k) (y .number)) (sym (length-replicate {A = ℕ} inner.slowPlace 0)) (h .says)
 
   pub one-refused : (y .number ≡ 0 → ⊥) → PostsOne image mains q out y out
   one-refused f = record {
@@ -203,7 +203,7 @@ module _ {image : List ℕ} (mains : ℕ) (q : calls.Request) (out : List ℕ) (
     answer = 0;
     index = own;
     index′ = own;
-    index-holds = length-replicate {A = ℕ} inner.indexLength 0;
+    index-holds = length-replicate {A = ℕ} inner.slowPlace 0;
     posted = record { says = own-says; refused = λ g. (record { length-is = h .refused f; buffer = refl }, refl, refl); done = λ z. absurd (f z) };
     refused = λ g. refl;
     done = λ z. absurd (f z);
@@ -242,7 +242,7 @@ module _ {image : List ℕ} (mains : ℕ) (q : calls.Request) (out : List ℕ) (
       answer = a .answer;
       index = own;
       index′ = front ++ drop (length front) own;
-      index-holds = length-replicate {A = ℕ} inner.indexLength 0;
+      index-holds = length-replicate {A = ℕ} inner.slowPlace 0;
       posted = record {
         says = subst (SaysOf image (postRefusals mains 1 (length out) (length own))) z own-says;
         refused = λ g. absurd (g refl);

@@ -11,7 +11,6 @@ use Rattle.rules.specs.Tiles.{slotsOf, shortTiles}
 use Rattle.rules.specs.Topology.{Hop}
 use Rattle.rules.specs.Book.{Book, LawfulBook}
 use Rattle.rules.specs.Index.{Marks, indexLength, IndexOf}
-use Rattle.rules.proofs.Bytes.{period-small}
 use Rattle.index.specs.Index as inner
 use Rattle.index.specs.Index.{wordAt, Ends}
 use Rattle.clash.specs.Reach.{End, nodeAt}
@@ -35,17 +34,17 @@ module _ {b : Book} (l : LawfulBook b) where
           row = m .row;
           hop = m .hop;
           active = record { row = m .row-there; hop = m .hop-there; takes = m .takes };
-          short = period-small (m .row .period) (l .rows (m .row) (m .row-there) .period);
+          short = m .short;
           at = m .is-end;
         };
-    all = λ k m. s .all k (record { row = m .row; row-there = m .active .row; hop = m .hop; hop-there = m .active .hop; takes = m .active .takes; is-end = m .at });
+    all = λ k m. s .all k (record { row = m .row; row-there = m .active .row; short = m .short; hop = m .hop; hop-there = m .active .hop; takes = m .active .takes; is-end = m .at });
   }
 
   pub index-front : {words : List ℕ} → inner.IndexOf (b .site .plan .slots) (b .rows) words → IndexOf b (take (indexLength (b .site .plan)) words)
   index-front {words} w = record {
     size = length-take-le n words (omega (arith, w .size, fits-in));
-    sending = λ slot k. alike sender slot _ (subst (SetOf _) (sym (getD-take n words (2 * slot) 0 (omega arith))) (w .sets sender slot (omega (arith, fits-in))));
-    receiving = λ slot k. alike receiver slot _ (subst (SetOf _) (sym (getD-take n words (2 * slot + 1) 0 (omega arith))) (w .sets receiver slot (omega (arith, fits-in))));
+    sending = λ slot k. alike sender slot _ (subst (SetOf _) (sym (getD-take n words (2 * slot) 0 (omega arith))) (w .sets sender slot k));
+    receiving = λ slot k. alike receiver slot _ (subst (SetOf _) (sym (getD-take n words (2 * slot + 1) 0 (omega arith))) (w .sets receiver slot k));
   }
     where
       n : ℕ

@@ -89,7 +89,7 @@ pub record PostsOne (image : List ℕ) (mains : ℕ) (q : calls.Request) (out : 
   pub answer : ℕ
   pub index : List ℕ
   pub index′ : List ℕ
-  pub index-holds : length index ≡ inner.indexLength
+  pub index-holds : length index ≡ inner.slowPlace
   pub posted : Post image mains (q ∷ []) index out (0 ∷ []) whole (r .length) index′ out′ (answer ∷ [])
   pub refused : (whole ≡ 0 → ⊥) → r .number ≡ whole
   pub done : whole ≡ 0 → r .number ≡ answer

@@ -20,6 +20,9 @@ pub const MOST: usize = 64;
 // The tiles of an index.
 const TILES: usize = 100;
 
+// The words of an index for tiles of 32 slots.
+const OWN: usize = 6400;
+
 // An array of requests has room for a list that is too long.
 pub const LISTED: usize = 100;
 
@@ -228,15 +231,7 @@ pub fn post_one(image: &[u8], mains: u64, q: Request, out: &mut [u8]) -> Answer
 {
     let mut book = [0u8; Book::LONGEST];
     let mut words = [0u64; index::WORDS];
-    let begun = begin(
-        image,
-        mains,
-        1,
-        index::WORDS,
-        out.len(),
-        &mut book,
-        &mut words,
-    );
+    let begun = begin(image, mains, 1, OWN, out.len(), &mut book, &mut words);
     if begun.number != 0 {
         return begun;
     }

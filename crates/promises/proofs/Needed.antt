@@ -3,6 +3,7 @@ use mathlib.Core.Path.{refl, sym, ap, subst}
 use mathlib.Core.Bool.{Bool}
 use Prim.Native.Nat.{ℕ}
 use lib.Dec.{T}
+use Rattle.rules.specs.Tiles.{cycleTiles}
 use Rattle.rules.specs.Topology.{nodes}
 use Rattle.rules.specs.Book.{Book, LawfulBook}
 use Rattle.rules.specs.Image.{newest, encode, Stored}
@@ -12,7 +13,7 @@ use Rattle.model.specs.Test.{same}
 use Rattle.model.specs.Table.{tableOf}
 use Rattle.model.specs.Reading.{isLawfulBook}
 use Rattle.model.proofs.Tests.{tests-same}
-use Rattle.model.proofs.Tables.{table-computed}
+use Rattle.model.proofs.Tables.{part-computed}
 use Rattle.model.proofs.Reading.{tests-book}
 use Rattle.order.proofs.Premises.{so, held}
 use Rattle.order.proofs.Examples.{unlike}
@@ -27,7 +28,7 @@ oneTable b c node = same (tableOf b node) (tableOf c node)
 alike : (b c : Book) → T (allBelow (nodes (b .site .links)) (oneTable b c)) → LookAlike b c
 alike b c h node l =
     let e = tests-all (oneTable b c) (λ node. tests-same (tableOf b node) (tableOf c node)) (nodes (b .site .links)) .yes (so h) node l in
-    (tableOf b node, table-computed b node, subst (TableOf c node) (sym e) (table-computed c node))
+    (tableOf b node, part-computed b node 0 cycleTiles, subst (TableOf c node) (sym e) (part-computed c node 0 cycleTiles))
 
 lawful : (b : Book) → T (isLawfulBook b) → LawfulBook b
 lawful b h = tests-book b .yes (so h)

@@ -10,7 +10,7 @@ use native.Mathlib.Omega.{arith}
 use lib.Dec.{eqb}
 use lib.ListN.{length, getD}
 use Rattle.rules.specs.Words.{_∈_, Tests}
-use Rattle.rules.specs.Tiles.{cycleSlots}
+use Rattle.rules.specs.Tiles.{slotsOf, cycleSlots}
 use Rattle.rules.specs.Topology.{nodes}
 use Rattle.rules.specs.Book.{Site, Row, Book, key, hops, rowHop, rowOffset, LawfulBook}
 use Rattle.rules.specs.Image.{word, wordAt}
@@ -97,11 +97,12 @@ module _ (site : Site) (xs ys : List Row) (lb : LawfulBook (on site xs)) (lc : L
       let (table, t, u) = look node k in
       let x = t .entries slot m in
       let y = u .entries slot m in
-      let v = entry-unique (on site xs) lb node slot e (x .2) in
+      let from-start : slotsOf (site .plan) 0 + slot ≡ slot = omega arith in
+      let v = entry-unique (on site xs) lb node slot e (subst (λ (i : ℕ). Entry (on site xs) node i (x .0) (x .1)) from-start (x .2)) in
       let bytes : x .0 ∷ word (x .1) ≡ y .0 ∷ word (y .1) = sym (x .3) ∙ y .3 in
       let f : x .0 ≡ y .0 = ap (λ (s : List ℕ). getD s 0 0) bytes in
       let g : x .1 ≡ y .1 = sym (div-add-mod' (x .1) 256) ∙ ap (λ (s : List ℕ). wordAt s 1) bytes ∙ div-add-mod' (y .1) 256 in
-      subst₂ (Entry (on site ys) node slot) (sym (v .0 ∙ f)) (sym (v .1 ∙ g)) (y .2)
+      subst₂ (Entry (on site ys) node slot) (sym (v .0 ∙ f)) (sym (v .1 ∙ g)) (subst (λ (i : ℕ). Entry (on site ys) node i (y .0) (y .1)) from-start (y .2))
 
   -- a row of the other book that does the same, of the same id and way
   record Found (node slot : ℕ) (r : Row) (o : ℕ) : Type 0 where

@@ -1,11 +1,13 @@
 -- Two books never look alike on the air: what the nodes do tells what was sold.
 use mathlib.Core.Path.{_≡_}
-use mathlib.Core.List.{List}
-use Prim.Native.Nat.{ℕ, _<_}
+use mathlib.Core.Logic.{_↔_}
+use mathlib.Core.List.{List, [], _++_}
+use Prim.Native.Nat.{ℕ, _+_, _<_}
 use lib.ListN.{take}
+use Rattle.rules.specs.Tiles.{cycleTiles}
 use Rattle.rules.specs.Topology.{nodes}
 use Rattle.rules.specs.Book.{Book, LawfulBook}
-use Rattle.rules.specs.Image.{versionOf, planOf, nodesOf, linksOf, hearingOf}
+use Rattle.rules.specs.Image.{versionOf, planOf, nodesOf, linksOf, hearingOf, Stored}
 use Rattle.rules.specs.Table.{TableOf}
 use Rattle.rules.specs.Calls.{Check, Expand}
 
@@ -19,21 +21,31 @@ LookAlike b c = (node : ℕ) → node < nodes (b .site .links) → (table : List
 abbrev pub NeverAlike : Type 0
 NeverAlike = (b c : Book) → LawfulBook b → LawfulBook c → b .site ≡ c .site → LookAlike b c → b ≡ c
 
--- OVER THE CALLS
+-- OVER THE CALLS: a node's table as expand gives it, part by part
 
--- an expand of the node that is done gives these bytes
-pub record Expands (image : List ℕ) (node : ℕ) (bytes : List ℕ) : Type 0 where
+-- an expand of the node that is done gives these bytes for so many tiles from the first on
+pub record Expands (image : List ℕ) (node first tiles : ℕ) (bytes : List ℕ) : Type 0 where
   pub out : List ℕ
   pub len : ℕ
   pub out′ : List ℕ
-  pub call : Expand image node out 0 len out′
+  pub call : Expand image node first tiles out 0 len out′
   pub given : take len out′ ≡ bytes
 
--- a check accepts both images, and at every node expand gives the same bytes
+-- one expand after the other, from a tile to the end of the cycle, gives these bytes joined
+pub data Joined (image : List ℕ) (node : ℕ) : ℕ → List ℕ → Type 0 where
+  end : Joined image node cycleTiles []
+  part : {first tiles : ℕ} {bytes rest : List ℕ} → Expands image node first tiles bytes → Joined image node (first + tiles) rest → Joined image node first (bytes ++ rest)
+
+-- joined parts are the whole: the table of the book that the image holds, and that table is to be had in parts
+abbrev pub JoinedIsWhole : Type 0
+JoinedIsWhole =
+    (image : List ℕ) (v : ℕ) (b : Book) (node : ℕ) (table : List ℕ) → Stored image v b → node < nodes (b .site .links) → Joined image node 0 table ↔ TableOf b node table
+
+-- a check accepts both images, and at every node the parts that expand gives are the same bytes joined
 pub record ExpandAlike (s t : List ℕ) : Type 0 where
   pub one : Check s 0 0
   pub other : Check t 0 0
-  pub same : (node : ℕ) → node < nodesOf s → (bytes : List ℕ) × Expands s node bytes × Expands t node bytes
+  pub same : (node : ℕ) → node < nodesOf s → (table : List ℕ) × Joined s node 0 table × Joined t node 0 table
 
 -- such images of one version, plan and topologies are the same bytes
 abbrev pub ImagesNeverAlike : Type 0

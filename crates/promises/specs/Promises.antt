@@ -23,7 +23,7 @@ ReadsExactly =
     ((image : List ℕ) (number len : ℕ) → Check image number len → (number ≡ 0) ↔ ((v : ℕ) × (b : Book) × Stored image v b))
     × ((image : List ℕ) (v w : ℕ) (b c : Book) → Stored image v b → Stored image w c → (v ≡ w) × (b ≡ c))
 
--- a rewrite gives the same bytes, in either version
+-- a rewrite gives the same bytes, in every version
 abbrev pub RewritesTheSame : Type 0
 RewritesTheSame = (image out : List ℕ) (len : ℕ) (out′ : List ℕ) → Rewrite image out 0 len out′ → take len out′ ≡ image
 

@@ -13,7 +13,7 @@ use Rattle.rules.specs.Image.{RowFits, rowLength, inTurn, encodeRow, versionOf,
 use Rattle.rules.proofs.Tests.{alike}
 use Rattle.rules.proofs.Encoding.{hopsIn, lawful-sized, length-rows}
 use Rattle.rules.proofs.Written.{Bytes}
-use Rattle.rules.proofs.Fronts.{bytes-drop, front-count, front-fits, front-written}
+use Rattle.rules.proofs.Fronts.{bytes-drop, front-count, front-written}
 use Rattle.rules.proofs.Reading.{rowsIn}
 use Rattle.image.specs.Places.{rowAt, nextAt, rowsFrom, Whole}
 use Rattle.image.proofs.Places.{rows-in, length-rows-from}
@@ -34,11 +34,11 @@ row-written s at b w =
 
 -- FROM THE WALK TO THE ROWS
 module _ (s : List ℕ) where
-  rows-fit : (n at : ℕ) (r : Row) → r ∈ rowsFrom s n at → RowFits (versionOf s) r
-  unfolding rowAt
-  rows-fit zero at r m = absurd m
-  rows-fit (suc n) at r (inl e) = subst (RowFits (versionOf s)) (sym e) (front-fits (versionOf s) (drop at s))
-  rows-fit (suc n) at r (inr m) = rows-fit n (nextAt s at) r m
+  fill-fit : (n before last at : ℕ) → RowsFill s n before last at → (r : Row) → r ∈ rowsFrom s n at → RowFits (versionOf s) r
+  unfolding RowsFill
+  fill-fit zero before last at h r m = absurd m
+  fill-fit (suc n) before last at h r (inl e) = subst (RowFits (versionOf s)) (sym e) (h .0 .fits)
+  fill-fit (suc n) before last at h r (inr m) = fill-fit n at (key (rowAt s at)) (nextAt s at) (h .2) r m
 
   fill-lawful : (n before last at : ℕ) → RowsFill s n before last at → (r : Row) → r ∈ rowsFrom s n at → LawfulRow (siteOf s) r
   unfolding RowsFill
@@ -124,7 +124,7 @@ module _ (s : List ℕ) where
       let t = inTurn (encodeRow (versionOf s)) rows in
       let q : r ≡ rowAt s at = sym (read-row s at r t u f e) in
       let v = whole-row s at r t u f e in (
-        record { whole = v; lawful = subst (LawfulRow (siteOf s)) q law },
+        record { whole = v; lawful = subst (LawfulRow (siteOf s)) q law; fits = subst (RowFits (versionOf s)) q f },
         record {
           higher = subst (λ (x : Row). last < key x) q (w .above r (inl refl));
           second = subst (λ (x : Row). x .way ≡ 2 → (1 ≤ last) × Pair (rowAt s before) x) q (right-before r w);
@@ -154,7 +154,7 @@ module _ (s : List ℕ) where
     fill-all b h = subst (RowsOf s) (sym (rows-in s)) (record {
       count = length-rows-from s (streamsOf s) (rowsPlace s);
       lawful = lawful;
-      fits = rows-fit (streamsOf s) (rowsPlace s);
+      fits = fill-fit (streamsOf s) (rowsPlace s) 0 (rowsPlace s) h;
       rising = fill-rising (streamsOf s) (rowsPlace s) 0 (rowsPlace s) h;
       paired = fill-paired rows (streamsOf s) (rowsPlace s) 0 (rowsPlace s) (λ l. absurd (omega arith)) (λ r m. m) h;
       hops = omega (

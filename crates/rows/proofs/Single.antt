@@ -1,17 +1,26 @@
 -- One row tested, part by part.
-use mathlib.Core.Path.{_≡_, sym, subst}
-use mathlib.Core.Bool.{Bool}
-use Prim.Native.Nat.{ℕ, _≤_}
+use mathlib.Core.Path.{_≡_, sym, _∙_, subst}
+use mathlib.Core.Logic.{_⊎_, inl, inr}
+use mathlib.Core.Bool.{Bool, true, false}
+use mathlib.Core.List.{List}
+use Prim.Native.Nat.{ℕ, _<_, _≤_}
 use native.Mathlib.Omega.{arith}
 use lib.Dec.{leb}
+use lib.ListN.{drop}
 use Rattle.rules.specs.Words.{Tests, TwoBytes}
-use Rattle.rules.specs.Tiles.{Plan, Period, periodAt}
+use Rattle.rules.specs.Tiles.{Plan, shortTiles, Period, ShortPeriod, periodAt}
 use Rattle.rules.specs.Topology.{Topology}
 use Rattle.rules.specs.Book.{Site, Row, LawfulRow}
-use Rattle.rules.specs.Periods.{InList}
-use Rattle.rules.proofs.Tests.{alike, tests-le}
-use Rattle.rules.proofs.Periods.{at-period}
-use Rattle.rows.specs.Walk.{KeyHolds, OffsetsHold, RouteHolds, judging}
+use Rattle.rules.specs.Periods.{PlaceOf}
+use Rattle.rules.specs.Image.{hasWide, RowFits, versionOf}
+use Rattle.rules.specs.declared.Place.{Place}
+use Rattle.rules.specs.declared.Place.the-variants.{At, Nowhere}
+use Rattle.rules.proofs.Tests.{never, alike, tests-le}
+use Rattle.rules.proofs.Bytes.{short-small}
+use Rattle.rules.proofs.Fronts.{front-fits}
+use Rattle.rules.proofs.Periods.{at-period, short-period}
+use Rattle.image.specs.Places.{rowAt}
+use Rattle.rows.specs.Walk.{KeyHolds, OffsetsHold, RouteHolds, PlaceHeld, RowHolds, judging}
 
 -- where all else holds the most that the way may be decides
 pub tests-key-rest : {r : Row} {way : ℕ} → 1 ≤ r .id → TwoBytes (r .id) → way ≡ r .way → 1 ≤ way → Tests (leb way 2) (KeyHolds r)
@@ -21,24 +30,59 @@ tests-key-rest {r} {way} some most e first =
 pub lawful-key : {site : Site} {r : Row} → LawfulRow site r → KeyHolds r
 lawful-key w = record { id-some = w .id-some; id-most = w .id-most; way-some = w .way-some; way-most = w .way-most }
 
-module _ {plan : Plan} {links : Topology} {r : Row} where
-  module _ {i : ℕ} (place : InList i × (periodAt i ≡ r .period)) where
-    lawful-offsets : LawfulRow (judging plan links) r → OffsetsHold plan (periodAt i) r
-    lawful-offsets w = subst (λ (K : ℕ). OffsetsHold plan K r) (sym (place .1)) (record { offsets = w .offsets; on-data = w .on-data })
+-- THE PERIOD
 
-    -- where all else holds the offsets decide
-    pub tests-row-rest : {t : Bool} → KeyHolds r → RouteHolds links r → Tests t (OffsetsHold plan (periodAt i) r) → Tests t (LawfulRow (judging plan links) r)
-    tests-row-rest named route t =
-        alike t
-        (λ h. let g = subst (λ (K : ℕ). OffsetsHold plan K r) (place .1) h in record {
-          id-some = named .id-some;
-          id-most = named .id-most;
-          way-some = named .way-some;
-          way-most = named .way-most;
-          period = subst Period (place .1) (at-period i (place .0));
-          route = route .route;
-          route-most = route .most;
-          offsets = g .offsets;
-          on-data = g .on-data;
-        })
-        lawful-offsets
+-- a period of over 100 tiles is held in two bytes alone
+pub not-held : (v K n : ℕ) → n ≡ K → shortTiles < n → hasWide v ≡ false → PlaceHeld v K Nowhere
+not-held v K n e l w p f = absurd (omega (arith, e, l, short-small K (f w)))
+
+-- any other period at its place among the ten
+pub place-is-held : (v K n : ℕ) (p : Place) → n ≡ K → (hasWide v ≡ true) ⊎ (n ≤ shortTiles) → PlaceOf n p → PlaceHeld v K p
+place-is-held v K n (At i) e f h = (h .0, h .1 ∙ e, short f)
+  where
+    short : (hasWide v ≡ true) ⊎ (n ≤ shortTiles) → hasWide v ≡ false → ShortPeriod K
+    short (inl w) t = never (sym t ∙ w)
+    short (inr l) t = subst ShortPeriod e (short-period n (subst Period (h .1) (at-period i (h .0))) l)
+place-is-held v K n Nowhere e f h = λ p g. h (subst Period (sym e) p)
+
+-- THE REST
+module _ (s : List ℕ) (at : ℕ) {i : ℕ} (place : PlaceHeld (versionOf s) (rowAt s at .period) (At i)) where
+  abbrev r : Row
+  r = rowAt s at
+
+  fits : RowFits (versionOf s) r
+  unfolding rowAt
+  fits = front-fits (versionOf s) (drop at s) (place .2)
+
+  lawful-offsets : {plan : Plan} {links : Topology} → LawfulRow (judging plan links) r → OffsetsHold plan (periodAt i) r
+  lawful-offsets {plan} w = subst (λ (K : ℕ). OffsetsHold plan K r) (sym (place .1)) (record { offsets = w .offsets; on-data = w .on-data })
+
+  -- where all else holds the offsets decide
+  pub tests-row-rest : {plan : Plan} {links : Topology} {t : Bool} → KeyHolds r → RouteHolds links r → Tests t (OffsetsHold plan (periodAt i) r)
+      → Tests t (RowHolds (versionOf s) (judging plan links) r)
+  tests-row-rest {plan} {links} named route t = alike t holds (λ w. lawful-offsets (w .lawful))
+    where
+      holds : OffsetsHold plan (periodAt i) r → RowHolds (versionOf s) (judging plan links) r
+      holds h =
+          let g = subst (λ (K : ℕ). OffsetsHold plan K r) (place .1) h in
+          record {
+            lawful = record {
+              id-some = named .id-some;
+              id-most = named .id-most;
+              way-some = named .way-some;
+              way-most = named .way-most;
+              period = subst Period (place .1) (at-period i (place .0));
+              route = route .route;
+              route-most = route .most;
+              offsets = g .offsets;
+              on-data = g .on-data;
+            };
+            fits = fits;
+          }
+
+-- where the place of its period was found, and where it was not
+pub held-at : (v K : ℕ) {p : Place} {i : ℕ} → PlaceHeld v K p → p ≡ At i → PlaceHeld v K (At i)
+held-at v K h e = subst (PlaceHeld v K) e h
+
+pub held-nowhere : (v K : ℕ) {p : Place} → PlaceHeld v K p → p ≡ Nowhere → PlaceHeld v K Nowhere
+held-nowhere v K h e = subst (PlaceHeld v K) e h

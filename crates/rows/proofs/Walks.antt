@@ -22,7 +22,7 @@ use Rattle.image.specs.Header.{HeaderOf}
 use Rattle.image.specs.declared.Book.{Book}
 use Rattle.image.proofs.Hops.{node-known}
 use Rattle.rows.specs.Frame.{Framed, ReadFrom}
-use Rattle.rows.specs.Walk.{RowStands, judging}
+use Rattle.rows.specs.Walk.{RowHolds, RowStands, judging}
 use Rattle.rows.specs.Pairs.{Follows}
 
 -- a row is judged by the plan and the links alone
@@ -57,13 +57,14 @@ module _ {s : List ℕ} {b : Book} {links : List ℕ} (o : ReadFrom s b links) w
   pub row-read : {r : Row} → LawfulRow (judging (thePlan (b .plan)) (topology links)) r → LawfulRow (siteOf s) r
   row-read w = same-site (o .header .plan) topology-read w
 
-  pub row-by-read : {r : Row} → LawfulRow (siteOf s) r → LawfulRow (judging (thePlan (b .plan)) (topology links)) r
-  row-by-read w = same-site (sym (o .header .plan)) (sym topology-read) w
+  -- and one that stands in it is so by what was read
+  pub row-by-read : {at : ℕ} → RowStands s at → RowHolds (versionOf s) (judging (thePlan (b .plan)) (topology links)) (rowAt s at)
+  row-by-read w = record { lawful = same-site (sym (o .header .plan)) (sym topology-read) (w .lawful); fits = w .fits }
 
   -- a row stands where one was tested and held
   pub row-tested : {at : ℕ} {t u : Bool} → Tests t (Whole s at) → not t ≡ false
-      → Tests u (LawfulRow (judging (thePlan (b .plan)) (topology links)) (rowAt s at)) → not u ≡ false → RowStands s at
-  row-tested {t = t} {u} whole e lawful f = record { whole = whole .yes (not-false t e); lawful = row-read (lawful .yes (not-false u f)) }
+      → Tests u (RowHolds (versionOf s) (judging (thePlan (b .plan)) (topology links)) (rowAt s at)) → not u ≡ false → RowStands s at
+  row-tested {t = t} {u} whole e holds f = let h = holds .yes (not-false u f) in record { whole = whole .yes (not-false t e); lawful = row-read (h .lawful); fits = h .fits }
 
 -- the links, once they are decoded
 pub links-read : {s : List ℕ} {b : Book} {all : List ℕ} → Framed s → HeaderOf s b → Sets s (linksStart (versionOf s)) (b .nodes) all → ReadFrom s b (take (b .nodes) all)

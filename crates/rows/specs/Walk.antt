@@ -1,11 +1,16 @@
 -- Rows that stand one after the other in an image.
+use mathlib.Core.Path.{_≡_}
+use mathlib.Core.Bool.{false}
 use mathlib.Core.List.{List}
 use Prim.Native.Nat.{ℕ, zero, suc, _≤_}
 use Rattle.rules.specs.Words.{TwoBytes, _∈_}
-use Rattle.rules.specs.Tiles.{Plan}
+use Rattle.rules.specs.Tiles.{Plan, periodAt, Period, ShortPeriod}
 use Rattle.rules.specs.Topology.{Topology, Path, mostRouteHops}
 use Rattle.rules.specs.Book.{Site, Row, hops, Offsets, OnData, LawfulRow}
-use Rattle.rules.specs.Image.{siteOf}
+use Rattle.rules.specs.Periods.{InList}
+use Rattle.rules.specs.Image.{hasWide, RowFits, versionOf, siteOf}
+use Rattle.rules.specs.declared.Place.{Place}
+use Rattle.rules.specs.declared.Place.the-variants.{At, Nowhere}
 use Rattle.image.specs.Places.{rowAt, nextAt, Whole}
 
 -- it has an id of 2 bytes, and its way is 1 or 2
@@ -29,10 +34,21 @@ pub record OffsetsHold (plan : Plan) (K : ℕ) (r : Row) : Type 0 where
 abbrev pub judging : Plan → Topology → Site
 judging plan links = record { plan = plan; links = links; hearing = links }
 
--- a whole lawful row is at the place
+-- the place of K among the periods that the version holds, or that it is none of them
+abbrev pub PlaceHeld : ℕ → ℕ → Place → Type 0
+PlaceHeld v K (At i) = InList i × (periodAt i ≡ K) × (hasWide v ≡ false → ShortPeriod K)
+PlaceHeld v K Nowhere = Period K → (hasWide v ≡ false → ShortPeriod K) → ⊥
+
+-- the row is lawful on the site, and the version holds it
+pub record RowHolds (v : ℕ) (site : Site) (r : Row) : Type 0 where
+  pub lawful : LawfulRow site r
+  pub fits : RowFits v r
+
+-- a whole lawful row that the version holds is at the place
 pub record RowStands (s : List ℕ) (at : ℕ) : Type 0 where
   pub whole : Whole s at
   pub lawful : LawfulRow (siteOf s) (rowAt s at)
+  pub fits : RowFits (versionOf s) (rowAt s at)
 
 -- n lawful rows stand from the place on
 unfoldable pub RowsStand : List ℕ → ℕ → ℕ → Type 0

@@ -4,14 +4,14 @@ ghost use Prim.Native.Nat.{_≤_};
 ghost use lib.ListN.{length};
 ghost use Rattle.rules.specs.Words.{Tests};
 ghost use Rattle.rules.specs.Tiles.{periodAt, PlanInRange};
-ghost use Rattle.rules.specs.Book.{key, LawfulRow};
+ghost use Rattle.rules.specs.Book.{key};
 ghost use Rattle.rules.specs.Periods.{thePlan, InList};
-ghost use Rattle.rules.specs.Image.{RowsOf};
+ghost use Rattle.rules.specs.Image.{versionOf, RowsOf};
 ghost use Rattle.rules.proofs.Reading.{rowsIn};
 ghost use Rattle.image.specs.Places.{rowAt, Whole};
 ghost use Rattle.bitset.specs.Rows.{topology};
 ghost use Rattle.rows.specs.Frame.{Framed, ReadFrom};
-ghost use Rattle.rows.specs.Walk.{KeyHolds, RouteHolds, OffsetsHold, judging, RowStands};
+ghost use Rattle.rows.specs.Walk.{KeyHolds, RouteHolds, OffsetsHold, judging, PlaceHeld, RowHolds, RowStands};
 ghost use Rattle.rows.specs.Pairs.{Follows};
 use image::Book;
 use pair::FIRST;
@@ -89,15 +89,29 @@ fn offsets_hold(image: &[u8], at: usize, plan: Plan, period: usize) -> bool
     true
 }
 
-// Whether the row at the place is lawful.
+// Where the row's period stands among those that its version holds: in one byte, those up to 100 tiles.
+fn place_held(image: &[u8], at: usize) -> Place
+    requires { ⌜ Whole (now image) at ⌝ }
+    ensures { λ r. ⌜ PlaceHeld (versionOf (now (image .entry))) (rowAt (now (image .entry)) at .period) r ⌝ }
+{
+    let period = image::period_at(image, at);
+    if rules::SHORT < period.0 {
+        if !image::is_wide(image) {
+            return Place::Nowhere;
+        }
+    }
+    rules::place_of(period)
+}
+
+// Whether the row at the place is lawful, and one that its version holds.
 pub fn row_holds(image: &[u8], at: usize, plan: Plan, links: &[u64]) -> bool
     requires { ⌜ Whole (now image) at × PlanInRange (thePlan plan) × (length (now links) ≤ 64) ⌝ }
-    ensures { λ r. ⌜ Tests r (LawfulRow (judging (thePlan plan) (topology (now (links .entry)))) (rowAt (now (image .entry)) at)) ⌝ }
+    ensures { λ r. ⌜ Tests r (RowHolds (versionOf (now (image .entry))) (judging (thePlan plan) (topology (now (links .entry)))) (rowAt (now (image .entry)) at)) ⌝ }
 {
     if !key_holds(image, at) {
         return false;
     }
-    match rules::place_of(image::period_at(image, at)) {
+    match place_held(image, at) {
         Place::At(period) => {
             route_holds(image, at, links) && offsets_hold(image, at, plan, period)
         }

@@ -7,8 +7,9 @@ use native.Mathlib.Omega.{arith}
 use lib.Arith.{digits-div, digits-mod}
 use lib.ListN.{length, getD, take, drop, take-append-drop, length-take, length-drop}
 use lib.Seq.{getD-take, getD-drop, drop-drop}
+use Rattle.rules.specs.Tiles.{ShortPeriod}
 use Rattle.rules.specs.Book.{Row, hops, rowOffset}
-use Rattle.rules.specs.Image.{hasWays, RowFits, periodPlace, hopsPlace, rowLength, word, inTurn, held, encodeRow, wordAt}
+use Rattle.rules.specs.Image.{hasWays, hasWide, RowFits, periodPlace, hopsPlace, rowLength, word, inTurn, held, encodePeriod, encodeRow, wordAt}
 use Rattle.rules.proofs.Tests.{never}
 use Rattle.rules.proofs.Encoding.{wordsAt, hopsIn, bodyIn, frontRow, Sized}
 use Rattle.rules.proofs.Written.{Bytes}
@@ -52,8 +53,8 @@ module _ (v : ℕ) (s : List ℕ) (at : ℕ) where
   pub front-way : frontRow v (drop at s) .way ≡ cond (hasWays v) (getD s (at + 2) 0) 1
   front-way = ap (λ (n : ℕ). cond (hasWays v) n 1) (getD-drop at s 2 0)
 
-  pub front-period : frontRow v (drop at s) .period ≡ getD s (at + periodPlace v) 0
-  front-period = getD-drop at s (periodPlace v) 0
+  pub front-period : frontRow v (drop at s) .period ≡ cond (hasWide v) (wordAt s (at + periodPlace v)) (getD s (at + periodPlace v) 0)
+  front-period = ap₂ (cond (hasWide v)) (word-drop at s (periodPlace v) (at + periodPlace v) refl) (getD-drop at s (periodPlace v) 0)
 
   pub front-count : hopsIn v (drop at s) ≡ getD s (at + hopsPlace v) 0
   front-count = getD-drop at s (hopsPlace v) 0
@@ -88,24 +89,33 @@ module _ (v : ℕ) (s : List ℕ) (at : ℕ) where
       offsets = length-words-at (hopsIn v (drop at s)) (drop (hopsIn v (drop at s) + 1) (bodyIn v (drop at s))) ∙ front-count ∙ sym front-hops;
     }
 
--- the version holds what it reads
-pub front-fits : (v : ℕ) (s : List ℕ) → RowFits v (frontRow v s)
-front-fits v s = record { one-way = one (hasWays v) }
+-- the version holds what it reads, if it holds the period
+pub front-fits : (v : ℕ) (s : List ℕ) → (hasWide v ≡ false → ShortPeriod (frontRow v s .period)) → RowFits v (frontRow v s)
+front-fits v s f = record { one-way = one (hasWays v); short = f }
   where
     one : (t : Bool) → t ≡ false → cond t (getD s 2 0) 1 ≡ 1
     one true e = never (sym e)
     one false e = refl
 
 -- WHAT IS READ IS WRITTEN AGAIN
-head-written : (t : Bool) (s : List ℕ) → Bytes s → 2 + cond t 1 0 + 2 ≤ length s
-    → s ≡ word (wordAt s 0) ++ held t (cond t (getD s 2 0) 1 ∷ []) ++ (getD s (2 + cond t 1 0) 0 ∷ getD s (2 + cond t 1 0 + 1) 0 ∷ []) ++ drop (2 + cond t 1 0 + 1 + 1) s
-head-written t [] b l = absurd (omega arith)
-head-written t (x ∷ []) b l = absurd (omega arith)
-head-written t (x ∷ y ∷ []) b l = absurd (omega arith)
-head-written t (x ∷ y ∷ z ∷ []) b l = absurd (omega arith)
-head-written true (x ∷ y ∷ w ∷ k ∷ []) b l = absurd (omega arith)
-head-written true (x ∷ y ∷ w ∷ k ∷ h ∷ s) b l = λ i. sym (digits-div x (b 1)) i ∷ sym (digits-mod x (b 1)) i ∷ w ∷ k ∷ h ∷ s
-head-written false (x ∷ y ∷ k ∷ h ∷ s) b l = λ i. sym (digits-div x (b 1)) i ∷ sym (digits-mod x (b 1)) i ∷ k ∷ h ∷ s
+head-written : (t w : Bool) (s : List ℕ) → Bytes s → 2 + cond t 1 0 + 1 + cond w 1 0 + 1 ≤ length s
+    → s
+    ≡ word (wordAt s 0) ++ held t (cond t (getD s 2 0) 1 ∷ []) ++ encodePeriod w (cond w (wordAt s (2 + cond t 1 0)) (getD s (2 + cond t 1 0) 0))
+    ++ (getD s (2 + cond t 1 0 + 1 + cond w 1 0) 0 ∷ []) ++ drop (2 + cond t 1 0 + 1 + cond w 1 0 + 1) s
+head-written t w [] b l = absurd (omega arith)
+head-written t w (x ∷ []) b l = absurd (omega arith)
+head-written t w (x ∷ y ∷ []) b l = absurd (omega arith)
+head-written t w (x ∷ y ∷ z ∷ []) b l = absurd (omega arith)
+head-written true true (x ∷ y ∷ w ∷ k ∷ []) b l = absurd (omega arith)
+head-written true true (x ∷ y ∷ w ∷ k ∷ m ∷ []) b l = absurd (omega arith)
+head-written true true (x ∷ y ∷ w ∷ k ∷ m ∷ h ∷ s) b l =
+    λ i. sym (digits-div x (b 1)) i ∷ sym (digits-mod x (b 1)) i ∷ w ∷ sym (digits-div k (b 4)) i ∷ sym (digits-mod k (b 4)) i ∷ h ∷ s
+head-written true false (x ∷ y ∷ w ∷ k ∷ []) b l = absurd (omega arith)
+head-written true false (x ∷ y ∷ w ∷ k ∷ h ∷ s) b l = λ i. sym (digits-div x (b 1)) i ∷ sym (digits-mod x (b 1)) i ∷ w ∷ k ∷ h ∷ s
+head-written false true (x ∷ y ∷ k ∷ m ∷ []) b l = absurd (omega arith)
+head-written false true (x ∷ y ∷ k ∷ m ∷ h ∷ s) b l =
+    λ i. sym (digits-div x (b 1)) i ∷ sym (digits-mod x (b 1)) i ∷ sym (digits-div k (b 3)) i ∷ sym (digits-mod k (b 3)) i ∷ h ∷ s
+head-written false false (x ∷ y ∷ k ∷ h ∷ s) b l = λ i. sym (digits-div x (b 1)) i ∷ sym (digits-mod x (b 1)) i ∷ k ∷ h ∷ s
 
 module _ (v : ℕ) (s : List ℕ) (b : Bytes s) (l : rowLength v + 3 * hopsIn v s ≤ length s) where
   body-written : bodyIn v s ≡ frontRow v s .route ++ (inTurn word (frontRow v s .offsets) ++ drop (rowLength v + 3 * hopsIn v s) s)
@@ -125,6 +135,6 @@ module _ (v : ℕ) (s : List ℕ) (b : Bytes s) (l : rowLength v + 3 * hopsIn v 
   front-written =
       let r : Row = frontRow v s in
       let count : hopsIn v s ≡ hops r = simp (length-take, length-drop) (omega (arith, l)) in
-      head-written (hasWays v) s b (omega (arith, l))
-      ∙ ap₂ (λ (n : ℕ) (x : List ℕ). word (r .id) ++ held (hasWays v) (r .way ∷ []) ++ (r .period ∷ n ∷ []) ++ x) count body-written
+      head-written (hasWays v) (hasWide v) s b (omega (arith, l))
+      ∙ ap₂ (λ (n : ℕ) (x : List ℕ). word (r .id) ++ held (hasWays v) (r .way ∷ []) ++ encodePeriod (hasWide v) (r .period) ++ (n ∷ []) ++ x) count body-written
       ∙ simp append-assoc

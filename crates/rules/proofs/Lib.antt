@@ -20,6 +20,7 @@ pub mod Meeting
 pub mod Periods
 pub mod Plans
 pub mod Bytes
+pub mod Cycle
 pub mod Greedy
 pub mod Clashes
 pub mod Numbers

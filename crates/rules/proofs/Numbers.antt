@@ -21,7 +21,7 @@ pub record Ordered : Type 0 where
   pub opens : (mains : ℕ) (q : Asked) (b : Book) → numbers (openRefusals mains q b) ≡ 1 ∷ 4 ∷ 5 ∷ 6 ∷ 2 ∷ 7 ∷ 17 ∷ 18 ∷ 8 ∷ 9 ∷ []
   pub closes : (id : ℕ) (b : Book) → numbers (closeRefusals id b) ≡ 1 ∷ 3 ∷ []
   pub rewrites : (room v : ℕ) (b : Book) → numbers (rewriteRefusals room v b) ≡ 12 ∷ []
-  pub expands : (node room v : ℕ) (b : Book) → numbers (expandRefusals node room v b) ≡ 4 ∷ 12 ∷ []
+  pub expands : (node first tiles room v : ℕ) (b : Book) → numbers (expandRefusals node first tiles room v b) ≡ 4 ∷ 21 ∷ 12 ∷ []
   pub balances : (node v : ℕ) (b : Book) → numbers (balanceRefusals node v b) ≡ 4 ∷ []
   pub lists : (mains source destination room v : ℕ) (b : Book) → numbers (routesRefusals mains source destination room v b) ≡ 25 ∷ 4 ∷ 5 ∷ 12 ∷ []
   pub keeps : (mains v : ℕ) (b : Book) → numbers (keepsRefusals mains v b) ≡ 25 ∷ []
@@ -35,7 +35,7 @@ ordered = record {
   opens = λ mains q b. refl;
   closes = λ id b. refl;
   rewrites = λ room v b. refl;
-  expands = λ node room v b. refl;
+  expands = λ node first tiles room v b. refl;
   balances = λ node v b. refl;
   lists = λ mains source destination room v b. refl;
   keeps = λ mains v b. refl;

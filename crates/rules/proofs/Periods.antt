@@ -1,20 +1,22 @@
 -- The tables of periods and repeats say what the rules mean.
-use mathlib.Core.Path.{_≡_, sym, subst}
-use mathlib.Core.Logic.{inl, inr}
+use mathlib.Core.Path.{_≡_, sym, ap, subst}
+use mathlib.Core.Logic.{_⊎_, inl, inr}
 use mathlib.Core.Bool.{Bool}
-use mathlib.Core.List.{List, [], _∷_}
-use Prim.Native.Nat.{ℕ, zero, suc, _*_, _<_, _≤_}
+use mathlib.Core.List.{List}
+use Prim.Native.Nat.{ℕ, suc, _+_, _*_, _<_, _≤_}
 use native.Mathlib.Omega.{arith}
-use native.Mathlib.Nat.{mul-le-mul}
+use native.Mathlib.Nat.{mul-le-mul, le-refl}
 use lib.Dec.{T, eqb, leb, eqb→eq, leb→le}
 use lib.ListN.{length, getD}
 use Rattle.rules.specs.Words.{_∈_}
-use Rattle.rules.specs.Tiles.{periods, periodAt, Period, repeats, cycleTiles}
+use Rattle.rules.specs.Tiles.{periods, shortPeriods, slowPeriods, periodAt, Period, ShortPeriod, repeats, cycleTiles, shortTiles}
 use Rattle.rules.specs.Periods.{InList, PlaceOf}
 use Rattle.rules.specs.declared.Place.{Place}
 use Rattle.rules.specs.declared.Place.the-variants.{At, Nowhere}
 use Rattle.rules.proofs.Every.{both, both-left, both-right, every, at}
-use Rattle.rules.proofs.Meeting.{in-at}
+use Rattle.rules.proofs.Lists.{at-in, in-append, in-left}
+use Rattle.rules.proofs.Bytes.{period-small}
+use Rattle.rules.proofs.Meeting.{in-at, member, cycle-period}
 
 -- REPEATS
 unfoldable pub repeatsRight : ℕ → ℕ → Bool
@@ -31,29 +33,38 @@ count-at counts t i h =
     (eqb→eq _ _ (both-left (eqb (getD counts i 0) (repeats (periodAt i))) _ here), leb→le _ _ (both-right (eqb (getD counts i 0) (repeats (periodAt i))) _ here))
 
 -- PERIODS
-periodMost : ℕ → ℕ → Bool
-periodMost i K = leb K cycleTiles
+-- of the ten, those up to 100 tiles are the seven
+pub short-period : (K : ℕ) → Period K → K ≤ shortTiles → ShortPeriod K
+short-period K h l = go (in-append K shortPeriods slowPeriods h)
+  where
+    go : ShortPeriod K ⊎ (K ∈ slowPeriods) → ShortPeriod K
+    go (inl m) = m
+    go (inr m) = absurd (omega (arith, leb→le (suc shortTiles) K (member (λ (x : ℕ). leb (suc shortTiles) x) slowPeriods tt K m)))
 
-pub period-most : (i : ℕ) → InList i → periodAt i ≤ cycleTiles
-unfolding periodMost
-period-most i h = leb→le _ _ (at periodMost 0 periods tt i h)
+pub period-short : (K : ℕ) → ShortPeriod K → Period K
+period-short K h = in-left K shortPeriods slowPeriods h
 
--- a period that stands at none of the places is none of the seven
+-- a period that stands at none of the places is none of the ten
 pub nowhere : (K : ℕ) → ((i : ℕ) → InList i → periodAt i ≡ K → ⊥) → Period K → ⊥
 nowhere K f h = let p = in-at K periods h in f (p .0) (p .1) (sym (p .2))
 
 -- and one that stands at a place is
 pub at-period : (i : ℕ) → InList i → Period (periodAt i)
-at-period i h = within periods i h
-  where
-    within : (xs : List ℕ) (i : ℕ) → i < length xs → getD xs i 0 ∈ xs
-    within [] i l = absurd (omega arith)
-    within (x ∷ xs) zero l = inl (λ k. x)
-    within (x ∷ xs) (suc i) l = inr (within xs i (omega arith))
+at-period i h = at-in periods i h
+
+pub period-most : (i : ℕ) → InList i → periodAt i ≤ cycleTiles
+period-most i h = period-small (periodAt i) (at-period i h)
 
 -- the slots of a period fit two bytes
 pub span-fits : (S K : ℕ) → S ≤ 32 → K ≤ cycleTiles → K * S ≤ cycleTiles * 32
 span-fits S K h k = mul-le-mul k h
+
+-- and so does each slot that a hop takes: it is one of the cycle
+pub turn-within : (S K o turn : ℕ) → Period K → o < K * S → turn < repeats K → o + turn * (K * S) < cycleTiles * S
+turn-within S K o turn p l t =
+    let e : repeats K * (K * S) ≡ cycleTiles * S = omega (arith, ap (λ (x : ℕ). x * S) (cycle-period K p)) in
+    let f : (turn + 1) * (K * S) ≤ repeats K * (K * S) = mul-le-mul (omega arith) (le-refl (K * S)) in
+    omega (arith, e, f)
 
 -- where the place of a period was found, and where it was not
 pub found-at : {K i : ℕ} {p : Place} → PlaceOf K p → p ≡ At i → InList i × (periodAt i ≡ K)

@@ -57,7 +57,7 @@ newest-bytes {s} h = h .lawful .bytes ∙ ap (λ (v : ℕ). encode v (bookIn s))
 
 -- it holds every row
 pub row-newest : (r : Row) → RowFits newest r
-row-newest r = record { one-way = λ e. never (sym e) }
+row-newest r = record { one-way = λ e. never (sym e); short = λ e. never (sym e) }
 
 -- and every book
 pub fits-newest : (b : Book) → Fits newest b

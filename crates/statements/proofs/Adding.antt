@@ -21,7 +21,7 @@ use Rattle.image.specs.Places.{rowAt, RowHere}
 use Rattle.balances.specs.Counts.{rowUsed}
 use Rattle.balances.proofs.Balances.{counts, counts-not}
 use Rattle.statements.specs.Figures.{mostNodes}
-use Rattle.statements.specs.Passes.{mostSlots, Below, Added, hopTurns}
+use Rattle.statements.specs.Passes.{mostSlots, mostSums, Below, Added, hopTurns}
 
 -- ONE HOP
 module _ (before : List ℕ) (i j turns : ℕ) (l : i < length before) (m : j < length before) (apart : i ≡ j → ⊥) {x y : ℕ}
@@ -107,5 +107,5 @@ module _ (r : Row) (turns : ℕ) where
   }
 
   -- nothing overflows
-  pub hops-room : (n : ℕ) {before sums : List ℕ} → turns ≤ cycleTiles → n < 256 → Below mostSlots before → Added (firstHops r turns n) before sums → Below 65536 sums
+  pub hops-room : (n : ℕ) {before sums : List ℕ} → turns ≤ cycleTiles → n < 256 → Below mostSlots before → Added (firstHops r turns n) before sums → Below mostSums sums
   hops-room n l k w a = record { size = a .size ∙ w .size; each = λ node. omega (arith, a .each node, w .each node, few r turns n node l) }

@@ -10,7 +10,8 @@ use lib.Seq.{getD-take, length-take-le, take-take, take-all}
 use Rattle.rules.specs.Says.{Says}
 use Rattle.rules.specs.Tiles.{PlanInRange}
 use Rattle.rules.specs.Book.{Book}
-use Rattle.rules.specs.Image.{newest, headerLength, hasWays, hasHearing, longestImage, mark, Version, versionOf, planOf, nodesOf, streamsOf, hopsOf, FieldsInRange, statedLength, imageRefusals}
+use Rattle.rules.specs.Image.{newest, headerLength, hasWays, hasWide, hasHearing, longestImage, mark, Version}
+use Rattle.rules.specs.Image.{versionOf, planOf, nodesOf, streamsOf, hopsOf, FieldsInRange, statedLength, imageRefusals}
 use Rattle.rules.specs.Calls.{OfBook, SaysOf, checkRefusals}
 use Rattle.rules.proofs.Says.{says-none, same-says}
 use Rattle.rules.proofs.Encoding.{stored-says}
@@ -20,15 +21,17 @@ use Rattle.statements.specs.Figures.{FiguresSay, Decides}
 -- THE LONGEST
 -- fields in their ranges state no more
 stated-most : (s : List ℕ) → FieldsInRange s → statedLength s ≤ longestImage newest
-stated-most s f = omega (arith, rows (hasWays (versionOf s)), hearing (hasHearing (versionOf s)), f .nodes .1, f .streams, f .hops)
+stated-most s f = omega (arith, rows (hasWays (versionOf s)) (hasWide (versionOf s)), hearing (hasHearing (versionOf s)), f .nodes .1, f .streams, f .hops)
   where
     hearing : (t : Bool) → cond t (8 * nodesOf s) 0 ≤ 8 * nodesOf s
     hearing true = omega arith
     hearing false = omega arith
 
-    rows : (t : Bool) → (2 + cond t 1 0 + 1 + 2) * streamsOf s ≤ 6 * streamsOf s
-    rows true = omega arith
-    rows false = omega arith
+    rows : (t u : Bool) → (2 + cond t 1 0 + 1 + cond u 1 0 + 2) * streamsOf s ≤ 7 * streamsOf s
+    rows true true = omega arith
+    rows true false = omega arith
+    rows false true = omega arith
+    rows false false = omega arith
 
 -- so one that is longer does not have the length that it states
 too-long : (s : List ℕ) → longestImage newest < length s → ((FieldsInRange s → ⊥) → ⊥) → length s ≡ statedLength s → ⊥

@@ -2,8 +2,9 @@
 use mathlib.Core.Path.{_≡_}
 use mathlib.Core.Bool.{cond}
 use mathlib.Core.List.{List}
-use Prim.Native.Nat.{ℕ, _+_, _-_, _<_, _≤_, max}
+use Prim.Native.Nat.{ℕ, _+_, _*_, _-_, _<_, _≤_, max}
 use lib.ListN.{length, getD}
+use Rattle.rules.specs.Tiles.{cycleTiles}
 use Rattle.rules.specs.Topology.{Hop}
 use Rattle.rules.specs.Table.{touches, sumBelow, used}
 use Rattle.rules.proofs.Reading.{rowsIn, bookIn}
@@ -12,9 +13,13 @@ use Rattle.statements.specs.declared.Totals.{Totals}
 use Rattle.statements.specs.Statement.{longest}
 use Rattle.statements.specs.Figures.{mostNodes}
 
--- a cycle has at most 3,200 slots
+-- a cycle has at most as many slots
 abbrev pub mostSlots : ℕ
-mostSlots = 3200
+mostSlots = cycleTiles * 32
+
+-- and so many turns may be added to them, hop by hop of one row
+abbrev pub mostSums : ℕ
+mostSums = mostSlots + cycleTiles * 256
 
 -- a number for each node, none over the most
 pub record Below (most : ℕ) (sums : List ℕ) : Type 0 where

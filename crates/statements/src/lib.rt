@@ -9,7 +9,7 @@ ghost use Rattle.image.specs.Header.{HeaderOf};
 ghost use Rattle.balances.specs.Counts.{rowUsed};
 ghost use Rattle.statements.specs.Statement.{latency};
 ghost use Rattle.statements.specs.Figures.{mostNodes, NoFigures, FiguresSay, Decides, Moved};
-ghost use Rattle.statements.specs.Passes.{mostSlots, Below, Added, hopTurns, Passed, Summed, mostTotal, Few, Totalled};
+ghost use Rattle.statements.specs.Passes.{mostSlots, mostSums, Below, Added, hopTurns, Passed, Summed, mostTotal, Few, Totalled};
 use image::Book;
 use rules::Node;
 
@@ -66,7 +66,7 @@ fn larger(a: u32, b: u32) -> u32
 
 // Adds the turns of a hop to what its two ends use.
 fn add_hop(used: &mut [u32; NODES], from: Node, to: Node, turns: u32)
-    requires { ⌜ Below 65536 (now used) × (turns ≤ cycleTiles) × (from .0 < mostNodes) × (to .0 < mostNodes) × (from .0 ≡ to .0 → ⊥) ⌝ }
+    requires { ⌜ Below mostSums (now used) × (turns ≤ cycleTiles) × (from .0 < mostNodes) × (to .0 < mostNodes) × (from .0 ≡ to .0 → ⊥) ⌝ }
     ensures { λ _. ⌜ Added (hopTurns (record { from = from .0; to = to .0 }) turns) (now (used .entry)) (now (used .exit)) ⌝ }
 {
     let i = from.0 as usize;

@@ -3,14 +3,14 @@ use mathlib.Core.Path.{_≡_, refl, sym, ap, _∙_, subst}
 use mathlib.Core.Logic.{_⊎_, inl, inr, ⊎-elim}
 use mathlib.Core.List.{List, [], _∷_}
 use Prim.Native.Nat.{ℕ, suc, _+_, _*_, _/_, _%_, _-_, _<_, _≤_, min}
-use native.Mathlib.Decide.{ℕ-discrete}
+use native.Mathlib.Decide.{decLt, ℕ-discrete}
 use native.Mathlib.Omega.{arith}
 use native.Mathlib.Nat.{mul-le-mul-right, le-antisymm}
 use lib.ListN.{length, getD, take, drop, set, length-set, length-take, length-drop}
 use lib.Seq.{drop-cons, getD-set-same, getD-set-other, getD-take, getD-drop, drop-set-lt, ext-getD}
 use Rattle.rules.specs.Image.{word}
 use Rattle.operations.specs.Operations.{whereWorking}
-use Rattle.tables.specs.Entries.{Entries, entryAt, Now, Over, Only, Put, InTurn}
+use Rattle.tables.specs.Entries.{Entries, entryAt, Now, Over, Only, Put, InTurn, Repeated}
 use Rattle.tables.specs.Entries.Now.{given, kept}
 
 -- what E has for a slot, F has too
@@ -35,16 +35,17 @@ module _ {n : ℕ} {E F G : Entries} {old mid new : List ℕ} where
       both slot (given x p) (kept y q) = given (e slot _ _ x) (q ∙ p)
       both slot (kept x p) (kept y q) = kept (λ operation id h. ⊎-elim (λ v. x (v .0) (v .1) (v .2)) (λ v. y (v .0) (v .1) (v .2)) (g slot operation id h)) (q ∙ p)
 
-pub over-same : {n m : ℕ} {E F : Entries} {old new : List ℕ} → n ≡ m → Within E F → ((slot operation id : ℕ) → F slot operation id → Gives E slot)
-    → Over n E old new → Over m F old new
+-- the entries of E below n are those of F below m
+pub over-same : {n m : ℕ} {E F : Entries} {old new : List ℕ} → n ≡ m → ((slot operation id : ℕ) → slot < m → E slot operation id → F slot operation id)
+    → ((slot operation id : ℕ) → slot < m → F slot operation id → Gives E slot) → Over n E old new → Over m F old new
 over-same {n} {m} {E} {F} {old} {new} q f g a = record {
-  entries = λ slot l. one slot (a .entries slot (omega arith));
+  entries = λ slot l. one slot l (a .entries slot (omega arith));
   beyond = subst (λ (k : ℕ). drop (3 * k) new ≡ drop (3 * k) old) q (a .beyond);
 }
   where
-    one : (slot : ℕ) → Now E old new slot → Now F old new slot
-    one slot (given x p) = given (f slot _ _ x) p
-    one slot (kept x p) = kept (λ operation id h. let v = g slot operation id h in x (v .0) (v .1) (v .2)) p
+    one : (slot : ℕ) → slot < m → Now E old new slot → Now F old new slot
+    one slot l (given x p) = given (f slot _ _ l x) p
+    one slot l (kept x p) = kept (λ operation id h. let v = g slot operation id l h in x (v .0) (v .1) (v .2)) p
 
 -- ONE ENTRY
 three : {a b c a′ b′ c′ : ℕ} → a ≡ a′ → b ≡ b′ → c ≡ c′ → a ∷ b ∷ c ∷ [] ≡ a′ ∷ b′ ∷ c′ ∷ []
@@ -149,3 +150,32 @@ turn-all {at} {does} {name} {n} {turn} {turns} {old} {new} l k a = subst (λ (x 
 -- a turn more has room in all turns
 pub turn-room : {turn turns : ℕ} (step : ℕ) → turn < turns → turn * step + step ≤ turns * step
 turn-room step l = omega (arith, mul-le-mul-right step l)
+
+-- AT EVERY STEP
+-- the entries of some turns are written, and the slot is the next one's
+pub record Stepping (end place step does name : ℕ) (old : List ℕ) (slot : ℕ) (out : List ℕ) : Type 0 where
+  pub turn : ℕ
+  pub slot-is : slot ≡ place + turn * step
+  pub over : Over end (InTurn (λ (turn : ℕ). place + turn * step) (λ (turn : ℕ). does) (λ (turn : ℕ). name) turn) old out
+
+module _ {end place step does name : ℕ} where
+  pub step-none : {out : List ℕ} → Stepping end place step does name out place out
+  step-none = record { turn = 0; slot-is = omega arith; over = turn-none }
+
+  -- all turns below the end are those before one that is not below it
+  pub step-all : {slot : ℕ} {old out : List ℕ} → end ≤ slot → Stepping end place step does name old slot out → Over end (Repeated place step does name) old out
+  step-all l h =
+      over-same refl (λ s o i k x. record { turn = x .turn; slot-is = x .slot-is; operation-is = x .operation-is; id-is = x .id-is })
+      (λ s o i k x. (does, name, record { turn = x .turn; within = before (x .turn) (h .turn) (omega (arith, h .slot-is, x .slot-is)); slot-is = x .slot-is; operation-is = refl; id-is = refl }))
+      (h .over)
+    where
+      before : (a b : ℕ) → place + a * step < place + b * step → a < b
+      before a b k = go (decLt a b)
+        where
+          go : Dec (a < b) → a < b
+          go (yes m) = m
+          go (no m) = let n : b ≤ a = omega arith in absurd (omega (arith, mul-le-mul-right step n))
+
+pub step-more : {end place step operation id slot : ℕ} {old mid new : List ℕ} → Stepping end place step operation (whereWorking operation id) old slot mid
+    → Put slot operation id mid new → slot < end → Stepping end place step operation (whereWorking operation id) old (slot + step) new
+step-more h p l = record { turn = h .turn + 1; slot-is = omega (arith, h .slot-is); over = turn-more (h .over) p l (h .slot-is) refl refl }

@@ -8,9 +8,9 @@ use lib.ListN.{length, take, drop, length-append, length-drop}
 use lib.Seq.{getD-drop, take-at, drop-at, drop-drop}
 use Rattle.rules.specs.Topology.{nodes}
 use Rattle.rules.specs.Book.{Row, Book, hops, hopsInAll}
-use Rattle.rules.specs.Image.{newest, headerLength, rowsStart, hasWays, hasHearing, periodPlace, hopsPlace, rowLength, versionOf, nodesOf}
+use Rattle.rules.specs.Image.{newest, headerLength, rowsStart, hasWays, hasHearing, hasWide, hopsPlace, rowLength, versionOf, nodesOf}
 use Rattle.rules.specs.Image.{linksOf, hearingOf, rowsPlace}
-use Rattle.rules.specs.Image.{mark, word, word64, inTurn, held, encodeHeader, encodeTopology, encodeRow, encode, setsAt}
+use Rattle.rules.specs.Image.{mark, word, word64, inTurn, held, encodeHeader, encodeTopology, encodePeriod, encodeRow, encode, setsAt}
 use Rattle.rules.proofs.Bytes.{stored-bytes}
 use Rattle.rules.proofs.Encoding.{length-sets, length-row}
 use Rattle.rules.proofs.Fronts.{bytes-drop, front-written}
@@ -107,21 +107,26 @@ module _ {s : List ℕ} {book : head.Book} (h : LawfulImage s) (hd : HeaderOf s 
 
 -- A ROW
 
--- its id, and its way where it is held
-abbrev named : Bool → Row → List ℕ
-named t r = word (r .id) ++ held t (r .way ∷ [])
+-- its id, its way where it is held, and its period in two bytes or one
+abbrev named : Bool → Bool → Row → List ℕ
+named t w r = word (r .id) ++ held t (r .way ∷ []) ++ encodePeriod w (r .period)
 
 -- what stands behind them
 abbrev rest : Row → List ℕ
-rest r = r .period ∷ hops r ∷ (r .route ++ inTurn word (r .offsets))
+rest r = hops r ∷ (r .route ++ inTurn word (r .offsets))
 
-named-rest : (t : Bool) (r : Row) → word (r .id) ++ held t (r .way ∷ []) ++ (r .period ∷ hops r ∷ []) ++ r .route ++ inTurn word (r .offsets) ≡ named t r ++ rest r
-named-rest true r = refl
-named-rest false r = refl
+named-rest : (t w : Bool) (r : Row)
+    → word (r .id) ++ held t (r .way ∷ []) ++ encodePeriod w (r .period) ++ (hops r ∷ []) ++ r .route ++ inTurn word (r .offsets) ≡ named t w r ++ rest r
+named-rest true true r = refl
+named-rest true false r = refl
+named-rest false true r = refl
+named-rest false false r = refl
 
-length-named : (t : Bool) (r : Row) → length (named t r) ≡ 2 + cond t 1 0
-length-named true r = refl
-length-named false r = refl
+length-named : (t w : Bool) (r : Row) → length (named t w r) ≡ 2 + cond t 1 0 + 1 + cond w 1 0
+length-named true true r = refl
+length-named true false r = refl
+length-named false true r = refl
+length-named false false r = refl
 
 module _ (s : List ℕ) (at : ℕ) (b : Bytes s) (w : Whole s at) where
   abbrev v : ℕ
@@ -137,28 +142,38 @@ module _ (s : List ℕ) (at : ℕ) (b : Bytes s) (w : Whole s at) where
       front-written v (drop at s) (bytes-drop at s b) (omega (arith, w .fits, e, length-drop at s))
       ∙ ap (λ (l : List ℕ). encodeRow v r ++ l) (drop-drop _ at s ∙ ap (λ (h : ℕ). drop (at + (rowLength v + 3 * h)) s) e)
 
-  size : length (rest r) ≡ rowLength v + 3 * hops r - periodPlace v
-  size =
-      omega
-      (arith, length-row v r [] (whole-sized s at w), ap length (named-rest (hasWays v) r), length-append (named (hasWays v) r) (rest r), length-named (hasWays v) r)
+  front-part : List ℕ
+  front-part = named (hasWays v) (hasWide v) r
 
-  -- its bytes behind its id and its way
-  pub rest-is : (from next : ℕ) → from ≡ at + periodPlace v → next ≡ nextAt s at → take (next - from) (drop from s) ≡ rest r
+  parts : encodeRow v r ≡ front-part ++ rest r
+  unfolding front-part
+  parts = named-rest (hasWays v) (hasWide v) r
+
+  front-size : length front-part ≡ hopsPlace v
+  unfolding front-part
+  front-size = length-named (hasWays v) (hasWide v) r
+
+  size : length (rest r) ≡ rowLength v + 3 * hops r - hopsPlace v
+  size = omega (arith, length-row v r [] (whole-sized s at w), ap length parts, length-append front-part (rest r), front-size)
+
+  -- its bytes from its hop count on
+  pub rest-is : (from next : ℕ) → from ≡ at + hopsPlace v → next ≡ nextAt s at → take (next - from) (drop from s) ≡ rest r
   rest-is from next e f =
       let tail : List ℕ = drop (nextAt s at) s in
       let n : length (rest r) ≡ next - from = omega (arith, size, next-hops s at w) in
       ap (λ (k : ℕ). take (next - from) (drop k s)) e
-      ∙ ap (take (next - from)) (sym (drop-drop (periodPlace v) at s) ∙ ap (drop (periodPlace v)) (stands ∙ ap (λ (l : List ℕ). l ++ tail) (named-rest (hasWays v) r)
-      ∙ append-assoc (named (hasWays v) r) (rest r) tail) ∙ drop-at (named (hasWays v) r) (rest r ++ tail) (periodPlace v) (length-named (hasWays v) r))
+      ∙ ap (take (next - from)) (sym (drop-drop (hopsPlace v) at s) ∙ ap (drop (hopsPlace v)) (stands ∙ ap (λ (l : List ℕ). l ++ tail) parts
+      ∙ append-assoc front-part (rest r) tail) ∙ drop-at front-part (rest r ++ tail) (hopsPlace v) front-size)
       ∙ take-at (rest r) tail (next - from) n
 
   -- the row, part by part
-  pub row-put : (d o₁ o₂ o₃ part : List ℕ) (to id way from next : ℕ) → to ≤ length d → id ≡ r .id → way ≡ r .way → from ≡ at + periodPlace v → next ≡ nextAt s at
-      → o₁ ≡ over d to (word id) → o₂ ≡ over o₁ (to + 2) (way ∷ []) → part ≡ take (next - from) (drop from s) → o₃ ≡ over o₂ (to + 2 + 1) part
-      → PutAgain r d to (to + 2 + 1 + (next - from)) o₃
-  row-put d o₁ o₂ o₃ part to id way from next l e f g h p₁ p₂ q p₃ = record {
-    bytes = then d o₂ o₃ (word id ++ (way ∷ [])) part to (to + 2 + 1) l (then d o₁ o₂ (word id) (way ∷ []) to (to + 2) l p₁ refl p₂) (omega arith) p₃
-        ∙ ap₂ (λ (i y : ℕ). over d to (word i ++ (y ∷ []) ++ part)) e f
-        ∙ ap (λ (x : List ℕ). over d to (word (r .id) ++ (r .way ∷ []) ++ x)) (q ∙ rest-is from next g h);
+  pub row-put : (d o₁ o₂ o₃ o₄ part : List ℕ) (to id way k from next : ℕ) → to ≤ length d → id ≡ r .id → way ≡ r .way → k ≡ r .period
+      → from ≡ at + hopsPlace v → next ≡ nextAt s at → o₁ ≡ over d to (word id) → o₂ ≡ over o₁ (to + 2) (way ∷ []) → o₃ ≡ over o₂ (to + 2 + 1) (word k)
+      → part ≡ take (next - from) (drop from s) → o₄ ≡ over o₃ (to + 2 + 1 + 2) part → PutAgain r d to (to + 2 + 1 + 2 + (next - from)) o₄
+  row-put d o₁ o₂ o₃ o₄ part to id way k from next l e f m g h p₁ p₂ p₃ q p₄ = record {
+    bytes = then d o₃ o₄ (word id ++ (way ∷ []) ++ word k) part to (to + 2 + 1 + 2) l
+        (then d o₂ o₃ (word id ++ (way ∷ [])) (word k) to (to + 2 + 1) l (then d o₁ o₂ (word id) (way ∷ []) to (to + 2) l p₁ refl p₂) (omega arith) p₃) (omega arith) p₄
+        ∙ ap₂ (λ (i y : ℕ). over d to (word i ++ (y ∷ []) ++ word k ++ part)) e f
+        ∙ ap₂ (λ (n : ℕ) (x : List ℕ). over d to (word (r .id) ++ (r .way ∷ []) ++ word n ++ x)) m (q ∙ rest-is from next g h);
     on = omega (arith, g, h, next-hops s at w);
   }

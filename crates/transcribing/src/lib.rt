@@ -37,7 +37,7 @@ fn put_site(image: &[u8], book: Book, out: &mut [u8]) -> usize
     hearing_at + (rows - hearing)
 }
 
-// The row at a place of an image, as the newest version has it: its id, its way, and the rest as it stands. The place after it.
+// The row at a place of an image, as the newest version has it: its id, its way, its period, and the rest as it stands. The place after it.
 fn put_again(image: &[u8], at: usize, out: &mut [u8], to: usize) -> usize
     requires { ⌜ Whole (now image) at × (to + (rowLength newest + 3 * hops (rowAt (now image) at)) ≤ length (now out)) ⌝ }
     ensures { λ r. ⌜ PutAgain (rowAt (now (image .entry)) at) (now (out .entry)) to r (now (out .exit)) ⌝ }
@@ -45,8 +45,10 @@ fn put_again(image: &[u8], at: usize, out: &mut [u8], to: usize) -> usize
     writer::put_word(out, to, image::id_at(image, at));
     let way_at = to + 2;
     writer::put(out, way_at, image::way_at(image, at));
-    let rest_at = way_at + 1;
-    let rest = at + image::period_place_in(image);
+    let period_at = way_at + 1;
+    writer::put_word(out, period_at, image::period_at(image, at).0);
+    let rest_at = period_at + 2;
+    let rest = at + image::hops_place_in(image);
     let next = image::next(image, at);
     writer::put_part(&image[rest..next], out, rest_at);
     rest_at + (next - rest)

@@ -59,18 +59,19 @@ words-turn d s o o′ at i h l e f =
 
 -- a row, part by part
 pub row-written : (d o₁ o₂ o₃ o₄ o₅ o₆ : List ℕ) (at id way k : ℕ) (route offsets : List ℕ) → at ≤ length d → length route ≡ length offsets + 1
-    → o₁ ≡ over d at (word id) → o₂ ≡ over o₁ (at + 2) (way ∷ []) → o₃ ≡ over o₂ (at + 2 + 1) (k ∷ []) → o₄ ≡ over o₃ (at + 2 + 1 + 1) (length offsets ∷ [])
-    → o₅ ≡ over o₄ (at + 2 + 1 + 1 + 1) route → o₆ ≡ over o₅ (at + 2 + 1 + 1 + 1 + length route) (inTurn word offsets)
+    → o₁ ≡ over d at (word id) → o₂ ≡ over o₁ (at + 2) (way ∷ []) → o₃ ≡ over o₂ (at + 2 + 1) (word k) → o₄ ≡ over o₃ (at + 2 + 1 + 2) (length offsets ∷ [])
+    → o₅ ≡ over o₄ (at + 2 + 1 + 2 + 1) route → o₆ ≡ over o₅ (at + 2 + 1 + 2 + 1 + length route) (inTurn word offsets)
     → o₆ ≡ over d at (encodeRow newest (record { id = id; way = way; period = k; route = route; offsets = offsets }))
 row-written d o₁ o₂ o₃ o₄ o₅ o₆ at id way k route offsets h n p₁ p₂ p₃ p₄ p₅ p₆ =
     let named : List ℕ = word id ++ (way ∷ []) in
+    let head : List ℕ = named ++ word k ++ (length offsets ∷ []) in
     let q₂ = then d o₁ o₂ (word id) (way ∷ []) at (at + 2) h p₁ refl p₂ in
-    let q₃ = then d o₂ o₃ named (k ∷ []) at (at + 2 + 1) h q₂ (omega arith) p₃ in
-    let q₄ = then d o₃ o₄ (named ++ (k ∷ [])) (length offsets ∷ []) at (at + 2 + 1 + 1) h q₃ (omega arith) p₄ in
-    let q₅ = then d o₄ o₅ (named ++ (k ∷ length offsets ∷ [])) route at (at + 2 + 1 + 1 + 1) h q₄ (omega arith) p₅ in
-    let q₆ = then d o₅ o₆ (named ++ (k ∷ length offsets ∷ []) ++ route) (inTurn word offsets) at (at + 2 + 1 + 1 + 1 + length route) h q₅ (omega arith) p₆ in
+    let q₃ = then d o₂ o₃ named (word k) at (at + 2 + 1) h q₂ (omega arith) p₃ in
+    let q₄ = then d o₃ o₄ (named ++ word k) (length offsets ∷ []) at (at + 2 + 1 + 2) h q₃ (omega arith) p₄ in
+    let q₅ = then d o₄ o₅ head route at (at + 2 + 1 + 2 + 1) h q₄ (omega arith) p₅ in
+    let q₆ = then d o₅ o₆ (head ++ route) (inTurn word offsets) at (at + 2 + 1 + 2 + 1 + length route) h q₅ (omega arith) p₆ in
     let e : length offsets ≡ length route - 1 = omega arith in
-    q₆ ∙ ap (λ (x : ℕ). over d at (named ++ (k ∷ x ∷ []) ++ route ++ inTurn word offsets)) e
+    q₆ ∙ ap (λ (x : ℕ). over d at (named ++ word k ++ (x ∷ []) ++ route ++ inTurn word offsets)) e
 
 -- the front of an image, part by part
 pub head-written : (d o₁ o₂ o₃ o₄ s : List ℕ) (to n h : ℕ) → 15 ≤ length s → o₁ ≡ over d 0 (take 12 s) → o₂ ≡ over o₁ 12 (n ∷ []) → o₃ ≡ over o₂ 13 (word h)

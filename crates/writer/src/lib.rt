@@ -61,7 +61,7 @@ pub fn put_row(
     route: &[u8],
     offsets: &[u16],
 )
-    requires { ⌜ (length (now route) ≡ length (now offsets) + 1) × (length (now offsets) ≤ 15) × (period .0 < 256) ⌝ }
+    requires { ⌜ (length (now route) ≡ length (now offsets) + 1) × (length (now offsets) ≤ 15) ⌝ }
     requires { ⌜ at + (rowLength newest + 3 * length (now offsets)) ≤ length (now out) ⌝ }
     ensures { λ _. ⌜ now (out .exit) ≡ over (now (out .entry)) at
         (encodeRow newest (record { id = id; way = way; period = period .0; route = now (route .entry); offsets = now (offsets .entry) })) ⌝ }
@@ -70,8 +70,8 @@ pub fn put_row(
     let way_at = at + 2;
     put(out, way_at, way);
     let period_at = way_at + 1;
-    put(out, period_at, period.0 as u8);
-    let hops_at = period_at + 1;
+    put_word(out, period_at, period.0);
+    let hops_at = period_at + 2;
     put(out, hops_at, offsets.len() as u8);
     let route_at = hops_at + 1;
     put_part(route, out, route_at);

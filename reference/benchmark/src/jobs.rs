@@ -1,14 +1,16 @@
 //! The jobs: each makes its calls, and shows what every call gave back.
 
 use crate::planners::{Planner, Request, Said, Stream};
-use crate::site::{NODES, PLAN, doubled_streams, hearing, linked_topology, streams, topology};
+use crate::site::{
+    NODES, PLAN, doubled_streams, hearing, linked_topology, slow_streams, streams, topology,
+};
 use reference::image;
 use reference::version::Version;
 use std::cell::RefCell;
 use std::slice;
 
 /// A buffer that holds the longest image.
-const LONGEST_IMAGE: usize = 2960;
+const LONGEST_IMAGE: usize = 3024;
 
 /// A buffer that holds the longest table.
 const LONGEST_TABLE: usize = 9600;
@@ -39,6 +41,9 @@ pub struct Site {
     heard: Vec<u8>,
     /// The full book without its last stream.
     nearly: Vec<u8>,
+    /// Streams of which some are slow, and the book of them.
+    slow: Vec<Stream>,
+    slow_full: Vec<u8>,
     /// The index that is lent to postings.
     index: RefCell<Vec<u64>>,
 }
@@ -58,6 +63,8 @@ impl Site {
             linked: empty_book(planner, &linked_topology(), &linked_topology()),
             heard: empty_book(planner, &topology(), &hearing()),
             nearly: Vec::new(),
+            slow: slow_streams(),
+            slow_full: Vec::new(),
             index: RefCell::new(vec![0; LONGEST_INDEX]),
         };
         site.empty = empty_book(planner, &site.topology, &site.topology);
@@ -65,6 +72,7 @@ impl Site {
         site.full = open_all(planner, &site.empty, &site.streams, &mut done);
         site.both = open_all(planner, &site.empty, &site.doubled, &mut done);
         site.nearly = open_all(planner, &site.empty, &site.streams[..63], &mut done);
+        site.slow_full = open_all(planner, &site.empty, &site.slow, &mut done);
         let (_, book) = image::read(&site.full).expect("the full book is lawful");
         site.older = image::write(Version::One, &book);
         site.months = [site.full.clone(), reopened(planner, &site.full, &site.streams[0])];
@@ -106,7 +114,7 @@ pub const POST_OPENS: Job = Job { name: "post: 64 opens in one list", run: post_
 /// The same, one call after the other.
 pub const OPENS: Job = Job { name: "open: 64 streams, one after the other", run: open };
 
-pub const JOBS: [Job; 19] = [
+pub const JOBS: [Job; 21] = [
     Job { name: "new: the empty book", run: new },
     Job { name: "open: the last of 64 streams", run: open_last },
     OPENS,
@@ -114,9 +122,11 @@ pub const JOBS: [Job; 19] = [
     POST_OPENS,
     Job { name: "post: 32 opens with a second route in one list", run: post_doubled },
     Job { name: "post: the same where nodes hear across the corners", run: post_heard },
+    Job { name: "post: 64 opens in one list, a third of them slow", run: post_slow },
     CHECK,
+    Job { name: "check: the full book, a third of its streams slow", run: check_slow },
     Job { name: "rewrite: the full book", run: rewrite },
-    Job { name: "expand: every node of the full book", run: expand },
+    Job { name: "expand: 100 tiles of every node of the full book", run: expand },
     Job { name: "balance: every node of the full book", run: balance },
     Job { name: "close: 64 streams, one after the other", run: close },
     Job { name: "close: 32 streams with a second route, one after the other", run: close_doubled },
@@ -165,6 +175,10 @@ fn post_heard(planner: &dyn Planner, site: &Site, show: Show) {
     post_all(planner, site, &site.heard, &site.doubled, |stream| vec![Request::open(stream)], show);
 }
 
+fn post_slow(planner: &dyn Planner, site: &Site, show: Show) {
+    post_all(planner, site, &site.empty, &site.slow, |stream| vec![Request::open(stream)], show);
+}
+
 fn post_closes(planner: &dyn Planner, site: &Site, show: Show) {
     post_all(planner, site, &site.full, &site.streams, |stream| vec![Request::close(stream)], show);
 }
@@ -202,6 +216,10 @@ fn bytes_of(index: &[u64]) -> &[u8] {
 
 fn check(planner: &dyn Planner, site: &Site, show: Show) {
     show_bytes(show, planner.check(&site.full), &[]);
+}
+
+fn check_slow(planner: &dyn Planner, site: &Site, show: Show) {
+    show_bytes(show, planner.check(&site.slow_full), &[]);
 }
 
 fn rewrite(planner: &dyn Planner, site: &Site, show: Show) {

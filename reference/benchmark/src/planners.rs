@@ -7,6 +7,9 @@ use reference::record::Record;
 /// What a call gives back: its number, and the length of its answer.
 pub type Said = (u8, usize);
 
+/// The tiles of a table that the jobs ask for, from the first of the cycle on.
+const TILES: u16 = 100;
+
 /// A planner's calls that the jobs make.
 pub trait Planner {
     fn new_book(&self, plan: &Plan, links: &[u8], hearing: &[u8], out: &mut [u8]) -> Said;
@@ -143,6 +146,8 @@ macro_rules! planner_in_c {
                     book: *const u8,
                     book_len: usize,
                     node: u8,
+                    first: u16,
+                    tiles: u16,
                     out: *mut u8,
                     out_len: usize,
                     length: *mut usize,
@@ -256,7 +261,8 @@ macro_rules! planner_in_c {
             fn expand(&self, book: &[u8], node: u8, out: &mut [u8]) -> Said {
                 let (image, size) = (book.as_ptr(), book.len());
                 said(|length| unsafe {
-                    $module::expand(image, size, node, out.as_mut_ptr(), out.len(), length)
+                    let (room, most) = (out.as_mut_ptr(), out.len());
+                    $module::expand(image, size, node, 0, TILES, room, most, length)
                 })
             }
 
@@ -389,7 +395,7 @@ impl Planner for Reference {
     }
 
     fn expand(&self, book: &[u8], node: u8, out: &mut [u8]) -> Said {
-        calls::expand(book, node, out)
+        calls::expand(book, node, 0, TILES, out)
     }
 
     fn balance(&self, book: &[u8], node: u8) -> (u8, [u32; 3]) {

@@ -43,6 +43,14 @@ pub fn linked_topology() -> Vec<u8> {
 /// The periods, in tiles, that the streams take in turn.
 pub const PERIODS: [u16; 11] = [100, 20, 50, 10, 5, 2, 100, 20, 50, 10, 5];
 
+/// The same streams, every third of them slow.
+pub fn slow_streams() -> Vec<Stream> {
+    let slow = |i: usize| [200, 1000, 500][i / 3 % 3];
+    let period = |i: usize, stream: &Stream| if i % 3 == 0 { slow(i) } else { stream.period };
+    let with = |(i, stream): (usize, Stream)| Stream { period: period(i, &stream), ..stream };
+    streams().into_iter().enumerate().map(with).collect()
+}
+
 /// The streams, in order of arrival, which is not that of their ids. All find room, with 504 hops.
 pub fn streams() -> Vec<Stream> {
     (0..64).map(|i| stream(i, i * 61 % 64)).collect()

@@ -155,12 +155,12 @@ pub fn with_rows(book: &[u8], rows: Vec<Row>) -> Vec<u8> {
 }
 
 /// A first route.
-pub fn row(id: u16, period: u8, nodes: &[u8], offsets: &[u16]) -> Row {
+pub fn row(id: u16, period: u16, nodes: &[u8], offsets: &[u16]) -> Row {
     let (nodes, offsets) = (nodes.to_vec(), offsets.to_vec());
     Row { id, route: FIRST_ROUTE, period, nodes, offsets }
 }
 
 /// A second route.
-pub fn row_2(id: u16, period: u8, nodes: &[u8], offsets: &[u16]) -> Row {
+pub fn row_2(id: u16, period: u16, nodes: &[u8], offsets: &[u16]) -> Row {
     Row { route: SECOND_ROUTE, ..row(id, period, nodes, offsets) }
 }

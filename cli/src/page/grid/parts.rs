@@ -78,11 +78,12 @@ impl Sketch<'_> {
         (0..usize::from(self.book.slots)).map(number).collect()
     }
 
-    /// The hops of a route, in one group for each tile of its period that has any.
+    /// The hops of a route that are shown, in one group for each tile of its period that has any.
     fn way(&self, row: usize) -> String {
         let way = &self.book.ways[row];
         let tile_of = |offset: u16| tile_of(self.book, offset);
-        let tiles = way.offsets.iter().map(|&offset| tile_of(offset)).collect::<BTreeSet<_>>();
+        let shown = way.offsets.iter().filter(|&&offset| self.is_shown(offset));
+        let tiles = shown.map(|&offset| tile_of(offset)).collect::<BTreeSet<_>>();
         let class = colour(self.book, row) + dashes(way);
         let part = |&tile: &u16| {
             let within = hops(way).filter(|hop| tile_of(hop.offset) == tile);

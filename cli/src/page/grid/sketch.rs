@@ -24,17 +24,31 @@ const SECOND_LINE: usize = 25;
 /// The measures of a book's grid.
 pub struct Sketch<'a> {
     pub book: &'a Book,
+    /// How many tiles are shown, from the first on.
+    pub shown: u16,
     pub column: usize,
     pub width: usize,
     pub height: usize,
 }
 
 impl<'a> Sketch<'a> {
-    pub fn new(book: &'a Book) -> Sketch<'a> {
+    pub fn new(book: &'a Book, shown: u16) -> Sketch<'a> {
         let names = book.ways.iter().map(|way| name(way).chars().count());
         let column = COLUMN.max(names.max().unwrap_or(0) * CHARACTER + BESIDE_NAME);
         let height = HEAD + book.links.len() * ROW;
-        Sketch { book, column, width: column * usize::from(book.slots), height }
+        Sketch { book, shown, column, width: column * usize::from(book.slots), height }
+    }
+
+    /// The tile of its period in which a hop is has a place in the picture.
+    pub fn is_shown(&self, offset: u16) -> bool {
+        tile_of(self.book, offset) < self.shown
+    }
+
+    /// The rows of the book with a hop in a later tile than are shown.
+    pub fn later(&self) -> Vec<usize> {
+        let rows = self.book.ways.iter().enumerate();
+        let later = rows.filter(|(_, way)| !way.offsets.iter().all(|&o| self.is_shown(o)));
+        later.map(|(row, _)| row).collect()
     }
 
     /// The rows of the book with a hop in a tile.

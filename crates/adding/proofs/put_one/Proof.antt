@@ -14,7 +14,7 @@ row-size-requires c κs = c .before .before .before .pre .1 .few
 put-row-requires : tie.Need-put-row-requires
 put-row-requires c κs =
     let p = c .before .before .before .before .before .pre in
-    ((p .1 .count, p .1 .few, p .0 .period), omega (arith, p .1 .few))
+    ((p .1 .count, p .1 .few), omega (arith, p .1 .few))
 
 array-share-prefix-new : tie.Need-array-share-prefix-new
 array-share-prefix-new c = omega (arith, c .before .before .before .row-size .ensures .1, c .before .put-row .kept)

@@ -18,12 +18,12 @@ row-size-requires-2 c κs = c .before .before .before .before .before .before .p
 put-row-requires : tie.Need-put-row-requires
 put-row-requires c κs =
     let p = c .before .before .before .before .before .before .before .before .pre in
-    ((p .1 .count, p .1 .few, p .0 .period), omega (arith, p .1 .few))
+    ((p .1 .count, p .1 .few), omega (arith, p .1 .few))
 
 put-row-requires-2 : tie.Need-put-row-requires-2
 put-row-requires-2 c κs =
     let p = c .before .before .before .before .before .before .before .before .before .before .before .pre in
-    ((p .2 .count, p .2 .few, p .0 .period), omega (arith, p .2 .few, c .before .before .before .before .before .row-size .ensures .1, c .before .before .put-row .kept))
+    ((p .2 .count, p .2 .few), omega (arith, p .2 .few, c .before .before .before .before .before .row-size .ensures .1, c .before .before .put-row .kept))
 
 array-share-prefix-new : tie.Need-array-share-prefix-new
 array-share-prefix-new c =

@@ -5,7 +5,7 @@ use native.Mathlib.Omega.{arith}
 use borrow.Author.Tests.{not-true, not-false}
 use Rattle.rules.proofs.Tests.{fails, said-yes, said-no}
 use Rattle.image.specs.Places.{Stands}
-use Rattle.image.proofs.Stands.{stands-row}
+use Rattle.image.proofs.Stands.{stands-row, stands-fit}
 use Rattle.image.proofs.Walks.{stands-first, stands-on}
 use Rattle.keeping.proofs.Keeping.{Left, left-all, left-no, left-on, left-none}
 use Rattle.keeping.proofs.rows_keep.Statement.{statement}
@@ -24,8 +24,9 @@ loop-holds c =
 
 row-keeps-requires : tie.Need-row-keeps-requires Inv-loop μ-loop
 row-keeps-requires c κs =
-    let h = stands-row (c .loop-test .taken) (c .before .loop .inv .0) in
-    (c .before .before .before .before .pre .0 .lawful .site .nodes .1, record { whole = h .whole; lawful = h .lawful })
+    let w = c .before .loop .inv .0 in
+    let h = stands-row (c .loop-test .taken) w in
+    (c .before .before .before .before .pre .0 .lawful .site .nodes .1, record { whole = h .whole; lawful = h .lawful; fits = stands-fit (c .loop-test .taken) w })
 
 returns : tie.Need-returns Inv-loop μ-loop
 returns c =

@@ -1,9 +1,9 @@
--- The reach of the hop is found once, and looked for where the hop is marked.
+-- The reach of the hop is found once, and looked for where the hop is marked and in the rows that have moduli.
 use native.Mathlib.Omega.{arith}
 use Prim.Native.Nat.{_+_}
 use borrow.Author.Needs.{needs}
 use Rattle.rows.proofs.Walks.{node-small}
-use Rattle.meeting.proofs.Reaching.{hop-in-index, between-here, hop-marked}
+use Rattle.meeting.proofs.Reaching.{hop-in-index, between-here, hop-met, hop-marked}
 use Rattle.meeting.proofs.hop_meets.Statement.{statement}
 use Rattle.meeting.proofs.hop_meets.Tie as tie
 
@@ -24,9 +24,16 @@ mark-requires c κs =
 
 returns : tie.Need-returns
 returns c =
-    let p = c .before .before .before .before .before .before .before .before .pre in
-    hop-marked (p .0) (p .1) _ (c .before .before .before .before .before .node-at .ensures .0) (c .before .before .before .before .node-at2 .ensures .0)
-    (c .before .before .reach-of .ensures) (c .before .before .before .offset-at .ensures .0) (c .mark .ensures)
+    let p = c .before .before .before .before .before .before .before .before .before .pre in
+    hop-met (p .0) (p .1) _ (c .before .before .before .before .before .before .node-at .ensures .0) (c .before .before .before .before .before .node-at2 .ensures .0)
+    (c .before .before .before .reach-of .ensures) (c .before .before .before .before .offset-at .ensures .0) (c .before .mark .ensures) (c .if1 .taken)
+
+returns-2 : tie.Need-returns-2
+returns-2 c =
+    let p = c .before .before .before .before .before .before .before .before .before .before .pre in
+    hop-marked (p .0) (p .1) _ (c .before .before .before .before .before .before .before .node-at .ensures .0) (c .before .before .before .before .before .before .node-at2 .ensures .0)
+    (c .before .before .before .before .reach-of .ensures) (c .before .before .before .before .before .offset-at .ensures .0) (c .before .before .mark .ensures) (c .before .if1 .left)
+    (c .agrees .ensures)
 
 pub hop-meets-spec : {M : Type 1} → statement M
 hop-meets-spec =
@@ -38,4 +45,6 @@ hop-meets-spec =
     (λ c κs. search needs)
     reach-of-requires
     mark-requires
-    returns)
+    returns
+    (λ c κs. c .before .before .before .before .before .before .before .before .before .pre .4)
+    returns-2)

@@ -1,71 +1,69 @@
--- Each row is compared with the index of those before it, and marked in it.
-use mathlib.Core.Path.{sym, subst}
+-- Each row is compared with those before it.
+use mathlib.Core.Path.{_≡_, refl, ap, subst}
+use Prim.Native.Nat.{ℕ, _+_, _-_, _≤_}
 use native.Mathlib.Omega.{arith}
 use borrow.Author.Needs.{needs}
-use Rattle.rules.specs.Tiles.{Period}
+use lib.ListN.{length, replicate}
+use Rattle.rules.specs.Tiles.{Plan}
 use Rattle.rules.proofs.Tests.{fails}
+use Rattle.index.specs.Index.{indexLength}
 use Rattle.rows.specs.Walk.{RowStands}
-use Rattle.rules.proofs.Periods.{found-at, found-nowhere}
 use Rattle.image.proofs.Walks.{rows-start}
 use Rattle.rows.proofs.Filling.{all-stand}
-use Rattle.meeting.proofs.Reaching.{plan-here, row-placed}
-use Rattle.meeting.proofs.Comparing.{Compared, compared-start, compared-row, compared-found, compared-next, compared-all, found-meeting}
+use Rattle.meeting.proofs.Comparing.{Compared, compared-start, compared-row, compared-behind, compared-found, compared-next, compared-all, found-meeting}
 use Rattle.meeting.proofs.hops_meet.Statement.{statement}
 use Rattle.meeting.proofs.hops_meet.Tie as tie
 
 abbrev Inv-loop : tie.InvT-loop
-Inv-loop image hearing index₀ slots at₀ left₀ index at left = Compared image at left index
+Inv-loop image hearing index₀ slots streams moduli₀ start at₀ left₀ index moduli at left =
+    (left ≤ streams) × Compared image start (streams - left) at left index × (length moduli ≡ 64)
 
 abbrev μ-loop : tie.MeasureT-loop
-μ-loop image hearing index₀ slots at₀ left₀ index at left = left
+μ-loop image hearing index₀ slots streams moduli₀ start at₀ left₀ index moduli at left = left
 
 loop-holds : tie.Need-loop-holds Inv-loop μ-loop
 loop-holds c =
-    let p = c .before .before .before .before .before .pre in
-    compared-start _ (rows-start (p .header) (c .rows-start .ensures)) (p .header .streams) (p .framed) (all-stand _ (p .framed) (p .rows)) (p .rows)
+    let a = c .before .before .before .before .before in
+    let p = a .pre in
+    let n : ℕ = a .args .book .streams in
+    let e : 0 ≡ n - n = omega arith in (
+      omega arith,
+      subst (λ (k : ℕ). Compared (a .args .image .now) (c .rows-start .result) k (c .rows-start .result) n (replicate indexLength 0)) e
+          (compared-start _ (rows-start (p .header) (c .rows-start .ensures)) (p .header .streams) (p .framed) (all-stand _ (p .framed) (p .rows)) (p .rows)),
+      refl,
+    )
 
 -- the row at the place
 row : (c : tie.In-loop Inv-loop μ-loop) → RowStands (c .before .before .before .before .before .before .before .args .image .now) (c .before .loop .at)
-row c = compared-row (c .before .loop .inv) (c .loop-test .taken)
+row c = compared-row (c .before .loop .inv .1) (c .loop-test .taken)
+
+compare-requires : tie.Need-compare-requires Inv-loop μ-loop
+compare-requires c κs =
+    let loop = c .before .before .before .loop in
+    let p = c .before .before .before .before .before .before .before .before .before .pre in
+    (compared-behind (loop .inv .1) (c .before .before .loop-test .taken) (loop .inv .2), p .hearing-read, ap (λ (plan : Plan). plan .slots) (p .header .plan))
 
 returns : tie.Need-returns Inv-loop μ-loop
 returns c =
-    absurd (found-nowhere (c .before .before .place-of .ensures) (c .enum-told .given .1)
-    (subst Period (sym (c .before .before .before .period-at .ensures .0)) (row (c .before .before .before .before) .lawful .period)))
-
-repeats-of-requires : tie.Need-repeats-of-requires Inv-loop μ-loop
-repeats-of-requires c κs = (
-  plan-here (c .before .before .before .before .before .before .before .before .before .before .before .before .pre) .most,
-  omega
-      (arith, found-at (c .before .before .before .place-of .ensures) (c .before .period .given .1) .0),
-)
-
-row-meets-requires : tie.Need-row-meets-requires Inv-loop μ-loop
-row-meets-requires c κs =
-    let turn = c .before .before .before .before .before .before .before in
-    let p = turn .before .before .before .before .before .before .before .pre in (
-      row-placed p (row turn) (found-at (c .before .before .before .before .before .place-of .ensures) (c .before .before .before .period .given .1))
-          (c .before .before .before .before .before .before .period-at .ensures .0) (c .before .repeats-of .ensures),
-      p .hearing-read,
-      turn .before .loop .inv .index .size,
-    )
-
-returns-2 : tie.Need-returns-2 Inv-loop μ-loop
-returns-2 c =
-    let turn = c .before .before .before .before .before .before .before .before .before in
-    found-meeting (compared-found (turn .before .loop .inv) (turn .loop-test .taken) (c .before .row-meets .ensures .met .yes (c .if1 .taken)))
-
-next-requires : tie.Need-next-requires Inv-loop μ-loop
-next-requires c κs = row (c .before .before .before .before .before .before .before .before .before) .whole
+    let loop = c .before .before .before .before .before .loop in
+    found-meeting (compared-found (loop .inv .1) (c .before .before .before .before .loop-test .taken) (c .before .compare .ensures .0 .met .yes (c .if1 .taken)))
 
 loop-again : tie.Need-loop-again Inv-loop μ-loop
 loop-again c =
-    let turn = c .before .before .before .before .before .before .before .before .before .before in
-    let met = c .before .before .row-meets .ensures in
-    compared-next (turn .before .loop .inv) (turn .loop-test .taken) (fails (met .met) (c .before .if1 .left)) (met .adds (c .before .if1 .left)) (c .next .ensures .0)
+    let loop = c .before .before .before .before .before .before .loop in
+    let a = c .before .before .before .before .before .before .before .before .before .before .before .before in
+    let more = c .before .before .before .before .before .loop-test .taken in
+    let said = c .before .before .compare .ensures in
+    let no = c .before .if1 .left in
+    let n : ℕ = a .args .book .streams in
+    let e : n - loop .left + 1 ≡ n - (loop .left - 1) = omega (arith, loop .inv .0, more) in (
+      omega (arith, loop .inv .0),
+      compared-next (loop .inv .1) more (fails (said .0 .met) no) (said .0 .row-in no) (c .next .ensures .0) e,
+      said .1,
+    )
 
-returns-3 : tie.Need-returns-3 Inv-loop μ-loop
-returns-3 c = compared-all (c .before .loop .inv) (omega arith)
+returns-2 : tie.Need-returns-2 Inv-loop μ-loop
+returns-2 c = compared-all (c .before .loop .inv .1) (omega arith)
 
 pub hops-meet-spec : {M : Type 1} → statement M
 hops-meet-spec =
@@ -75,16 +73,11 @@ hops-meet-spec =
     μ-loop
     (λ c κs. omega arith)
     loop-holds
-    (λ c κs. row c .whole)
-    (λ c κs. search needs)
-    (λ c. search needs)
-    (λ c. search needs)
+    (λ c. c .before .loop .inv .0)
+    compare-requires
     returns
-    repeats-of-requires
-    row-meets-requires
-    returns-2
-    next-requires
+    (λ c κs. row (c .before .before .before .before) .whole)
     (λ c. omega arith)
     (λ c. omega arith)
     loop-again
-    returns-3)
+    returns-2)

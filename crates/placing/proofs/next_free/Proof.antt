@@ -8,25 +8,25 @@ use Rattle.rules.specs.Tiles.{periodAt}
 use Rattle.rules.specs.Periods.{thePlan}
 use Rattle.rules.proofs.Tests.{fails}
 use Rattle.index.specs.Marks.{InReach}
-use Rattle.placing.specs.Answers.{FreeBy}
+use Rattle.placing.specs.Answers.{around, FreeBy}
 use Rattle.placing.proofs.next_free.Statement.{statement}
 use Rattle.placing.proofs.next_free.Tie as tie
 
 abbrev Inv-loop : tie.InvT-loop
-Inv-loop plan place index reach lo repeats o₀ o =
-    (lo ≤ o) × ((k : ℕ) → k < o → lo ≤ k → FreeBy (InReach reach) (thePlan plan) index (periodAt place) k → ⊥)
+Inv-loop plan place index image start rows moduli first taken reach lo repeats o₀ o =
+    (lo ≤ o) × ((k : ℕ) → k < o → lo ≤ k → FreeBy (InReach reach) (thePlan plan) (around index image start rows moduli first taken) (periodAt place) k → ⊥)
 
 abbrev μ-loop : tie.MeasureT-loop
-μ-loop plan place index reach lo repeats o₀ o = repeats .span .0 - o
+μ-loop plan place index image start rows moduli first taken reach lo repeats o₀ o = repeats .span .0 - o
 
 loop-holds : tie.Need-loop-holds Inv-loop μ-loop
 loop-holds c = (le-refl _, λ k h l. absurd (omega arith))
 
 is-free-requires : tie.Need-is-free-requires Inv-loop μ-loop
 is-free-requires c κs =
-    let p = c .before .before .before .before .pre in
+    let p = c .before .before .before .before .before .before .before .pre in
     let repeats = c .before .before .before .repeats-of .ensures in
-    (p .0, p .1, repeats, omega (arith, c .if1 .taken, repeats .span-is))
+    (p .0, p .1, repeats, omega (arith, c .if1 .taken, repeats .span-is), p .2)
 
 returns : tie.Need-returns Inv-loop μ-loop
 returns c =
@@ -52,7 +52,7 @@ next-free-spec =
     (tie.spec
     Inv-loop
     μ-loop
-    (λ c κs. (c .pre .0 .most, c .pre .1))
+    (λ c κs. let p = c .before .before .before .pre in (p .0 .most, p .1))
     loop-holds
     is-free-requires
     returns

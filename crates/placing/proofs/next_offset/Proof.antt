@@ -2,14 +2,19 @@
 use borrow.Author.Needs.{needs}
 use Rattle.rules.specs.Tiles.{periodAt}
 use Rattle.rules.specs.Periods.{thePlan}
+use Rattle.bitset.specs.Rows.{topology}
+use Rattle.clash.specs.Reach.{hop}
+use Rattle.placing.specs.Answers.{around}
 use Rattle.placing.proofs.Searching.{search-law}
 use Rattle.placing.proofs.next_offset.Statement.{statement}
 use Rattle.placing.proofs.next_offset.Tie as tie
 
 returns : tie.Need-returns
 returns c =
-    let a = c .before .before .before .args in
-    search-law (thePlan (a .plan)) (a .index .now) (periodAt (a .place)) (a .lo) _ (c .next-free .result) (c .before .reach-of .ensures) (c .next-free .ensures)
+    let a = c .before .before .before .before .before .before .args in
+    search-law (topology (a .hearing .now)) (hop (a .from) (a .to)) (c .before .reach-of .result) (thePlan (a .plan))
+    (around (a .index .now) (a .image .now) (a .start) (a .rows) (a .moduli .now) (a .first .now) (a .taken .now)) (periodAt (a .place)) (a .lo) _ (c .next-free .result)
+    (c .before .reach-of .ensures) (c .next-free .ensures)
 
 pub next-offset-spec : {M : Type 1} → statement M
 next-offset-spec = tie.close (tie.spec (λ c κs. search needs) (λ c κs. search needs) returns)

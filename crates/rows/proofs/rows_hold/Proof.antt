@@ -34,7 +34,7 @@ returns-2 : tie.Need-returns-2 Inv-loop μ-loop
 returns-2 c =
     let start = c .before .before .before .before .before .before .before .before .before .before in
     said-no (λ h. still-no (c .before .before .before .before .before .loop .inv) (omega arith) (λ g. fails (c .before .row-holds .ensures) (not-true _ (c .if2 .taken))
-    (row-by-read (start .pre) (g .row .lawful))) (all-fill _ (start .pre .framed) h))
+    (row-by-read (start .pre) (g .row))) (all-fill _ (start .pre .framed) h))
 
 follows-requires : tie.Need-follows-requires Inv-loop μ-loop
 follows-requires c κs =

@@ -10,10 +10,10 @@ use Rattle.rules.proofs.place_of.Statement.{statement}
 use Rattle.rules.proofs.place_of.Tie as tie
 
 abbrev Inv-loop : tie.InvT-loop
-Inv-loop period i₀ i = (i ≤ 7) × ((j : ℕ) → j < i → periodAt j ≡ period .0 → ⊥)
+Inv-loop period i₀ i = (i ≤ 10) × ((j : ℕ) → j < i → periodAt j ≡ period .0 → ⊥)
 
 abbrev μ-loop : tie.MeasureT-loop
-μ-loop period i₀ i = 7 - i
+μ-loop period i₀ i = 10 - i
 
 returns : tie.Need-returns Inv-loop μ-loop
 returns c = (search needs, c .if1 .taken)

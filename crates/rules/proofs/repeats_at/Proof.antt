@@ -8,7 +8,7 @@ use Rattle.rules.proofs.repeats_at.Tie as tie
 
 -- the table as the code has it
 table : List ℕ
-table = 100 ∷ 50 ∷ 20 ∷ 10 ∷ 5 ∷ 2 ∷ 1 ∷ []
+table = 1000 ∷ 500 ∷ 200 ∷ 100 ∷ 50 ∷ 20 ∷ 10 ∷ 5 ∷ 2 ∷ 1 ∷ []
 
 returns : tie.Need-returns
 unfolding table countsRight repeatsRight

@@ -1,16 +1,15 @@
 -- Offsets on data slots are tested until the kinds of the tiles come again.
-use mathlib.Core.Path.{sym, subst, _∙_}
+use mathlib.Core.Path.{sym, ap, subst, _∙_}
 use mathlib.Core.Logic.{inl, inr, ⊎-elim}
 use Prim.Native.Nat.{ℕ, _+_, _*_, _-_, _<_, _≤_}
 use native.Mathlib.Omega.{arith}
-use native.Mathlib.Nat.{mul-le-mul}
 use borrow.Author.Tests.{not-true, not-false}
 use borrow.Author.Needs.{needs}
 use borrow.Author.Count.{below-more}
-use Rattle.rules.specs.Tiles.{Data, periodAt, cycleTiles}
+use Rattle.rules.specs.Tiles.{Data, periodAt}
 use Rattle.rules.specs.Periods.{thePlan}
 use Rattle.rules.proofs.Tests.{fails, said-yes, said-no}
-use Rattle.rules.proofs.Bytes.{tiles-small}
+use Rattle.rules.proofs.Periods.{at-period, turn-within}
 use Rattle.rules.proofs.Plans.{tiles-some, on-data-tests, not-on-data}
 use Rattle.rules.proofs.turns_on_data.Statement.{statement}
 use Rattle.rules.proofs.turns_on_data.Tie as tie
@@ -25,19 +24,22 @@ abbrev μ-loop : tie.MeasureT-loop
 loop-holds : tie.Need-loop-holds Inv-loop μ-loop
 loop-holds c = (omega arith, λ t l. absurd (omega arith))
 
+-- each slot that is looked at is one of the cycle
 mul-t9 : tie.Need-mul-t9 Inv-loop μ-loop
 mul-t9 c =
     let e = c .before .before .before .before .before .before in
-    let few : c .before .before .loop .turn ≤ 10 = omega (arith, tiles-small _ (e .pre .0 .tiles)) in
-    let short : c .before .before .before .span .result .0 ≤ cycleTiles * 32 = omega (arith, e .pre .0 .most) in
-    omega (arith, mul-le-mul few short)
+    let f = c .before .before .before .before in
+    let most = turn-within (e .args .plan .slots .0) (periodAt (e .args .i)) (e .args .o .0) (c .before .before .loop .turn) (at-period _ (e .pre .1)) (e .pre .2)
+    (omega (arith, f .fewer .ensures .1, f .before .repeats-at .ensures .0)) in
+    omega (arith, most, e .pre .0 .most, ap (λ (x : ℕ). c .before .before .loop .turn * x) (c .before .before .before .span .ensures .0))
 
 add-t10 : tie.Need-add-t10 Inv-loop μ-loop
 add-t10 c =
     let e = c .before .before .before .before .before .before .before in
-    let few : c .before .before .before .loop .turn ≤ 10 = omega (arith, tiles-small _ (e .pre .0 .tiles)) in
-    let short : c .before .before .before .before .span .result .0 ≤ cycleTiles * 32 = omega (arith, e .pre .0 .most) in
-    omega (arith, mul-le-mul few short)
+    let f = c .before .before .before .before .before in
+    let most = turn-within (e .args .plan .slots .0) (periodAt (e .args .i)) (e .args .o .0) (c .before .before .before .loop .turn) (at-period _ (e .pre .1)) (e .pre .2)
+    (omega (arith, f .fewer .ensures .1, f .before .repeats-at .ensures .0)) in
+    omega (arith, most, e .pre .0 .most, ap (λ (x : ℕ). c .before .before .before .loop .turn * x) (c .before .before .before .before .span .ensures .0))
 
 returns : tie.Need-returns Inv-loop μ-loop
 returns c =

@@ -1,44 +1,46 @@
 -- A hop's entries are written one turn after the other.
-use mathlib.Core.Path.{_≡_, refl}
-use Prim.Native.Nat.{_+_, _*_, _-_, _≤_}
+use mathlib.Core.Path.{_≡_, refl, subst}
+use Prim.Native.Nat.{ℕ, _-_}
 use native.Mathlib.Omega.{arith}
 use lib.ListN.{length}
+use borrow.Author.Needs.{needs}
 use Rattle.operations.specs.Operations.{whereWorking}
 use Rattle.tables.specs.Entries.{Over, Repeated}
-use Rattle.tables.proofs.Writing.{turn-none, turn-more, turn-all, turn-room}
+use Rattle.tables.proofs.Writing.{Stepping, step-none, step-more, step-all}
 use Rattle.tables.proofs.repeat.Statement.{statement}
 use Rattle.tables.proofs.repeat.Tie as tie
 
 abbrev Inv-loop : tie.InvT-loop
-Inv-loop out₀ offset step turns operation id slot₀ turn₀ out slot turn =
-    (length out ≡ length out₀) × (turn ≤ turns) × (slot ≡ offset + turn * step)
-    × Over (turns * step) (Repeated offset step operation (whereWorking operation id) turn) out₀ out
+Inv-loop out₀ place end operation id by slot₀ out slot = (length out ≡ length out₀) × Stepping end place by operation (whereWorking operation id) out₀ slot out
 
 abbrev μ-loop : tie.MeasureT-loop
-μ-loop out₀ offset step turns operation id slot₀ turn₀ out slot turn = turns - turn
-
-loop-holds : tie.Need-loop-holds Inv-loop μ-loop
-loop-holds c = (refl, omega arith, omega arith, turn-none)
+μ-loop out₀ place end operation id by slot₀ out slot = end - slot
 
 put-requires : tie.Need-put-requires Inv-loop μ-loop
-put-requires c κs = omega (arith, turn-room (c .before .before .before .before .args .step) (c .before .loop-test .taken))
+put-requires c κs = omega (arith, c .before .loop-test .taken, c .before .before .loop .inv .0, c .before .before .before .before .before .pre .1)
 
 add-slot : tie.Need-add-slot Inv-loop μ-loop
-add-slot c = omega (arith, turn-room (c .before .before .before .before .before .before .before .args .step) (c .before .before .before .before .loop-test .taken))
+add-slot c =
+    let st = c .before .before .before .before .before .before .before .before in
+    omega (arith, c .before .before .before .before .loop-test .taken, c .before .before .before .before .before .before .wide .ensures .1, st .pre .1)
+
+loop-less : tie.Need-loop-less Inv-loop μ-loop
+loop-less c =
+    let st = c .before .before .before .before .before .before .before .before in
+    omega (arith, c .before .before .before .before .loop-test .taken, c .before .before .before .before .before .before .wide .ensures .0, st .pre .0)
 
 loop-again : tie.Need-loop-again Inv-loop μ-loop
 loop-again c =
-    let st = c .before .before .before .before .before .before .before in
     let l = c .before .before .before .before .before .loop in
-    let w = c .before .before .before .before .loop-test .taken in
-    let f = turn-room (st .args .step) w in
-    (omega (arith, c .before .before .put .kept .0), omega arith, omega arith, turn-more (l .inv .3) (c .before .before .put .ensures) (omega arith) (l .inv .2) refl refl)
-
-same-length : tie.Need-same-length Inv-loop μ-loop
-same-length c = c .before .loop .inv .0
+    let p = c .before .before .put in
+    (omega (arith, p .kept .0, l .inv .0), step-more (l .inv .1) (p .ensures) (c .before .before .before .before .loop-test .taken))
 
 returns : tie.Need-returns Inv-loop μ-loop
-returns c = turn-all (c .before .loop .inv .1) (c .loop-test .left) (c .before .loop .inv .3)
+returns c =
+    let st = c .before .before .before .before in
+    let a = st .args in
+    subst (λ (step : ℕ). Over (a .end) (Repeated (a .place) step (a .operation) (whereWorking (a .operation) (a .id))) (a .out .now) (c .before .loop .out)) (c .before .before .wide .ensures .0)
+    (step-all (c .loop-test .left) (c .before .loop .inv .1))
 
 pub repeat-spec : {M : Type 1} → statement M
 repeat-spec =
@@ -46,11 +48,11 @@ repeat-spec =
     (tie.spec
     Inv-loop
     μ-loop
-    loop-holds
+    (λ c κs. search needs)
+    (λ c. (refl, step-none))
     put-requires
     add-slot
-    (λ c. omega arith)
-    (λ c. omega arith)
+    loop-less
     loop-again
-    same-length
+    (λ c. c .before .loop .inv .0)
     returns)

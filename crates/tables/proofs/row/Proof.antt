@@ -8,7 +8,7 @@ use Rattle.tables.proofs.row.Tie as tie
 visit-requires : tie.Need-visit-requires
 visit-requires c κs =
     let st = c .before .before .before .before .before .before .before in
-    (st .pre .0, (stop-at (c .before .before .before .before .stop-of .ensures) (c .before .before .stop .given .1) .within, st .pre .1))
+    (st .pre .0, st .pre .1, stop-at (c .before .before .before .before .stop-of .ensures) (c .before .before .stop .given .1) .within)
 
 returns : tie.Need-returns
 returns c =

@@ -11,11 +11,11 @@ returns c =
     let part = words .before .before .before .before in
     let count = part .before .before .before .before in
     let period = count .before .before .before .before in
-    let way = period .before .before .before .before .before in
+    let way = period .before .before .before .before in
     let id = way .before .before .before .before in
     let a = id .before .before .before .before .before in
-    row-written _ _ _ _ _ _ _ _ _ _ _ _ (a .args .offsets .now) (omega (arith, a .pre .1)) (a .pre .0 .0) (id .put-word .ensures) (way .put .ensures) (period .put2 .ensures)
-    (count .put3 .ensures) (part .put-part .ensures) (words .put-words .ensures)
+    row-written _ _ _ _ _ _ _ _ _ _ _ _ (a .args .offsets .now) (omega (arith, a .pre .1)) (a .pre .0 .0) (id .put-word .ensures) (way .put .ensures) (period .put-word2 .ensures)
+    (count .put2 .ensures) (part .put-part .ensures) (words .put-words .ensures)
 
 pub put-row-spec : {M : Type 1} → statement M
 put-row-spec =
@@ -24,7 +24,6 @@ put-row-spec =
     (λ c κs. search needs)
     (λ c. search needs)
     (λ c κs. search needs)
-    (λ c. search needs)
     (λ c. search needs)
     (λ c κs. search needs)
     (λ c. search needs)

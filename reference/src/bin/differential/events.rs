@@ -4,6 +4,7 @@ use reference::book::Book;
 use reference::calls::{MAX_LISTED, MAX_RECORDS};
 use reference::frame::{Answer, Call, Request};
 use reference::image;
+use reference::plan::LONGEST_QUICK_PERIOD;
 use reference::record::{RECORD_BYTES, Record};
 use reference::refusal::DONE;
 use reference::version::Version;
@@ -21,6 +22,8 @@ const HEARD_FURTHER: &str = "calls done on a book that hears further than its li
 const KEPT: &str = "books that keep to a mains set";
 const NOT_KEPT: &str = "books that do not keep to a mains set";
 const SHORT_INDEX: &str = "postings refused for a short index";
+const SLOW_READ: &str = "calls done on a book with a period over 100";
+const LATE_TILES: &str = "tables of tiles from 100 on";
 const EMPTY_LIST: &str = "postings of an empty list";
 const NONE_DONE: &str = "postings of which no record was done";
 const ALL_DONE: &str = "postings of which every record was done";
@@ -29,7 +32,7 @@ const LONGEST_LIST: &str = "postings of 64 records";
 const NO_LINKS: &str = "nodes without a link";
 const MOST_LINKS: &str = "nodes with 63 links";
 
-pub const EVENTS: [&str; 20] = [
+pub const EVENTS: [&str; 22] = [
     NO_ROUTE,
     FEW_ROUTES,
     ALL_LISTED,
@@ -43,6 +46,8 @@ pub const EVENTS: [&str; 20] = [
     KEPT,
     NOT_KEPT,
     SHORT_INDEX,
+    SLOW_READ,
+    LATE_TILES,
     EMPTY_LIST,
     NONE_DONE,
     ALL_DONE,
@@ -77,6 +82,12 @@ pub fn events(request: &Request, answer: &Answer) -> Vec<&'static str> {
     }
     if book.topology.hearing != book.topology.links {
         events.push(HEARD_FURTHER);
+    }
+    if book.rows.iter().any(|row| row.period > LONGEST_QUICK_PERIOD) {
+        events.push(SLOW_READ);
+    }
+    if request.call == Call::Expand && request.first >= 100 {
+        events.push(LATE_TILES);
     }
     if request.call == Call::Open && request.second {
         events.push(SECOND_OPENED);

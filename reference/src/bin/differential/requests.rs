@@ -53,8 +53,13 @@ pub fn close(book: &[u8], id: u16) -> Request {
     Request { id, ..on(Call::Close, book) }
 }
 
+/// The first 100 tiles of a node's table.
 pub fn expand(book: &[u8], node: u8) -> Request {
-    Request { node, ..on(Call::Expand, book) }
+    expand_tiles(book, node, 0, 100)
+}
+
+pub fn expand_tiles(book: &[u8], node: u8, first: u16, tiles: u16) -> Request {
+    Request { node, first, tiles, ..on(Call::Expand, book) }
 }
 
 pub fn balance(book: &[u8], node: u8) -> Request {
@@ -137,7 +142,10 @@ pub fn any(dice: &mut Dice, call: Call, book: &[u8], ids: &[u16]) -> Request {
         Call::Rewrite => rewrite(book),
         Call::Open => any_open(dice, book, nodes, ids),
         Call::Close => close(book, any_id(dice, ids, 80)),
-        Call::Expand => expand(book, any_node(dice, nodes)),
+        Call::Expand => {
+            let (first, tiles) = any_tiles(dice);
+            expand_tiles(book, any_node(dice, nodes), first, tiles)
+        }
         Call::Balance => balance(book, any_node(dice, nodes)),
         Call::Links => links(book, any_node(dice, nodes)),
         Call::Routes => {
@@ -198,12 +206,22 @@ fn any_ends(dice: &mut Dice, nodes: u8) -> (u8, u8) {
     (source, if same { source } else { any_node(dice, nodes) })
 }
 
-/// Mostly one of the seven.
+/// A first tile and a count, mostly in the cycle and few.
+fn any_tiles(dice: &mut Dice) -> (u16, u16) {
+    match dice.below(12) {
+        0 => (dice.bits() as u16, dice.bits() as u16),
+        1 => (dice.between(900, 1010) as u16, dice.between(0, 101) as u16),
+        2 => (0, 100),
+        _ => (dice.below(1000) as u16, dice.between(1, 12) as u16),
+    }
+}
+
+/// Mostly one of the ten.
 fn any_period(dice: &mut Dice) -> u16 {
     match dice.below(24) {
         0 => dice.bits() as u16,
-        1 => dice.pick(&[0, 3, 4, 25, 49, 51, 99, 101, 200, 257, 258, 356, 25600]),
-        _ => u16::from(dice.pick(&PERIODS)),
+        1 => dice.pick(&[0, 3, 4, 25, 99, 101, 199, 232, 244, 257, 258, 456, 999, 1001, 25600]),
+        _ => dice.pick(&PERIODS),
     }
 }
 

@@ -181,7 +181,7 @@ pub fn ids(book: &Book) -> Vec<u16> {
 
 /// Opens a stream as the planner does, past the limits of a book if need be;
 /// false where it has no route or placing.
-pub fn add_stream(book: &mut Book, id: u16, source: u8, destination: u8, period: u8) -> bool {
+pub fn add_stream(book: &mut Book, id: u16, source: u8, destination: u8, period: u16) -> bool {
     let mains = NodeSet::all(book.topology.nodes());
     let Ok(nodes) = planners_route(&book.topology, mains, source, destination) else {
         return false;
@@ -192,8 +192,8 @@ pub fn add_stream(book: &mut Book, id: u16, source: u8, destination: u8, period:
 }
 
 /// Opens a stream with a second route; false where it is refused.
-pub fn add_with_second(book: &mut Book, id: u16, source: u8, destination: u8, period: u8) -> bool {
-    let asked = Open { id, source, destination, period: u16::from(period), second: true };
+pub fn add_with_second(book: &mut Book, id: u16, source: u8, destination: u8, period: u16) -> bool {
+    let asked = Open { id, source, destination, period, second: true };
     let opened = change::open(book, NodeSet::all(book.topology.nodes()), asked);
     let done = opened.is_ok();
     *book = opened.unwrap_or_else(|_| book.clone());

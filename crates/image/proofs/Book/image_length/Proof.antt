@@ -8,7 +8,7 @@ use Rattle.image.proofs.Places.{rows-most}
 use Rattle.image.proofs.Book.image_length.Statement.{statement}
 use Rattle.image.proofs.Book.image_length.Tie as tie
 
-few : (row n : ℕ) → row ≤ 6 → n ≤ 255 → row * n ≤ 1530
+few : (row n : ℕ) → row ≤ 7 → n ≤ 255 → row * n ≤ 1785
 few row n l m = mul-le-mul l m
 
 mul-result : tie.Need-mul-result

@@ -11,7 +11,7 @@ use Rattle.rules.specs.Placing.{Full}
 use Rattle.rules.proofs.Tests.{fails}
 use Rattle.rules.proofs.Reading.{rowsIn, bookIn}
 use Rattle.opening.proofs.Outcomes.{out-refused, out-next}
-use Rattle.opening.proofs.Placed.{placing-asked, placed-first, placed-none}
+use Rattle.opening.proofs.Placed.{asked-route}
 use Rattle.opening.proofs.Routed.{tests-full}
 use borrow.Author.Needs.{needs}
 use Rattle.opening.proofs.ways.open_both.Statement.{statement}
@@ -47,44 +47,41 @@ returns : tie.Need-returns
 returns c = out-refused (full (c .before .before) .yes (c .before .if1 .taken)) (λ z. omega arith) (c .refused .ensures .0)
     (c .before .before .before .before .before .before .before .pre .first-route .new .asked .image .index)
 
-first-placing-requires : tie.Need-first-placing-requires
-first-placing-requires c κs = placing-asked (c .before .before .before .before .before .before .before .before .pre .first-route)
+place-alone-requires : tie.Need-place-alone-requires
+place-alone-requires c κs = asked-route (c .before .before .before .before .before .before .before .before .pre .first-route)
 
 array-share-prefix-offsets : tie.Need-array-share-prefix-offsets
 array-share-prefix-offsets c =
-    let n : length (c .before .before .before .before .first-placing .result .offsets) ≡ 15 = search needs in
+    let n : length (c .before .before .before .before .place-alone .result .offsets) ≡ 15 = search needs in
     omega (arith, c .before .before .before .before .before .before .before .before .before .before .before .before .before .pre .first-route .few)
 
-slice-aggregate-open-second : tie.Need-slice-aggregate-open-second
-slice-aggregate-open-second c =
+slice-aggregate-place-second : tie.Need-slice-aggregate-place-second
+slice-aggregate-place-second c =
     let a = c .before .before .before .before .before .before .before .before .before .before .before .before .before .before in
-    let offsets : List ℕ = c .before .before .before .before .before .first-placing .result .offsets in
-    let ok = c .before .before .before .before .before .first-placing .ok in
+    let offsets : List ℕ = c .before .before .before .before .before .place-alone .result .offsets in
+    let ok = c .before .before .before .before .before .place-alone .ok in
     let n : length offsets ≡ 15 = search needs in
     sym (length-take-le (length (a .args .first .now) - 1) offsets (omega (arith, a .pre .first-route .few)))
 
-open-second-requires : tie.Need-open-second-requires
-open-second-requires c κs =
+place-second-requires : tie.Need-place-second-requires
+place-second-requires c κs =
     let a = c .before .before .before .before .before .before .before .before .before .before .before .before .before .before .before in
-    let found = c .before .before .before .before .before .before .first-placing in
+    let found = c .before .before .before .before .before .before .place-alone in
     record {
       routes = a .pre;
-      placed = placed-first (a .pre .first-route) (rowsIn (a .args .image .now)) _ (a .pre .first-route .new .asked .image .index) (found .result .found) (found .result .offsets) (found .ensures)
-          (c .before .before .before .enum-told2 .given .1);
+      placed = found .ensures .placed (c .before .before .before .enum-told2 .given .1);
       room = room (c .before .before .before .before .before .before .before .before .before);
     }
 
 returns-2 : tie.Need-returns-2
 returns-2 c =
     let a = c .before .before .before .before .before .before .before .before .before .before .before .before .before in
-    let found = c .before .before .before .before .first-placing in
+    let found = c .before .before .before .before .place-alone in
     out-next (room (c .before .before .before .before .before .before .before))
-    (out-refused (inl (placed-none (a .pre .first-route) (rowsIn (a .args .image .now)) _ (a .pre .first-route .new .asked .image .index) (found .result .found) (found .result .offsets)
-    (found .ensures)
-    (c .before .enum-told .given .1))) (λ z. omega arith) (c .refused2 .ensures .0) (a .pre .first-route .new .asked .image .index))
+    (out-refused (inl (found .ensures .none (c .before .enum-told .given .1))) (λ z. omega arith) (c .refused2 .ensures .0) (a .pre .first-route .new .asked .image .index))
 
 returns-3 : tie.Need-returns-3
-returns-3 c = c .open-second .ensures
+returns-3 c = c .place-second .ensures
 
 pub open-both-spec : {M : Type 1} → statement M
 open-both-spec =
@@ -96,12 +93,12 @@ open-both-spec =
     is-full-requires
     (λ c κs. search needs)
     returns
-    first-placing-requires
+    place-alone-requires
     (λ c. search needs)
     (λ c κs. search needs)
     (λ c. search needs)
     array-share-prefix-offsets
-    slice-aggregate-open-second
-    open-second-requires
+    slice-aggregate-place-second
+    place-second-requires
     returns-2
     returns-3)

@@ -12,7 +12,7 @@ use Rattle.rules.specs.Placing.{Full}
 use Rattle.rules.proofs.Tests.{fails}
 use Rattle.rules.proofs.Reading.{rowsIn, bookIn}
 use Rattle.opening.proofs.Outcomes.{out-refused, out-next}
-use Rattle.opening.proofs.Placed.{placing-asked, placed-first, placed-none}
+use Rattle.opening.proofs.Placed.{asked-route}
 use Rattle.opening.proofs.Routed.{routed-in, new-row, tests-full}
 use Rattle.opening.proofs.Both.{one-kept}
 use borrow.Author.Needs.{needs}
@@ -38,44 +38,41 @@ returns : tie.Need-returns
 returns c = out-refused (full (c .before .before) .yes (c .before .if1 .taken)) (λ z. omega arith) (c .refused .ensures .0)
     (c .before .before .before .before .before .before .pre .new .asked .image .index)
 
-first-placing-requires : tie.Need-first-placing-requires
-first-placing-requires c κs = placing-asked (c .before .before .before .before .before .before .before .pre)
+place-alone-requires : tie.Need-place-alone-requires
+place-alone-requires c κs = asked-route (c .before .before .before .before .before .before .before .pre)
 
 array-share-prefix-offsets : tie.Need-array-share-prefix-offsets
 array-share-prefix-offsets c =
-    let n : length (c .before .before .before .before .first-placing .result .offsets) ≡ 15 = search needs in
+    let n : length (c .before .before .before .before .place-alone .result .offsets) ≡ 15 = search needs in
     omega (arith, c .before .before .before .before .before .before .before .before .before .before .before .before .pre .few)
 
 slice-aggregate-keep-one : tie.Need-slice-aggregate-keep-one
 slice-aggregate-keep-one c =
     let a = c .before .before .before .before .before .before .before .before .before .before .before .before .before in
-    let offsets : List ℕ = c .before .before .before .before .before .first-placing .result .offsets in
-    let ok = c .before .before .before .before .before .first-placing .ok in
+    let offsets : List ℕ = c .before .before .before .before .before .place-alone .result .offsets in
+    let ok = c .before .before .before .before .before .place-alone .ok in
     let n : length offsets ≡ 15 = search needs in
     sym (length-take-le (length (a .args .route .now) - 1) offsets (omega (arith, a .pre .few)))
 
 keep-one-requires : tie.Need-keep-one-requires
 keep-one-requires c κs =
     let a = c .before .before .before .before .before .before .before .before .before .before .before .before .before .before in
-    let found = c .before .before .before .before .before .before .first-placing in
-    let first = placed-first (a .pre) (rowsIn (a .args .image .now)) _ (a .pre .new .asked .image .index) (found .result .found) (found .result .offsets) (found .ensures)
-    (c .before .before .before .enum-told2 .given .1) in
+    let found = c .before .before .before .before .before .before .place-alone in
+    let first = found .ensures .placed (c .before .before .before .enum-told2 .given .1) in
     one-kept (a .pre) first (room (c .before .before .before .before .before .before .before .before .before))
 
 returns-2 : tie.Need-returns-2
 returns-2 c =
     let a = c .before .before .before .before .before .before .before .before .before .before .before .before in
-    let found = c .before .before .before .before .first-placing in
+    let found = c .before .before .before .before .place-alone in
     out-next (room (c .before .before .before .before .before .before .before))
-    (out-refused (inl (placed-none (a .pre) (rowsIn (a .args .image .now)) _ (a .pre .new .asked .image .index) (found .result .found) (found .result .offsets) (found .ensures)
-    (c .before .enum-told .given .1))) (λ z. omega arith) (c .refused2 .ensures .0) (a .pre .new .asked .image .index))
+    (out-refused (inl (found .ensures .none (c .before .enum-told .given .1))) (λ z. omega arith) (c .refused2 .ensures .0) (a .pre .new .asked .image .index))
 
 returns-3 : tie.Need-returns-3
 returns-3 c =
     let a = c .before .before .before .before .before .before .before .before .before .before .before .before .before .before .before in
-    let found = c .before .before .before .before .before .before .before .first-placing in
-    let first = placed-first (a .pre) (rowsIn (a .args .image .now)) _ (a .pre .new .asked .image .index) (found .result .found) (found .result .offsets) (found .ensures)
-    (c .before .before .before .before .enum-told2 .given .1) in
+    let found = c .before .before .before .before .before .before .before .place-alone in
+    let first = found .ensures .placed (c .before .before .before .before .enum-told2 .given .1) in
     routed-in (a .args .image .now) (theAsked (a .args .q)) _ _ (new-row (theAsked (a .args .q)) 1 _ _ first, tt)
     (room (c .before .before .before .before .before .before .before .before .before .before)) (c .keep-one .ensures)
 
@@ -87,7 +84,7 @@ open-one-spec =
     is-full-requires
     (λ c κs. search needs)
     returns
-    first-placing-requires
+    place-alone-requires
     (λ c. search needs)
     (λ c κs. search needs)
     (λ c. search needs)

@@ -7,7 +7,7 @@ use Rattle.index.specs.Turns.{RepeatsOf}
 use Rattle.index.specs.Marks.{Adds, HopsTake}
 use Rattle.index.proofs.Rows.{hops-none, hops-done}
 use Rattle.placing.specs.Marking.{rowOn}
-use Rattle.placing.proofs.Hops.{hop-inside, node-small, marked-more}
+use Rattle.placing.proofs.Hops.{hop-inside, node-small, marked-more, marked}
 use Rattle.placing.proofs.marking.mark.Statement.{statement}
 use Rattle.placing.proofs.marking.mark.Tie as tie
 
@@ -50,11 +50,19 @@ loop-again c =
       λ S w id way. marked-more w (loop .loop .i) id way (loop .loop .inv .1 S w id way) (c .mark .ensures),
     )
 
+note-requires : tie.Need-note-requires Inv-loop μ-loop
+note-requires c κs =
+    let loop = c .before .before .before in
+    omega (arith, loop .before .before .before .before .pre .1, loop .loop .inv .1 _ (loop .before .repeats-of .ensures) 0 0 .size)
+
 returns : tie.Need-returns Inv-loop μ-loop
 returns c =
-    let loop = c .before in
+    let loop = c .before .before .before .before in
     let start = loop .before .before .before .before in
-    λ id way. hops-done _ _ (omega (arith, loop .loop .inv .0, c .loop-test .left, start .pre .0 .count)) (loop .loop .inv .1 _ (loop .before .repeats-of .ensures) id way)
+    marked
+    (λ id way.
+    hops-done _ _ (omega (arith, loop .loop .inv .0, c .before .before .before .loop-test .left, start .pre .0 .count)) (loop .loop .inv .1 _ (loop .before .repeats-of .ensures) id way))
+    (c .before .period-at .ensures .0) (c .note .ensures)
 
 pub mark-spec : {M : Type 1} → statement M
 mark-spec =
@@ -73,4 +81,6 @@ mark-spec =
     (λ c. omega arith)
     (λ c. omega arith)
     loop-again
+    (λ c κs. c .before .before .before .before .before .before .pre .0 .period)
+    note-requires
     returns)

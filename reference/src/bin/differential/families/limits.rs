@@ -166,7 +166,7 @@ fn every_plan(driver: &mut Driver, dice: &mut Dice) {
             let plan = Plan { s, c, kinds, d: s / 2, u: s / 3 };
             let image = any_image(dice, &empty_book(plan, line(3)));
             for period in PERIODS {
-                let request = open(&image, 9, 0, 2, u16::from(period));
+                let request = open(&image, 9, 0, 2, period);
                 let answer = driver.ask(request, Room::Exact);
                 if dice.chance(50) && answer.number == 0 {
                     driver.ask(expand(answer.written(), 1), Room::Exact);

@@ -13,6 +13,7 @@ mod postings;
 mod route_lists;
 mod second_routes;
 mod sequences;
+mod slow;
 mod unusual;
 
 use crate::dice::Dice;
@@ -51,6 +52,8 @@ pub fn fixed(driver: &mut Driver, dice: &mut Dice) {
     second_routes::ask(driver, dice);
     driver.family("lists of routes");
     route_lists::ask(driver);
+    driver.family("slow probes");
+    slow::ask(driver, dice);
     driver.family("mains sets");
     mains::ask(driver, dice);
     driver.family("postings around their limits");

@@ -120,7 +120,7 @@ fn change_row(dice: &mut Dice, row: &mut Row, other_id: u16, longest: u16) {
     match dice.below(13) {
         0 => row.id = dice.pick(&[0, 1, 65535, other_id, row.id ^ 1, row.id ^ 256]),
         1 => row.period = dice.pick(&PERIODS),
-        2 => row.period = dice.pick(&[0, 3, 4, 25, 99, 101, 200, 255]),
+        2 => row.period = dice.pick(&[0, 3, 4, 25, 99, 101, 199, 244, 255, 256, 456, 999, 1001]),
         3 => row.nodes.reverse(),
         4 => row.nodes[node] = [dice.below(64) as u8, 63, 64, 255][dice.below(4)],
         5 => row.nodes[node] = row.nodes[dice.below(row.nodes.len())],

@@ -26,7 +26,7 @@ fn hops() -> Vec<[u8; 2]> {
     (1..NODES).flat_map(|node| [[node - 1, node], [node, node - 1]]).collect()
 }
 
-fn ask_pair(driver: &mut Driver, dice: &mut Dice, one: ([u8; 2], u8), two: ([u8; 2], u8)) {
+fn ask_pair(driver: &mut Driver, dice: &mut Dice, one: ([u8; 2], u16), two: ([u8; 2], u16)) {
     let plan = open_plan(dice.pick(&[1, 2, 3, 32]));
     let mut topology = line(usize::from(NODES));
     if dice.chance(30) {
@@ -39,7 +39,7 @@ fn ask_pair(driver: &mut Driver, dice: &mut Dice, one: ([u8; 2], u8), two: ([u8;
         add_row(&mut book, 1, one, offset);
         let ([source, destination], period) = two;
         let image = any_image(dice, &book);
-        let request = open(&image, 2, source, destination, u16::from(period));
+        let request = open(&image, 2, source, destination, period);
         driver.ask(request, Room::Exact);
     } else {
         let offset = dice.below(book.plan.period_slots(one.1));
@@ -55,14 +55,14 @@ fn ask_pair(driver: &mut Driver, dice: &mut Dice, one: ([u8; 2], u8), two: ([u8;
     }
 }
 
-fn add_row(book: &mut Book, id: u16, (nodes, period): ([u8; 2], u8), offset: usize) {
+fn add_row(book: &mut Book, id: u16, (nodes, period): ([u8; 2], u16), offset: usize) {
     let (nodes, offsets) = (nodes.to_vec(), vec![offset as u16]);
     book.rows.push(Row { id, route: FIRST_ROUTE, period, nodes, offsets });
 }
 
 /// For a given offset and period, an offset of another period: mostly one that
 /// meets it, or one a slot or a tile beside that, or any.
-fn other_offset(dice: &mut Dice, plan: &Plan, given: (usize, u8), period: u8) -> usize {
+fn other_offset(dice: &mut Dice, plan: &Plan, given: (usize, u16), period: u16) -> usize {
     let taken: Vec<usize> = plan.slots_of(given.0, given.1).iter().collect();
     let length = plan.period_slots(period);
     match dice.below(6) {

@@ -130,7 +130,7 @@ fn knot() -> Book {
 
 /// Row 1 of stream 5, or what is given in its stead; no two rows of different
 /// routes have an offset in common.
-fn row(id: u16, route: u8, period: u8, nodes: &[u8]) -> Row {
+fn row(id: u16, route: u8, period: u16, nodes: &[u8]) -> Row {
     let first = 10 * u16::from(route);
     let offsets = (first..).take(nodes.len() - 1).collect();
     Row { id, route, period, nodes: nodes.to_vec(), offsets }

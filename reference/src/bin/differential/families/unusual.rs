@@ -86,7 +86,7 @@ fn roundabout_route(dice: &mut Dice, book: &Book) -> Vec<u8> {
 }
 
 /// Rising offsets, each thrown from those that serve and still leave room.
-fn late_offsets(dice: &mut Dice, book: &Book, route: &[u8], period: u8) -> Option<Vec<u16>> {
+fn late_offsets(dice: &mut Dice, book: &Book, route: &[u8], period: u16) -> Option<Vec<u16>> {
     let mut offsets: Vec<u16> = Vec::new();
     for (place, hop) in hops_of(route).enumerate() {
         let after = |&offset: &usize| offsets.last().is_none_or(|&last| offset > usize::from(last));

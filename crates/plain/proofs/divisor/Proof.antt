@@ -1,0 +1,24 @@
+-- Euclid's steps, until nothing is left.
+use native.Mathlib.Nat.{mod-lt}
+use native.Mathlib.Omega.{arith}
+use Rattle.plain.proofs.Euclid.{Stepping, stepping-more, stepping-done}
+use Rattle.plain.proofs.divisor.Statement.{statement}
+use Rattle.plain.proofs.divisor.Tie as tie
+
+abbrev Inv-loop : tie.InvT-loop
+Inv-loop a b x₀ y₀ x y = Stepping a b x y
+
+abbrev μ-loop : tie.MeasureT-loop
+μ-loop a b x₀ y₀ x y = y
+
+pub divisor-spec : {M : Type 1} → statement M
+divisor-spec =
+    tie.close
+    (tie.spec
+    Inv-loop
+    μ-loop
+    (λ c g d. d)
+    (λ c. c .loop-test .taken)
+    (λ c. mod-lt (c .before .loop .x) (c .loop-test .taken))
+    (λ c. stepping-more (c .before .loop .inv))
+    (λ c. stepping-done (c .loop-test .left) (c .before .loop .inv)))
