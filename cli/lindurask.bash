@@ -2,7 +2,7 @@
 _lindurask() {
     local word=${COMP_WORDS[COMP_CWORD]} before=${COMP_WORDS[COMP_CWORD - 1]} command=${COMP_WORDS[1]-} choices=
     COMPREPLY=()
-    local commands='new check show open close post quote routes table balance diff statement replan page help'
+    local commands='new check show open close post quote routes table balance diff statement replan salvage page help'
     if [ "$COMP_CWORD" = 1 ]; then
         mapfile -t COMPREPLY < <(compgen -W "$commands --help --version" -- "$word")
         return
@@ -20,6 +20,7 @@ _lindurask() {
     check | quote | routes) choices='--mains --json --help' ;;
     open) choices='--mains --help' ;;
     statement) choices='--raw --help' ;;
+    salvage) choices='--raw --json --help' ;;
     post) choices='--dry-run --mains --json --help' ;;
     show) choices='--stream --node --no-lists --json --help' ;;
     *) choices=--help ;;

@@ -214,6 +214,17 @@ uint8_t lindurask_routes(const uint8_t *book, size_t book_len, uint64_t mains, u
  */
 uint8_t lindurask_keeps_to(const uint8_t *book, size_t book_len, uint64_t mains, uint8_t *keeps);
 
+/*
+ * Salvages what can be kept of a damaged book. Rows are cut out one after the other, while one can be cut out by its hop
+ * count; each that is lawful beside those kept is kept, and the book of these is written in the version that came in. The
+ * report has 3 bytes for each row cut: 0 where it is kept, or the reason, 15, 8 or 16, and then its id, big-endian. *rows
+ * is how many were cut, *lost the number of bytes behind the last of them. A refusal sets *length, *rows and *lost to 0
+ * and changes neither buffer. Refusals: 14 (under 16 bytes), 13, 10, 14 (it ends before its topologies do), 11, 12 (the
+ * output is shorter than the book, or the report than 3 bytes for each row cut).
+ */
+uint8_t lindurask_salvage(const uint8_t *book, size_t book_len, uint8_t *out, size_t out_len, uint8_t *report,
+                          size_t report_len, size_t *length, size_t *rows, size_t *lost);
+
 #ifdef __cplusplus
 }
 #endif

@@ -16,8 +16,8 @@
 
 enum { HEAD = 44, REPLY = 13, MOST_BYTES = 4096, MOST_ROOM = 16384, MOST_WORDS = 6500, MARGIN = 64 };
 
-/* The calls that have a name here; those from 10 to 12 are none. */
-enum { NEW = 0, BALANCE = 6, ROUTES = 7, POST = 8, KEEPS = 9, LINKS = 13 };
+/* The calls that have a name here; 10 and 12 are none. */
+enum { NEW = 0, BALANCE = 6, ROUTES = 7, POST = 8, KEEPS = 9, SALVAGE = 11, LINKS = 13 };
 
 /* A record of a framed posting, the most of them, and how many requests or words stand on either side of a list or an index. */
 enum { RECORD = 11, MOST_RECORDS = 100, BESIDE = 4, WORD = 8 };
@@ -60,11 +60,16 @@ struct reply {
     uint8_t margin7;
     uint8_t keeps;
     uint8_t margin8;
+    size_t rows;
+    uint64_t margin9;
+    size_t lost;
+    uint64_t margin10;
 };
 
 static uint8_t input[MARGIN + MOST_BYTES + MARGIN], before[MOST_BYTES];
 static uint8_t hearing[MARGIN + MOST_BYTES + MARGIN], hearing_before[MOST_BYTES];
 static uint8_t output[MARGIN + MOST_ROOM + MARGIN];
+static uint8_t report[MARGIN + MOST_BYTES + MARGIN];
 static struct lindurask_request list[BESIDE + MOST_RECORDS + BESIDE];
 static uint64_t words[BESIDE + MOST_WORDS + BESIDE];
 
@@ -158,7 +163,7 @@ static int is_beside(const void *all, size_t size, size_t entry, size_t count) {
 
 /*
  * Makes the call of a frame; book has len bytes, hearing has heard, out has room, the list has count requests, and the
- * index has the words that the frame says.
+ * index has the words or the report the bytes that the frame says.
  */
 static uint8_t call(const uint8_t *head, const uint8_t *book, size_t len, const uint8_t *hearing, size_t heard, size_t count,
                     uint8_t *out, size_t room, struct reply *r) {
@@ -188,6 +193,8 @@ static uint8_t call(const uint8_t *head, const uint8_t *book, size_t len, const 
         return lindurask_keeps_to(book, len, mains, &r->keeps);
     case LINKS:
         return lindurask_links(book, len, source, &r->links);
+    case SALVAGE:
+        return lindurask_salvage(book, len, out, room, report + MARGIN, be16(head + 42), &r->length, &r->rows, &r->lost);
     default:
         return lindurask_post(book, len, mains, list + BESIDE, count, words + BESIDE, be16(head + 42), out, room, &r->length);
     }
@@ -207,6 +214,12 @@ static void answer(const uint8_t *head, uint8_t number, const struct reply *r, u
     }
     if (routes)
         put32(reply + 5, r->more);
+    if (head[0] == SALVAGE) {
+        put32(reply + 5, r->rows);
+        put32(reply + 9, r->lost);
+    } else if (r->rows != UNSET || r->lost != UNSET) {
+        fail("sets rows or bytes lost where there are none");
+    }
     if ((balance || links || keeps) && r->length != UNSET)
         fail("sets a length where there is none");
     if (!balance && (r->data != UNSET || r->used != UNSET || r->free_slots != UNSET))
@@ -218,7 +231,7 @@ static void answer(const uint8_t *head, uint8_t number, const struct reply *r, u
     if (!keeps && r->keeps != (uint8_t)UNSET)
         fail("sets a yes or no where there is none");
     if (r->margin0 | r->margin1 | r->margin2 | r->margin3 | r->margin4 | r->margin5 | r->margin6 | r->margin7 |
-        r->margin8)
+        r->margin8 | r->margin9 | r->margin10)
         fail("writes beside what it gives back");
 }
 
@@ -236,18 +249,19 @@ static void give(const uint8_t *bytes, size_t size) {
 /* Answers one frame, whose head is read. */
 static void serve(const uint8_t *head) {
     size_t len = be16(head + 14), room = be16(head + 16), heard = be16(head + 38), further = be16(head + 40);
-    size_t count = further / RECORD, indexed = be16(head + 42);
+    size_t count = further / RECORD, beside = be16(head + 42);
+    size_t indexed = head[0] == POST ? beside : 0, reported = head[0] == SALVAGE ? beside : 0;
     uint8_t reply[REPLY], records[RECORD * MOST_RECORDS], word[WORD];
-    struct reply r = {.length = UNSET, .data = UNSET, .used = UNSET, .free_slots = UNSET};
+    struct reply r = {.length = UNSET, .data = UNSET, .used = UNSET, .free_slots = UNSET, .rows = UNSET, .lost = UNSET};
     r.more = r.links = r.keeps = (uint8_t)UNSET;
-    if ((head[0] > KEEPS && head[0] != LINKS) || len > MOST_BYTES || room > MOST_ROOM)
+    if ((head[0] > KEEPS && head[0] != SALVAGE && head[0] != LINKS) || len > MOST_BYTES || room > MOST_ROOM)
         fail("is given a frame that is none");
     if (heard > MOST_BYTES || (heard != 0 && head[0] != NEW))
         fail("is given a hearing that is none");
     if (further % RECORD != 0 || count > MOST_RECORDS || (further != 0 && head[0] != POST))
         fail("is given records that are none");
-    if (indexed > MOST_WORDS || (indexed != 0 && head[0] != POST))
-        fail("is given an index that is none");
+    if (indexed > MOST_WORDS || reported > MOST_BYTES || beside != indexed + reported)
+        fail("is given an index or a report that is none");
     prepare(input, len, 0);
     prepare(hearing, heard, 0);
     prepare(output, room, head[18]);
@@ -258,6 +272,7 @@ static void serve(const uint8_t *head) {
     memcpy(hearing + MARGIN, hearing_before, heard);
     prepare_list(records, count);
     prepare_index(indexed, head[18]);
+    prepare(report, reported, head[18]);
     uint8_t number = call(head, input + MARGIN, len, hearing + MARGIN, heard, count, output + MARGIN, room, &r);
     answer(head, number, &r, reply);
     put_list(records, count);
@@ -271,9 +286,12 @@ static void serve(const uint8_t *head) {
         fail("writes beside its list");
     if (!is_beside(words, sizeof words, WORD, indexed))
         fail("writes beside its index");
+    if (!is_around(report, reported))
+        fail("writes beside its report");
     give(reply, REPLY);
     give(output + MARGIN, room);
     give(records, further);
+    give(report + MARGIN, reported);
     for (size_t i = 0; i < indexed; i++) {
         put64(word, words[BESIDE + i]);
         give(word, WORD);

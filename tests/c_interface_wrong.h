@@ -136,6 +136,32 @@
 #elif WRONG == 57 /* a table: the buffer taken for a byte longer */
 #define lindurask_expand(book, len, node, first, tiles, out, room, length) \
     lindurask_expand(book, len, node, first, tiles, out, (room) + 1, length)
+#elif WRONG == 58 /* a salvage: rows cut and bytes lost exchanged */
+#define lindurask_salvage(book, len, out, room, report, report_len, length, rows, lost) \
+    lindurask_salvage(book, len, out, room, report, report_len, length, lost, rows)
+#elif WRONG == 59 /* a salvage: the report taken for a byte longer */
+#define lindurask_salvage(book, len, out, room, report, report_len, ...) \
+    lindurask_salvage(book, len, out, room, report, (report_len) + 1, __VA_ARGS__)
+#elif WRONG == 60 /* a salvage: the buffer taken for a byte longer */
+#define lindurask_salvage(book, len, out, room, ...) lindurask_salvage(book, len, out, (room) + 1, __VA_ARGS__)
+#elif WRONG == 61 /* a salvage: the buffer taken for a byte shorter */
+#define lindurask_salvage(book, len, out, room, ...) lindurask_salvage(book, len, out, (room) - ((room) > 0), __VA_ARGS__)
+#elif WRONG == 62 /* a salvage: another report filled */
+#define lindurask_salvage(book, len, out, room, report, ...) \
+    lindurask_salvage(book, len, out, room, (uint8_t[4096]){*(report)}, __VA_ARGS__)
+#elif WRONG == 63 /* a salvage: its input changed */
+#define lindurask_salvage(book, len, ...) ((len) ? ((uint8_t *)(book))[(len) - 1]++ : 0, lindurask_salvage(book, len, __VA_ARGS__))
+#elif WRONG == 64 /* a salvage: rows and bytes lost not set where it is refused */
+#define lindurask_salvage(book, len, out, room, report, report_len, length, rows, lost) \
+    amiss_salvage(book, len, out, room, report, report_len, length, rows, lost)
+static inline uint8_t amiss_salvage(const uint8_t *book, size_t len, uint8_t *out, size_t room, uint8_t *report,
+                                    size_t report_len, size_t *length, size_t *rows, size_t *lost) {
+    size_t cut, gone;
+    uint8_t number = (lindurask_salvage)(book, len, out, room, report, report_len, length, &cut, &gone);
+    if (number == 0)
+        *rows = cut, *lost = gone;
+    return number;
+}
 #else
 #error "there is no such wrong interface"
 #endif

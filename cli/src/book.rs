@@ -12,13 +12,14 @@ pub const MOST_HOPS: usize = 512;
 pub const MOST_NODES: usize = 64;
 /// The most slots of a tile.
 const MOST_SLOTS: u8 = 32;
-/// Bytes of the head, and the places of those that state how many slots a tile has, and how many nodes there are.
-const HEAD: usize = 16;
+/// Bytes of the head, and the places of those that state the version, how many slots a tile has, and how many nodes there are.
+pub const HEAD: usize = 16;
+const VERSION_AT: usize = 3;
 const SLOTS_AT: usize = 5;
 const NODES_AT: usize = 11;
 
 /// How a version writes what follows the head.
-struct Layout {
+pub struct Layout {
     version: u16,
     /// The rows of who hears whom stand behind the links; where they do not, hearing is the links.
     hearing: bool,
@@ -37,12 +38,42 @@ const LAYOUTS: [Layout; 4] = [
     Layout { version: 3, hearing: true, way_bytes: 1, period_bytes: 1, longest: 100 },
     Layout { version: 4, hearing: true, way_bytes: 1, period_bytes: 2, longest: CYCLE },
 ];
+/// Bytes of a row that say the id, the hops, a node and an offset; and of a node's row of a topology.
+const ID: usize = 2;
+const HOP_COUNT: usize = 1;
+const NODE: usize = 1;
+const OFFSET: usize = 2;
+const NODE_ROW: usize = 8;
 /// The numbers of a stream's routes.
 const FIRST: u8 = 1;
 const SECOND: u8 = 2;
 
 /// The version in which books are written.
 pub const NEWEST: u16 = LAYOUTS[LAYOUTS.len() - 1].version;
+
+impl Layout {
+    /// The layout of the version that an image states, be it lawful or not; none where that is not known.
+    pub fn of(image: &[u8]) -> Option<&'static Layout> {
+        let version = Bytes(image.get(VERSION_AT..)?).word()?;
+        LAYOUTS.iter().find(|layout| layout.version == version)
+    }
+
+    /// The bytes of an image before its rows.
+    pub fn before_rows(&self, image: &[u8]) -> usize {
+        let topologies = if self.hearing { 2 } else { 1 };
+        HEAD + topologies * NODE_ROW * usize::from(stated_nodes(image))
+    }
+
+    /// The bytes of a row before its hop count.
+    pub fn before_hops(&self) -> usize {
+        ID + self.way_bytes + self.period_bytes
+    }
+
+    /// The bytes of a row of so many hops.
+    pub fn row(&self, hops: u8) -> usize {
+        self.before_hops() + HOP_COUNT + NODE + usize::from(hops) * (NODE + OFFSET)
+    }
+}
 
 /// A site's plan, its links, who hears whom, and its streams.
 #[derive(Clone, Debug, PartialEq, Eq)]
@@ -126,7 +157,7 @@ impl Bytes<'_> {
 
     /// A row of a site for each node: its neighbours, or the nodes that it hears.
     fn nodes(&mut self, nodes: u8) -> Option<Vec<u64>> {
-        (0..nodes).map(|_| self.number(8)).collect()
+        (0..nodes).map(|_| self.number(NODE_ROW)).collect()
     }
 
     /// A row: one route of a stream.
@@ -162,9 +193,9 @@ pub fn pairs(rows: &[u64]) -> Vec<(usize, usize)> {
 impl Book {
     /// Reads a lawful book; none where the bytes are no book of a version that is known here.
     pub fn decode(image: &[u8]) -> Option<Book> {
-        let mut head = Bytes(image.get(3..HEAD)?);
+        let layout = Layout::of(image)?;
+        let mut head = Bytes(image.get(VERSION_AT..HEAD)?);
         let version = head.word()?;
-        let layout = LAYOUTS.iter().find(|layout| layout.version == version)?;
         let (slots, tiles, kinds) = (head.byte()?, head.byte()?, head.word()?);
         let (down, up, nodes, ways) = (head.byte()?, head.byte()?, head.byte()?, head.byte()?);
         let mut rest = Bytes(&image[HEAD..]);

@@ -82,7 +82,7 @@ impl Engine {
         Engine::read(output, &mut head)?;
         let mut lent = vec![0; request.answered()];
         Engine::read(output, &mut lent)?;
-        request.read(&head, &lent).ok_or_else(|| wrong("says what is no answer"))
+        request.read(&head, &lent).ok_or_else(|| ENGINE.no_answer())
     }
 
     /// Puts one request.

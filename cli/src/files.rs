@@ -72,12 +72,12 @@ pub fn read_book(path: &Path) -> Result<Vec<u8>, Trouble> {
     read_up_to(&mut open_plain(path, false)?, MOST_BYTES).map_err(on(path))
 }
 
-/// Reads a book's bytes whole, as long as a length of two bytes can say.
-pub fn read_image(path: &Path) -> Result<Vec<u8>, Trouble> {
+/// Reads a book's bytes whole for what is named, as long as a length of two bytes can say.
+pub fn read_image(path: &Path, what: &str) -> Result<Vec<u8>, Trouble> {
     let most = usize::from(u16::MAX);
     let mut bytes = read_up_to(&mut open_plain(path, false)?, most + 1).map_err(on(path))?;
     if most < bytes.len() {
-        return Err(failed(path, format!("is too long for a statement: over {most} bytes")));
+        return Err(failed(path, format!("is too long for {what}: over {most} bytes")));
     }
     bytes.shrink_to_fit();
     Ok(bytes)

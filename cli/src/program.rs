@@ -23,6 +23,9 @@ pub const ENGINE: Program =
 /// The program that prints the figures of pairs of images.
 pub const STATEMENT: Program =
     Program { called: "the program statement", file: "statement", variable: "LINDURASK_STATEMENT" };
+/// The program that says what can be salvaged of an image.
+pub const SALVAGE: Program =
+    Program { called: "the program salvage", file: "salvage", variable: "LINDURASK_SALVAGE" };
 
 /// Where a tool has its programs, seen from the tool's folder: beside itself, or as they are installed.
 const BESIDE: [&str; 2] = ["", "../libexec/lindurask/"];
@@ -68,6 +71,11 @@ impl Program {
     /// Says what is wrong with it.
     pub fn wrong(&self, what: impl std::fmt::Display) -> Trouble {
         Trouble::Failed(format!("{} {what}; nothing is changed", self.called))
+    }
+
+    /// What it said cannot be what it says.
+    pub fn no_answer(&self) -> Trouble {
+        self.wrong("says what is no answer")
     }
 
     /// Nothing can be put to it, or had from it.

@@ -1,11 +1,11 @@
 //! What the program statement says of pairs of images, line by line.
 
+use crate::book::stated_nodes;
+use crate::dialogue::{number, Lines};
 use crate::loaded::is_of_book;
-use crate::pairs::{ended_early, no_answer, Pair};
+use crate::pairs::Pair;
+use crate::program::STATEMENT;
 use crate::trouble::Trouble;
-
-/// Where an image has the number of its nodes.
-const NODES_AT: usize = 11;
 
 /// The fewest free slots of any node, the sum of used, and the longest latency; or the sums and the longest of all.
 #[derive(Clone, Copy, Default, PartialEq, Eq, Debug)]
@@ -30,11 +30,6 @@ pub struct Site {
 pub struct Statement {
     pub sites: Vec<Site>,
     pub totals: Figures,
-}
-
-/// A number as the program prints it.
-fn number(word: &str) -> Option<u64> {
-    word.parse().ok().filter(|number: &u64| number.to_string() == word)
 }
 
 /// Whether a word is a difference as the program prints it: with its sign, and 0 without.
@@ -63,28 +58,18 @@ fn movement(line: &str, nodes: usize) -> Option<Vec<String>> {
     (words.len() == nodes && words.iter().all(|word| is_signed(word))).then_some(words)
 }
 
-/// The lines that are still to be read.
-struct Lines<'a>(std::str::SplitInclusive<'a, char>);
-
-impl<'a> Lines<'a> {
-    fn next(&mut self) -> Result<&'a str, Trouble> {
-        self.0.next().and_then(|line| line.strip_suffix('\n')).ok_or_else(ended_early)
-    }
-
-    fn month(&mut self) -> Result<Month, Trouble> {
-        month(self.next()?).ok_or_else(no_answer)
-    }
-
-    fn site(&mut self, pair: &Pair) -> Result<Site, Trouble> {
-        let months = [self.month()?, self.month()?];
-        let nodes = pair.each_ref().map(|image| image.get(NODES_AT).map_or(0, |&n| n.into()));
-        let moves = months.iter().all(Result::is_ok) && nodes[0] == nodes[1];
-        let movement = match moves {
-            true => Some(movement(self.next()?, nodes[0]).ok_or_else(no_answer)?),
-            false => None,
-        };
-        Ok(Site { months, nodes, movement })
-    }
+/// What the next lines say of a site.
+fn site(lines: &mut Lines, pair: &Pair) -> Result<Site, Trouble> {
+    let no_answer = || STATEMENT.no_answer();
+    let mut next = || month(lines.next()?).ok_or_else(no_answer);
+    let months = [next()?, next()?];
+    let nodes = pair.each_ref().map(|image| stated_nodes(image).into());
+    let moves = months.iter().all(Result::is_ok) && nodes[0] == nodes[1];
+    let movement = match moves {
+        true => Some(movement(lines.next()?, nodes[0]).ok_or_else(no_answer)?),
+        false => None,
+    };
+    Ok(Site { months, nodes, movement })
 }
 
 /// The sums and the longest over the accepted images.
@@ -100,13 +85,13 @@ fn totals(sites: &[Site]) -> Figures {
 impl Statement {
     /// Reads what was said of the pairs; the last line is what the others add up to.
     pub fn read(said: &str, pairs: &[Pair]) -> Result<Statement, Trouble> {
-        let mut lines = Lines(said.split_inclusive('\n'));
-        let sites = pairs.iter().map(|pair| lines.site(pair));
+        let mut lines = Lines::new(&STATEMENT, said);
+        let sites = pairs.iter().map(|pair| site(&mut lines, pair));
         let sites = sites.collect::<Result<Vec<_>, _>>()?;
         let last = figures(lines.next()?);
         let totals = totals(&sites);
-        if last != Some(totals) || lines.0.next().is_some() {
-            return Err(no_answer());
+        if last != Some(totals) || !lines.is_read() {
+            return Err(STATEMENT.no_answer());
         }
         Ok(Statement { sites, totals })
     }
@@ -122,7 +107,7 @@ mod tests {
     use super::*;
 
     fn of_nodes(nodes: [u8; 2]) -> Pair {
-        nodes.map(|nodes| vec![nodes; NODES_AT + 1])
+        nodes.map(|nodes| vec![nodes; 16])
     }
 
     #[test]

@@ -14,6 +14,7 @@ use crate::record::Record;
 use crate::refusal::{DONE, Refusal, refuse_if};
 use crate::route::{self, short_routes};
 use crate::row::Row;
+use crate::salvage;
 use crate::table;
 use crate::topology::{NODES, Topology};
 use crate::version::Version;
@@ -143,6 +144,43 @@ pub fn routes(
     let listed = |routes: Vec<Vec<u8>>| routes.into_iter().take(MAX_LISTED).flat_map(listed_route);
     let (number, length) = deliver(found.map(|routes| listed(routes).collect()), out);
     (number, length, more && number == DONE)
+}
+
+/// What a salvage gives back.
+#[derive(Clone, Copy, Debug, Default, PartialEq, Eq)]
+pub struct SalvageSaid {
+    pub number: u8,
+    pub length: usize,
+    /// The rows cut.
+    pub rows: usize,
+    /// The bytes after the last row cut.
+    pub lost: usize,
+}
+
+/// Writes what can be saved of a damaged book, in its own version, and a report
+/// of 3 bytes for each row cut: 0 for kept or the reason, then the id.
+pub fn salvage(book: &[u8], out: &mut [u8], report: &mut [u8]) -> SalvageSaid {
+    let refused = |refusal| SalvageSaid { number: refusal as u8, ..SalvageSaid::default() };
+    let salvaged = match salvage::salvage(book) {
+        Ok(salvaged) => salvaged,
+        Err(refusal) => return refused(refusal),
+    };
+    let image = image::write(salvaged.version, &salvaged.book);
+    let lines: Vec<u8> =
+        salvaged.cuts.iter().flat_map(|&(reason, id)| report_line(reason, id)).collect();
+    if out.len() < image.len() || report.len() < lines.len() {
+        return refused(Refusal::BufferTooShort);
+    }
+    out[..image.len()].copy_from_slice(&image);
+    report[..lines.len()].copy_from_slice(&lines);
+    let rows = salvaged.cuts.len();
+    SalvageSaid { number: DONE, length: image.len(), rows, lost: salvaged.lost }
+}
+
+/// Three bytes of a salvage's report.
+fn report_line(reason: u8, id: u16) -> [u8; 3] {
+    let [high, low] = id.to_be_bytes();
+    [reason, high, low]
 }
 
 /// Says whether every row of a book keeps to the set: number, yes or no.

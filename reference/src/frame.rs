@@ -10,7 +10,8 @@
 //! | Bytes | Field                                                          |
 //! |-------|----------------------------------------------------------------|
 //! | 0     | call: 0 new, 1 check, 2 rewrite, 3 open, 4 close, 5 expand,    |
-//! |       | 6 balance, 7 routes, 8 post, 9 keeps to, 13 links, 255 end     |
+//! |       | 6 balance, 7 routes, 8 post, 9 keeps to, 11 salvage, 13 links, |
+//! |       | 255 end                                                        |
 //! | 1–2   | id (open, close)                                               |
 //! | 3     | source (open, routes) or node (expand, balance, links)         |
 //! | 4     | destination (open, routes)                                     |
@@ -31,11 +32,12 @@
 //! | 34–37 | 0                                                              |
 //! | 38–39 | length of the hearing (new), at most 1,024                     |
 //! | 40–41 | length of the further bytes, which are the records (post)      |
-//! | 42–43 | length of the index (post), in words of 8 bytes, at most 6,500 |
+//! | 42–43 | length of the index (post), in words of 8 bytes, at most       |
+//! |       | 6,500, or of the report (salvage), in bytes, at most 4,096     |
 //!
 //! A field that the call does not use is 0. The planner is called with an
-//! output buffer and an index of the stated lengths, each byte of them the fill
-//! byte.
+//! output buffer and an index or a report of the stated lengths, each byte of
+//! them the fill byte.
 //!
 //! A record has 11 bytes, and a posting has at most 100 records:
 //!
@@ -57,17 +59,15 @@
 //! | 1–4   | length, data (balance), the number of links (links), or 1 if   |
 //! |       | every row keeps to the set (keeps to)                          |
 //! | 5–8   | used (balance); 1 if more routes exist than are listed         |
-//! |       | (routes); otherwise 0                                          |
-//! | 9–12  | free (balance), otherwise 0                                    |
+//! |       | (routes); rows cut (salvage); otherwise 0                      |
+//! | 9–12  | free (balance), bytes lost (salvage), otherwise 0              |
 //! | then  | the output buffer, as long as the request says                 |
-//! | then  | the records, then the index (post)                             |
+//! | then  | the records, then the index (post), or the report (salvage)    |
 //!
-//! What is 0 is for document 02's other requests, and so are calls 10 to 12:
+//! What is 0 is for document 02's other requests, and so are calls 10 and 12:
 //! 20–21 account (W11); 34–37 amount (W11); further bytes that are the accounts
-//! (W11) or the tables (W9); 42–43 length of the report, in bytes (W7); bytes
-//! 8–9 of a record, its account (W11). Call 10 is purchase (W11), 11 salvage
-//! (W7), 12 book of (W9). In an answer the report is last; bytes 5–8 and 9–12
-//! are salvage's rows and bytes lost.
+//! (W11) or the tables (W9); bytes 8–9 of a record, its account (W11). Call 10
+//! is purchase (W11), 12 book of (W9).
 //!
 //! A request with call 255 is a header only, has no answer and ends the
 //! stream, as does the end of the input between two frames. Answers may be
@@ -84,7 +84,7 @@ pub const REQUEST_HEADER: usize = 44;
 pub const ANSWER_HEADER: usize = 13;
 
 /// Bytes of a word of the index.
-const WORD_BYTES: usize = 8;
+pub const WORD_BYTES: usize = 8;
 
 /// The call number that ends the stream.
 pub const END: u8 = 255;
@@ -103,11 +103,12 @@ pub enum Call {
     Routes = 7,
     Post = 8,
     KeepsTo = 9,
+    Salvage = 11,
     Links = 13,
 }
 
 impl Call {
-    pub const ALL: [Call; 11] = [
+    pub const ALL: [Call; 12] = [
         Call::New,
         Call::Check,
         Call::Rewrite,
@@ -118,6 +119,7 @@ impl Call {
         Call::Routes,
         Call::Post,
         Call::KeepsTo,
+        Call::Salvage,
         Call::Links,
     ];
 
@@ -144,13 +146,14 @@ pub fn write_end(output: &mut impl Write) -> io::Result<()> {
 pub struct Answer {
     pub number: u8,
     /// The length, the mark that more exist and a zero, or data, used and free,
-    /// or the number of links, or a yes, and two zeros.
+    /// or length, rows cut and bytes lost, or the number of links, or a yes, and
+    /// two zeros.
     pub counts: [u32; 3],
     pub out: Vec<u8>,
     /// The records of a posting.
     pub records: Vec<u8>,
-    /// The index of a posting, in bytes.
-    pub index: Vec<u8>,
+    /// The index of a posting, in bytes, or the report of a salvage.
+    pub beside: Vec<u8>,
 }
 
 impl Answer {
@@ -161,7 +164,7 @@ impl Answer {
         }
         output.write_all(&self.out)?;
         output.write_all(&self.records)?;
-        output.write_all(&self.index)
+        output.write_all(&self.beside)
     }
 
     /// Reads the answer to this request.
@@ -178,8 +181,8 @@ impl Answer {
         };
         let out = rest(usize::from(request.room))?;
         let records = rest(request.records().len())?;
-        let index = rest(WORD_BYTES * usize::from(request.words))?;
-        Ok(Answer { number: header[0], counts, out, records, index })
+        let beside = rest(request.beside_bytes())?;
+        Ok(Answer { number: header[0], counts, out, records, beside })
     }
 
     /// The bytes the call wrote: the first `length` of its output buffer.

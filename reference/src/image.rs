@@ -11,63 +11,66 @@ use crate::version::{HEADER_LENGTH, Version, links_bytes};
 /// The mark S, L, B.
 const MARK: [u8; 3] = [0x53, 0x4C, 0x42];
 
-/// Bytes 5 to 15 of an image.
-struct Header {
-    plan: Plan,
-    nodes: u8,
+/// An image up to its topology.
+pub struct Head {
+    pub version: Version,
+    pub plan: Plan,
+    /// N.
+    pub nodes: u8,
+    /// n, the rows stated.
     rows: usize,
+    /// The hops stated.
     hops: usize,
-    last_byte: u8,
+}
+
+impl Head {
+    /// Where the rows begin.
+    pub fn before_rows(&self) -> usize {
+        HEADER_LENGTH + self.version.topology_bytes(self.nodes)
+    }
+
+    /// The length the header gives.
+    fn image_length(&self) -> usize {
+        self.version.image_length(self.nodes, self.rows, self.hops)
+    }
 }
 
 /// Reads an image; the refusals come in document 01's order.
 pub fn read(image: &[u8]) -> Result<(Version, Book), Refusal> {
-    refuse_if(image.len() < HEADER_LENGTH, Refusal::WrongLength)?;
-    refuse_if(image[..3] != MARK, Refusal::WrongMark)?;
-    let version = Version::of_number(two_bytes(&image[3..5])).ok_or(Refusal::WrongMark)?;
-    let header = read_header(image);
-    refuse_if(!header.is_in_range(), Refusal::OutOfRange)?;
-    let length = version.image_length(header.nodes, header.rows, header.hops);
-    refuse_if(image.len() != length, Refusal::WrongLength)?;
-    let (topology, rows) = image[HEADER_LENGTH..].split_at(version.topology_bytes(header.nodes));
-    let topology = read_topology(version, header.nodes, topology)?;
-    let rows = read_rows(version, rows, header.rows).ok_or(Refusal::UnlawfulRows)?;
-    let book = Book { plan: header.plan, topology, rows };
-    refuse_if(book.hops() != header.hops, Refusal::UnlawfulRows)?;
+    let head = read_head(image)?;
+    refuse_if(image.len() != head.image_length(), Refusal::WrongLength)?;
+    let (topology, rows) = image.split_at(head.before_rows());
+    let version = head.version;
+    let topology = read_topology(version, head.nodes, &topology[HEADER_LENGTH..])?;
+    let rows = read_rows(version, rows, head.rows).ok_or(Refusal::UnlawfulRows)?;
+    let book = Book { plan: head.plan, topology, rows };
+    refuse_if(book.hops() != head.hops, Refusal::UnlawfulRows)?;
     let lawful = version.fits(&book) && rows_are_lawful(&book);
     refuse_if(!lawful, Refusal::UnlawfulRows)?;
     refuse_if(clashing_hops_meet(&book), Refusal::ClashingHopsMeet)?;
     Ok((version, book))
 }
 
-fn read_header(image: &[u8]) -> Header {
-    Header {
-        plan: Plan {
-            s: image[5],
-            c: image[6],
-            kinds: two_bytes(&image[7..9]),
-            d: image[9],
-            u: image[10],
-        },
-        nodes: image[11],
-        rows: usize::from(image[12]),
-        hops: usize::from(two_bytes(&image[13..15])),
-        last_byte: image[15],
-    }
-}
-
-impl Header {
-    fn is_in_range(&self) -> bool {
-        self.plan.is_in_range()
-            && NODES.contains(&self.nodes)
-            && self.rows <= MAX_ROWS
-            && self.hops <= MAX_HOPS
-            && self.last_byte == 0
-    }
+/// Reads what stands before the topology.
+pub fn read_head(image: &[u8]) -> Result<Head, Refusal> {
+    refuse_if(image.len() < HEADER_LENGTH, Refusal::WrongLength)?;
+    refuse_if(image[..3] != MARK, Refusal::WrongMark)?;
+    let version = Version::of_number(two_bytes(&image[3..5])).ok_or(Refusal::WrongMark)?;
+    let kinds = two_bytes(&image[7..9]);
+    let plan = Plan { s: image[5], c: image[6], kinds, d: image[9], u: image[10] };
+    let (nodes, rows) = (image[11], usize::from(image[12]));
+    let hops = usize::from(two_bytes(&image[13..15]));
+    let in_range = plan.is_in_range()
+        && NODES.contains(&nodes)
+        && rows <= MAX_ROWS
+        && hops <= MAX_HOPS
+        && image[15] == 0;
+    refuse_if(!in_range, Refusal::OutOfRange)?;
+    Ok(Head { version, plan, nodes, rows, hops })
 }
 
 /// Reads links and hearing; an older version hears exactly its links.
-fn read_topology(version: Version, nodes: u8, bytes: &[u8]) -> Result<Topology, Refusal> {
+pub fn read_topology(version: Version, nodes: u8, bytes: &[u8]) -> Result<Topology, Refusal> {
     let (links, rest) = bytes.split_at(links_bytes(nodes));
     let hearing = if version.stores_hearing() { rest } else { links };
     Topology::read(nodes, links, hearing).ok_or(Refusal::UnsoundTopology)
@@ -84,7 +87,7 @@ fn read_rows(version: Version, bytes: &[u8], count: usize) -> Option<Vec<Row>> {
 }
 
 /// Takes one row off the front; none if the bytes end within it.
-fn read_row(version: Version, rest: &mut &[u8]) -> Option<Row> {
+pub fn read_row(version: Version, rest: &mut &[u8]) -> Option<Row> {
     let id = two_bytes(take(rest, 2)?);
     let route = if version.stores_route() { take(rest, 1)?[0] } else { FIRST_ROUTE };
     let period = number(take(rest, version.period_bytes())?);
@@ -129,6 +132,13 @@ pub fn write(version: Version, book: &Book) -> Vec<u8> {
         write_row(version, row, &mut image);
     }
     image
+}
+
+/// The bytes of a row.
+pub fn row_bytes(version: Version, row: &Row) -> Vec<u8> {
+    let mut bytes = Vec::new();
+    write_row(version, row, &mut bytes);
+    bytes
 }
 
 fn write_row(version: Version, row: &Row, image: &mut Vec<u8>) {

@@ -69,13 +69,32 @@ fn second_is_lawful(first: &Row, second: &Row) -> bool {
         && !have_common_middle(&first.nodes, &second.nodes)
 }
 
+/// A row may stand behind the rows of a book: it is lawful by itself, rises
+/// above the last of them, and as a row 2 is lawful beside it.
+pub fn row_may_follow(book: &Book, row: &Row) -> bool {
+    let last = book.rows.last();
+    last.is_none_or(|last| last.key() < row.key())
+        && row_is_lawful(row, &book.plan, &book.topology)
+        && (row.route == FIRST_ROUTE || last.is_some_and(|first| second_is_lawful(first, row)))
+}
+
+/// Two hops clash and meet.
+fn at_odds(topology: &Topology, one: &PlacedHop, two: &PlacedHop) -> bool {
+    clash(topology, one.hop, two.hop) && meet(one, two)
+}
+
+/// A hop of the row meets a clashing hop of the book.
+pub fn meets_another(book: &Book, row: &Row) -> bool {
+    let hops = row.placed_hops(&book.plan);
+    let others = book.rows.iter().flat_map(|row| row.placed_hops(&book.plan));
+    others.into_iter().any(|one| hops.iter().any(|two| at_odds(&book.topology, &one, two)))
+}
+
 /// Two clashing hops of different rows meet.
 pub fn clashing_hops_meet(book: &Book) -> bool {
     let rows: Vec<Vec<PlacedHop>> =
         book.rows.iter().map(|row| row.placed_hops(&book.plan)).collect();
-    let at_odds = |one: &PlacedHop, two: &PlacedHop| {
-        clash(&book.topology, one.hop, two.hop) && meet(one, two)
-    };
+    let at_odds = |one: &PlacedHop, two: &PlacedHop| at_odds(&book.topology, one, two);
     (0..rows.len()).any(|later| {
         rows[..later].iter().flatten().any(|one| rows[later].iter().any(|two| at_odds(one, two)))
     })

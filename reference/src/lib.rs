@@ -10,8 +10,8 @@
 //! `hop`, `placing` (routes and clashes); `row`, `book`, `law`, `version`,
 //! `image` (the image); `refusal`, `change`, `record`, `index`, `calls` (what
 //! each call says back); `table`, `listing` (a node's table and balance);
-//! document 02's `statement` (many sites). `frame` and `request` carry calls
-//! between programs.
+//! document 02's `statement` (many sites) and `salvage` (damaged books). `frame`
+//! and `request` carry calls between programs.
 
 pub mod book;
 pub mod calls;
@@ -30,6 +30,7 @@ pub mod refusal;
 pub mod request;
 pub mod route;
 pub mod row;
+pub mod salvage;
 pub mod slots;
 pub mod statement;
 pub mod table;

@@ -2,7 +2,7 @@
 
 use crate::calls::{self, Site};
 use crate::change::Open;
-use crate::frame::{Answer, Call, END, REQUEST_HEADER};
+use crate::frame::{Answer, Call, END, REQUEST_HEADER, WORD_BYTES};
 use crate::plan::Plan;
 use crate::record::{RECORD_BYTES, Record};
 use std::io::{self, Read, Write};
@@ -37,9 +37,10 @@ pub struct Request {
     pub further: Vec<u8>,
     /// Length of the output buffer.
     pub room: u16,
-    /// Length of the index, in words.
-    pub words: u16,
-    /// What every byte of the output buffer and the index is before the call.
+    /// Length of the index of a posting, in words, or of the report of a salvage,
+    /// in bytes.
+    pub beside: u16,
+    /// What every byte of the buffers is before the call.
     pub fill: u8,
 }
 
@@ -66,7 +67,7 @@ impl Request {
             hearing: Vec::new(),
             further: Vec::new(),
             room: 0,
-            words: 0,
+            beside: 0,
             fill: 0,
         }
     }
@@ -91,7 +92,7 @@ impl Request {
         put(26, &self.mains.to_be_bytes());
         put(38, &(self.hearing.len() as u16).to_be_bytes());
         put(40, &(self.further.len() as u16).to_be_bytes());
-        put(42, &self.words.to_be_bytes());
+        put(42, &self.beside.to_be_bytes());
         output.write_all(&header)?;
         output.write_all(&self.bytes)?;
         output.write_all(&self.hearing)?;
@@ -128,7 +129,7 @@ impl Request {
             hearing,
             further,
             room: number(16),
-            words: number(42),
+            beside: number(42),
             fill: header[18],
         }))
     }
@@ -138,11 +139,16 @@ impl Request {
         let mut out = vec![self.fill; usize::from(self.room)];
         let mut records: Vec<Record> =
             self.records().chunks_exact(RECORD_BYTES).map(Record::read).collect();
-        let mut index = vec![u64::from_be_bytes([self.fill; 8]); usize::from(self.words)];
-        let (number, counts) = self.call_reference(&mut out, &mut records, &mut index);
+        let mut beside = vec![self.fill; self.beside_bytes()];
+        let (number, counts) = self.call_reference(&mut out, &mut records, &mut beside);
         let records = records.iter().flat_map(Record::write).collect();
-        let index = index.iter().flat_map(|word| word.to_be_bytes()).collect();
-        Answer { number, counts, out, records, index }
+        Answer { number, counts, out, records, beside }
+    }
+
+    /// Bytes of the index or the report.
+    pub fn beside_bytes(&self) -> usize {
+        let words = if self.call == Call::Post { WORD_BYTES } else { 1 };
+        words * usize::from(self.beside)
     }
 
     /// The records of a posting; no other call has any.
@@ -155,7 +161,7 @@ impl Request {
         &self,
         out: &mut [u8],
         records: &mut [Record],
-        index: &mut [u64],
+        beside: &mut [u8],
     ) -> (u8, [u32; 3]) {
         let book = &self.bytes;
         let (number, length) = match self.call {
@@ -174,7 +180,12 @@ impl Request {
                     calls::routes(book, self.mains, self.node, self.destination, out);
                 return (number, [length as u32, u32::from(more), 0]);
             }
-            Call::Post => calls::post(book, self.mains, records, index, out),
+            Call::Post => self.post(records, beside, out),
+            Call::Salvage => {
+                let said = calls::salvage(book, out, beside);
+                let counts = [said.length, said.rows, said.lost];
+                return (said.number, counts.map(|count| count as u32));
+            }
             Call::KeepsTo => {
                 let (number, keeps) = calls::keeps_to(book, self.mains);
                 return (number, [u32::from(keeps), 0, 0]);
@@ -185,6 +196,16 @@ impl Request {
             }
         };
         (number, [length as u32, 0, 0])
+    }
+
+    /// Posts with an index of words.
+    fn post(&self, records: &mut [Record], beside: &mut [u8], out: &mut [u8]) -> (u8, usize) {
+        let mut index = vec![u64::from_be_bytes([self.fill; WORD_BYTES]); usize::from(self.beside)];
+        let said = calls::post(&self.bytes, self.mains, records, &mut index, out);
+        for (bytes, word) in beside.chunks_exact_mut(WORD_BYTES).zip(index) {
+            bytes.copy_from_slice(&word.to_be_bytes());
+        }
+        said
     }
 
     /// The site of a new book.

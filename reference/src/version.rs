@@ -2,7 +2,7 @@
 
 use crate::book::{Book, MAX_HOPS, MAX_ROWS};
 use crate::plan::LONGEST_QUICK_PERIOD;
-use crate::row::FIRST_ROUTE;
+use crate::row::{FIRST_ROUTE, Row};
 use crate::topology::NODES;
 
 /// Bytes before all else.
@@ -60,17 +60,27 @@ impl Version {
         if self >= Version::Four { u16::MAX } else { LONGEST_QUICK_PERIOD }
     }
 
+    /// The row's period can be said in this version.
+    pub fn fits_period(self, row: &Row) -> bool {
+        row.period <= self.longest_period()
+    }
+
     /// What the book holds can be said in this version.
     pub fn fits(self, book: &Book) -> bool {
-        book.rows.iter().all(|row| row.period <= self.longest_period())
+        book.rows.iter().all(|row| self.fits_period(row))
             && (self.stores_route() || book.rows.iter().all(|row| row.route == FIRST_ROUTE))
             && (self.stores_hearing() || book.topology.hearing == book.topology.links)
     }
 
-    /// Bytes of a row beside those of its hops: id, route, K, hop count and
-    /// the source.
+    /// Bytes of a row before its hop count: id, route and K.
+    pub fn bytes_before_hop_count(self) -> usize {
+        2 + usize::from(self.stores_route()) + self.period_bytes()
+    }
+
+    /// Bytes of a row beside those of its hops: the hop count and the source
+    /// follow.
     pub fn row_bytes(self) -> usize {
-        2 + usize::from(self.stores_route()) + self.period_bytes() + 1 + 1
+        self.bytes_before_hop_count() + 1 + 1
     }
 
     /// Bytes of the links, and if they are stored of the hearing, of a site with

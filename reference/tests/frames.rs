@@ -34,7 +34,7 @@ fn a_request_has_every_field_in_its_place() {
         first: 0x1617,
         tiles: 0x1819,
         mains: 0x2021222324252627,
-        words: 0x2829,
+        beside: 0x2829,
         ..Request::blank(Call::Open)
     };
     let fields = [3, 1, 2, 3, 4, 5, 6, 7, 8, 9, 10, 11, 12, 13, 0, 3, 0x10, 0x11, 0x12, 1];
@@ -93,8 +93,8 @@ fn check_balance_and_links_are_answered_without_a_buffer() {
 }
 
 #[test]
-fn calls_10_to_12_are_reserved() {
-    for number in [10, 11, 12, 14, 254] {
+fn calls_10_and_12_are_reserved() {
+    for number in [10, 12, 14, 254] {
         assert!(Call::of_number(number).is_err());
     }
     assert_eq!(Call::of_number(9).unwrap(), Call::KeepsTo);
@@ -137,9 +137,9 @@ fn a_posting_is_answered_with_its_records() {
     let room = Version::NEWEST.longest_image() as u16;
     let further = records.concat();
     let bytes = line_a(4);
-    let words = 2 * 100 * 4 + 1;
+    let beside = 2 * 100 * 4 + 1;
     let blank = Request::blank(Call::Post);
-    let post = Request { mains: 0b1111, bytes, further, room, words, fill: FILL, ..blank };
+    let post = Request { mains: 0b1111, bytes, further, room, beside, fill: FILL, ..blank };
     let bytes = served(std::slice::from_ref(&post));
     let answer = Answer::read(&mut &bytes[..], &post).unwrap();
     assert_eq!((answer.number, answer.written()), (0, &p2()[..]));
@@ -148,8 +148,8 @@ fn a_posting_is_answered_with_its_records() {
     (expected[0][10], expected[1][10], expected[2][10]) = (0, 3, 18);
     assert_eq!(answer.records, expected.concat());
     // In slot 2 node 3 sends and node 2 receives; the last word is not written.
-    assert_eq!(answer.index[32..48], [0, 0, 0, 0, 0, 0, 0, 8, 0, 0, 0, 0, 0, 0, 0, 4]);
-    assert_eq!(answer.index[6400..], [FILL; 8]);
+    assert_eq!(answer.beside[32..48], [0, 0, 0, 0, 0, 0, 0, 8, 0, 0, 0, 0, 0, 0, 0, 4]);
+    assert_eq!(answer.beside[6400..], [FILL; 8]);
     // Refused as a whole, it leaves the records alone.
     let short = Request { room: room - 1, ..post };
     assert_eq!((short.answer().number, short.answer().records), (12, records.concat()));

@@ -26,10 +26,19 @@ fn a_program_that_does_not_answer_is_unequal() {
 
 #[test]
 fn the_references_statement_is_equal_to_itself() {
-    assert!(streams_pass(&["--streams", "200", "--", env!("CARGO_BIN_EXE_reference_statement")]));
+    let program = env!("CARGO_BIN_EXE_reference_statement");
+    assert!(streams_pass(&["statement", "--streams", "200", "--", program]));
+}
+
+#[test]
+fn the_references_salvage_is_equal_to_itself() {
+    let program = env!("CARGO_BIN_EXE_reference_salvage");
+    assert!(streams_pass(&["salvage", "--streams", "300", "--", program]));
 }
 
 #[test]
 fn a_program_that_prints_balances_is_unequal() {
-    assert!(!streams_pass(&["--", env!("CARGO_BIN_EXE_reference_balance")]));
+    for kind in ["statement", "salvage"] {
+        assert!(!streams_pass(&[kind, "--", env!("CARGO_BIN_EXE_reference_balance")]));
+    }
 }

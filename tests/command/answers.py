@@ -17,6 +17,7 @@ USAGE = {
     "diff": "BOOK BOOK [--json]",
     "statement": "LAST THIS [LAST THIS ..] [--raw]",
     "replan": "BOOK PLAN NEW",
+    "salvage": "BAD NEW [--raw] [--json]",
     "page": "BOOK [FILE]",
     "help": "[COMMAND]",
 }

@@ -113,10 +113,10 @@ def hostile(room):
         name = "h%d" % turn
         data = [spoilt(dice.choice(books)), dice.randbytes(dice.randrange(3000)), spoilt(room.get("kiln.plan"))][turn % 3]
         room.put(name, data)
-        command = dice.choice([["check"], ["show"], ["table"], ["balance", "3"], ["quote", "0", "3"], ["open", "9", "2", "0", "1"], ["close", "9"], ["post", "a.list"], ["page"], ["diff", "kiln.book"], ["new"]])
+        command = dice.choice([["check"], ["show"], ["table"], ["balance", "3"], ["quote", "0", "3"], ["open", "9", "2", "0", "1"], ["close", "9"], ["post", "a.list"], ["page"], ["diff", "kiln.book"], ["salvage", name + ".new"], ["new"]])
         words = ["new", name + ".book", name] if turn % 3 == 2 or command == ["new"] else [command[0], name, *command[1:]]
         said = room.run(*words)
-        right = said.status in (0, 1, 2) and (said.status == 0 or (said.err != "" and said.out == "") or words[0] in ("quote", "diff", "post"))
+        right = said.status in (0, 1, 2) and (said.status == 0 or (said.err != "" and said.out == "") or words[0] in ("quote", "diff", "post", "salvage"))
         changed = words[0] in ("open", "close") and said.status == 0 or "\nchanged: " in said.out
         return right and "panicked" not in said.err and (changed or room.get(name) == data), words, said.all
     for right, words, said in tool.all_of(one, range(HOSTILE)):

@@ -199,6 +199,7 @@ def test(room):
              Case(room, "post", "a.book", tool.work_out.Book.read(room.get("site.book")).without(63).image(), "post", "a.book", "month.list"),
              Case(room, "new", "n.book", None, "new", "n.book", "kiln.plan"),
              Case(room, "replan", "n.book", None, "replan", "kiln.book", "yard.plan", "n.book"),
+             Case(room, "salvage", "n.book", None, "salvage", "kiln.book", "n.book"),
              Case(room, "page", "p.html", None, "page", "kiln.book", "p.html")]
     for case in cases:
         check(case.status == 0 and case.after not in (None, case.before), "%s is not done" % case.name)

@@ -56,7 +56,7 @@ def json_fields(room):
     document = text("docs/json.md").split("| Field |")[1]
     room.put("a.list", b"open 9 6 4 50\nclose 9\nclose 9\n")
     used = set()
-    for words in [["check"], ["show"], ["table"], ["balance"], ["quote", "3", "0"], ["quote", "3", "9"], ["routes", "3", "0"], ["diff", "pond.book"], ["balance", "99"], ["post", "a.list"], ["check", "--mains", "0"]]:
+    for words in [["check"], ["show"], ["table"], ["balance"], ["quote", "3", "0"], ["quote", "3", "9"], ["routes", "3", "0"], ["diff", "pond.book"], ["balance", "99"], ["post", "a.list"], ["check", "--mains", "0"], ["salvage", "new.book"]]:
         out = room.run(words[0], "kiln.book", *words[1:], "--json").out
         check(out.count("\n") == 1 and out.endswith("\n"), "%s --json is not one line" % words)
         used |= fields(json.loads(out))
@@ -77,14 +77,17 @@ def documents(room, usages, refusals):
     room.put("month.list", re.search(r"```\n(close 1\n.*?)```", readme, re.S).group(1).encode())
     room.put("my.book", room.get("pond.book"))
     room.put("shed.book", room.get("pins.book"))
+    pins = room.get("pins.book")
+    second = pins.index(bytes([0, 2, 1, 0, 20, 3]))
+    room.put("laptop.book", pins[:second + 6] + b"\x01" + pins[second + 7:-20])
     os.symlink(".", room.at("books"))
     dialogues = re.findall(r"```\n(\$ ./lindurask .*?)```", readme, re.S)
-    check(len(dialogues) == 8, "README.md has %d dialogues" % len(dialogues))
+    check(len(dialogues) == 9, "README.md has %d dialogues" % len(dialogues))
     for part in "".join(dialogues).split("$ ./lindurask ")[1:]:
         words, said = part.split("\n", 1)
         got = room.run(*words.split()).all
         check(got == said, "README.md: lindurask %s says\n%s" % (words, got))
-    for variable in ["LINDURASK_ENGINE", "LINDURASK_STATEMENT", "NO_COLOR"]:
+    for variable in ["LINDURASK_ENGINE", "LINDURASK_STATEMENT", "LINDURASK_SALVAGE", "NO_COLOR"]:
         check(variable in text("cli/lindurask.1"), "the man page has no %s" % variable)
 
 
@@ -108,7 +111,7 @@ def samples(room):
 def installed(room):
     done = subprocess.run([os.path.join(tool.ROOT, "install"), room.at("prefix")], capture_output=True, text=True)
     check(done.returncode == 0, "./install: %s" % done.stderr)
-    for file in ["bin/lindurask", "libexec/lindurask/engine", "libexec/lindurask/statement", "share/man/man1/lindurask.1", "share/bash-completion/completions/lindurask",
+    for file in ["bin/lindurask", "libexec/lindurask/engine", "libexec/lindurask/statement", "libexec/lindurask/salvage", "share/man/man1/lindurask.1", "share/bash-completion/completions/lindurask",
                  "include/lindurask.h", "lib/libplanner.a"]:
         check(os.path.isfile(room.at("prefix/" + file)), "./install did not put %s" % file)
     # Without the kit and without the repository: neither is on the path.
@@ -118,6 +121,8 @@ def installed(room):
     stated = [run[0], "statement", "kiln.book", "pond.book"]
     done = subprocess.run(stated, cwd=room.path, env={"PATH": "/usr/bin:/bin"}, capture_output=True, text=True)
     check(done.returncode == 0 and done.stdout == room.run(*stated[1:]).out, "a statement by what is installed: %s" % done.stderr)
+    done = subprocess.run([run[0], "salvage", "kiln.book", "whole.book"], cwd=room.path, env={"PATH": "/usr/bin:/bin"}, capture_output=True, text=True)
+    check(done.returncode == 0 and room.get("whole.book") == room.get("kiln.book"), "a salvage by what is installed: %s" % done.stderr)
     os.remove(room.at("prefix/libexec/lindurask/engine"))
     done = subprocess.run(run, cwd=room.path, env={"PATH": "/usr/bin:/bin"}, capture_output=True, text=True)
     check(done.returncode == 2 and "the engine is not there" in done.stderr, "an installed tool without its engine: %s" % done.stderr)
@@ -128,7 +133,7 @@ def test(room):
     names = [words.split()[1] for words in everything.split("\n") if words.startswith("  lindurask ")]
     usages = {name: room.run(name, "--help").out.split("\n")[0].replace("lindurask ", "", 1) for name in names}
     refusals = re.findall(r"^ +(\d+)  (.*)$", everything, re.M)
-    check(len(usages) == 15 and len(refusals) == 21, "help lists %d commands and %d refusals" % (len(usages), len(refusals)))
+    check(len(usages) == 16 and len(refusals) == 21, "help lists %d commands and %d refusals" % (len(usages), len(refusals)))
     check(all(len(line) <= 80 for line in everything.split("\n")), "help is wider than 80 columns")
     man_page(room, usages, refusals)
     completion(usages)

@@ -24,6 +24,7 @@ def hold(room, name, shown, words):
     os.truncate(room.at(name), 20)
     said = room.run("check", *words, name)
     check(said.status == 1 and said.all == "refused 14: the book is cut short, or not as long as its head says (%s)\n" % shown, "check %s: %s" % (shown, said.all))
+    check(room.run("salvage", *words, name, b"saved.book").all == said.all, "salvage %s" % shown)
     os.rename(room.at(name), room.at("away"))
     for command in [[b"check"], [b"open", b"7", b"3", b"0", b"2"], [b"close", b"7"]]:
         said = room.run(command[0], *words, name, *command[1:])

@@ -64,7 +64,7 @@ def closed(room):
 def mute(room):
     """Standard output that is closed, or open for reading alone: nothing is done."""
     before, books = room.names(), [room.get("kiln.book"), room.get("yard.book")]
-    words = READERS + CHANGERS + [["page", "m.html"], ["replan", "yard.plan", "m.book"]]
+    words = READERS + CHANGERS + [["page", "m.html"], ["replan", "yard.plan", "m.book"], ["salvage", "m.book"]]
     commands = [asked(command, "kiln.book") for command in words] + [["new", "m.book", "kiln.plan"], ["help"], ["--version"], ["frob"]]
     for closing in [">&-", "1</dev/null", "<&- >&-"]:
         for command in commands if closing == ">&-" else commands[len(READERS):][:5]:

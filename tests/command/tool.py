@@ -91,11 +91,13 @@ class Room:
             return file.read()
 
     def put_others(self):
-        """Adds the further books that diff is tried on, and the lists that post is."""
+        """Adds the further books that diff is tried on, the lists that post is, and the damaged books that salvage is."""
         for name, book in work_out.others().items():
             self.put(name, book.image())
         for name, text in work_out.lists().items():
             self.put(name, text.encode())
+        for name, image in work_out.spoilt().items():
+            self.put(name, image)
 
     def names(self, folder="."):
         return sorted(os.listdir(os.path.join(self.path, folder)))

@@ -43,7 +43,8 @@ and its streams.
 lindurask COMMAND --help explains a command and its options.
 Exit status: 0 done, 1 refused, 2 not understood, or a file failed;
 of diff: 0 the same, 1 they differ, 2 also where a book is refused;
-of check --mains: 1 where a stream passes another node.
+of check --mains: 1 where a stream passes another node;
+of salvage: 1 where something is dropped, lost or not as the head states.
 The refusals by their number:
 {}",
         commands.collect::<String>(),

@@ -12,6 +12,7 @@ mod post;
 mod quote;
 mod replan;
 mod routes;
+mod salvage;
 mod show;
 mod statement;
 mod table;
@@ -49,7 +50,7 @@ pub struct Command {
 }
 
 /// All commands, in the order in which help lists them.
-pub const COMMANDS: [Command; 15] = [
+pub const COMMANDS: [Command; 16] = [
     new::NEW,
     check::CHECK,
     show::SHOW,
@@ -63,6 +64,7 @@ pub const COMMANDS: [Command; 15] = [
     diff::DIFF,
     statement::STATEMENT,
     replan::REPLAN,
+    salvage::SALVAGE,
     page::PAGE,
     help::HELP,
 ];

@@ -109,7 +109,8 @@ fn text(statement: &Statement, names: &[String]) -> String {
 
 /// Reads the books of a site.
 fn read([last, this]: [&Path; 2]) -> Result<Pair, Trouble> {
-    Ok([files::read_image(last)?, files::read_image(this)?])
+    let read = |path| files::read_image(path, "a statement");
+    Ok([read(last)?, read(this)?])
 }
 
 fn run(words: &Words) -> Result<Report, Trouble> {

@@ -1,7 +1,7 @@
 // Makes the call of a frame, unless it is a posting.
-ghost use Prim.Native.Nat.{_≤_};
+ghost use Prim.Native.Nat.{_+_, _≤_};
 ghost use lib.ListN.{length};
-ghost use Rattle.frames.specs.Lengths.{headLength};
+ghost use Rattle.frames.specs.Lengths.{headLength, mostReport};
 use frames::Reply;
 use rules::Asked;
 use rules::Node;
@@ -114,7 +114,46 @@ fn keeps_to(frame: &[u8], book: &[u8]) -> Reply
     }
 }
 
-// Makes a call that is no posting, with its book or its links.
+// Salvages a damaged book into the first bytes of what is lent, with a report of so many bytes that is filled before.
+fn salvage_into(
+    frame: &[u8],
+    book: &[u8],
+    room: usize,
+    lent: &mut [u8],
+    size: usize,
+    report: &mut [u8],
+) -> Reply
+    requires { ⌜ (headLength ≤ length (now frame)) × (room ≤ length (now lent)) × (size ≤ length (now report)) ⌝ }
+{
+    frames::fill(frame, report);
+    let salvaged = planner::salvage(book, &mut lent[..room], &mut report[..size]);
+    Reply {
+        number: salvaged.number,
+        first: salvaged.length,
+        second: salvaged.rows,
+        third: salvaged.lost,
+    }
+}
+
+// Puts so many bytes of a report at a place.
+fn put_report(report: &[u8], size: usize, lent: &mut [u8], at: usize)
+    requires { ⌜ (size ≤ length (now report)) × (at + size ≤ length (now lent)) ⌝ }
+{
+    writer::put_part(&report[..size], lent, at);
+}
+
+// Salvages a damaged book; what is lent is an output of so many bytes, and then room for the longest report.
+pub fn salvage(frame: &[u8], book: &[u8], room: usize, lent: &mut [u8]) -> Reply
+    requires { ⌜ (headLength ≤ length (now frame)) × (room + mostReport ≤ length (now lent)) ⌝ }
+{
+    let size = frames::report_room(frame);
+    let mut report = [0u8; frames::MOST_REPORT];
+    let reply = salvage_into(frame, book, room, lent, size, &mut report);
+    put_report(&report, size, lent, room);
+    reply
+}
+
+// Makes a call that is neither a posting nor a salvage, with its book or its links.
 pub fn call(frame: &[u8], book: &[u8], out: &mut [u8]) -> Reply
     requires { ⌜ headLength ≤ length (now frame) ⌝ }
 {

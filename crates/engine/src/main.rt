@@ -81,6 +81,22 @@ fn answer_posting(frame: &[u8], answers: &mut [u8], held: usize) -> usize
     answer_indexed(frame, &mut index[..words], answers, held)
 }
 
+// Answers a salvage as other calls, with its report at the end.
+fn answer_salvage(frame: &[u8], answers: &mut [u8], held: usize) -> usize
+    requires { ⌜ (headLength ≤ length (now frame)) × (held ≤ length (now answers)) × (mostPart ≤ length (now answers)) ⌝ }
+    ensures { λ r. ⌜ r ≤ length (now (answers .entry)) ⌝ }
+{
+    let room = frames::room(frame);
+    let start = streams::make_room(answers, held, frames::REPLY + room + frames::MOST_REPORT);
+    let at = start + frames::REPLY;
+    let end = at + room;
+    let last = end + frames::MOST_REPORT;
+    frames::fill(frame, &mut answers[at..end]);
+    let reply = calls::salvage(frame, frames::book(frame), room, &mut answers[at..last]);
+    frames::put_reply(&mut answers[start..at], reply);
+    end + frames::report_room(frame)
+}
+
 // Answers the call of the frame.
 fn answer(frame: &[u8], answers: &mut [u8], held: usize) -> usize
     requires { ⌜ (headLength ≤ length (now frame)) × (held ≤ length (now answers)) × (mostPart ≤ length (now answers)) ⌝ }
@@ -88,6 +104,9 @@ fn answer(frame: &[u8], answers: &mut [u8], held: usize) -> usize
 {
     if frame[0] == frames::POST {
         return answer_posting(frame, answers, held);
+    }
+    if frame[0] == frames::SALVAGE {
+        return answer_salvage(frame, answers, held);
     }
     answer_call(frame, answers, held)
 }

@@ -29,3 +29,7 @@ wordLength = 8
 
 abbrev pub mostPart : ℕ
 mostPart = wordLength * mostWords
+
+-- the longest report
+abbrev pub mostReport : ℕ
+mostReport = 4096

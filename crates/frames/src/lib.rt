@@ -1,7 +1,7 @@
 // A framed call and its answer: where their parts stand.
 ghost use Prim.Native.Nat.{_+_, _*_, _≤_};
 ghost use lib.ListN.{length};
-ghost use Rattle.frames.specs.Lengths.{headLength, replyLength, mostRoom, mostRecords, mostWords, wordLength};
+ghost use Rattle.frames.specs.Lengths.{headLength, replyLength, mostRoom, mostRecords, mostWords, wordLength, mostReport};
 use answers::Answer;
 
 // Bytes of a call before its book or topology.
@@ -15,6 +15,9 @@ pub const POST: u8 = 8;
 
 // the one that says whether a book keeps to a set,
 pub const KEEPS: u8 = 9;
+
+// the one that salvages a damaged book,
+pub const SALVAGE: u8 = 11;
 
 // and the one that gives a node's links; the numbers between are for later calls.
 pub const LINKS: u8 = 13;
@@ -37,7 +40,10 @@ const MOST_WORDS: usize = 6500;
 // and bytes of a word.
 pub const WORD: usize = 8;
 
-// What a call says back: its number, and a length and two zeros, a list's length and its mark, data, used and free slots, links and two zeros, or 1 where a book keeps to a set and two zeros.
+// The longest report.
+pub const MOST_REPORT: usize = 4096;
+
+// What a call says back: its number, and a length and two zeros, a list's length and its mark, data, used and free slots, links and two zeros, 1 where a book keeps to a set and two zeros, or a length, the rows cut and the bytes lost.
 pub struct Reply {
     pub number: u8,
     pub first: usize,
@@ -88,9 +94,21 @@ pub fn index(frame: &[u8]) -> [u64; MOST_WORDS]
     [broad(frame[18]) * 72_340_172_838_076_673; MOST_WORDS]
 }
 
+// The length of the report of a salvage; one that is too long is left out.
+pub fn report_room(frame: &[u8]) -> usize
+    requires { ⌜ headLength ≤ length (now frame) ⌝ }
+    ensures { λ r. ⌜ r ≤ mostReport ⌝ }
+{
+    let room = long(image::word_at(frame, 42));
+    if MOST_REPORT < room {
+        return 0;
+    }
+    room
+}
+
 // Whether a number is that of a call; any other ends the stream.
 fn is_call(number: u8) -> bool {
-    number <= KEEPS || number == LINKS
+    number <= KEEPS || number == SALVAGE || number == LINKS
 }
 
 // The length of the frame, 0 if it ends the stream.

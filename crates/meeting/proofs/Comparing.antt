@@ -180,7 +180,7 @@ module _ {s : List ℕ} {start done at left : ℕ} {words : List ℕ} (w : Compa
         each = λ x m. ⊎-elim (λ k. inl (inr k)) (λ k. ⊎-elim (λ q. inl (inl q)) (λ q. inr (subst (λ (p : ℕ). x ∈ rowsFrom s (left - 1) p) (sym e) q)) (down x k)) (w .each x m);
         never = never-more;
         framed = w .framed;
-        beside = beside-more (w .beside) (few-done l) (w .at-is) (row-there (w .framed) (compared-row l)) a;
+        beside = beside-more (w .beside) (few-done l) (w .at-is) (row-there (w .framed .fields) (compared-row l)) a;
       })
 
   -- where no row is left none meet, and all are in the index

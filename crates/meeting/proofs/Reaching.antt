@@ -12,14 +12,14 @@ use Rattle.rules.specs.Tiles.{periodAt}
 use Rattle.rules.specs.Topology.{Topology, Hop}
 use Rattle.rules.specs.Book.{hops, rowHop, rowOffset}
 use Rattle.rules.specs.Periods.{InList}
-use Rattle.rules.specs.Image.{planOf, hearingOf}
+use Rattle.rules.specs.Image.{planOf, FieldsInRange, hearingOf}
 use Rattle.rules.specs.declared.Node.{Node}
 use Rattle.bitset.specs.Rows.{topology}
 use Rattle.rules.proofs.Tests.{alike, fails, said-yes}
 use Rattle.clash.specs.Reach.{hop, Clashes, Between, ReachOf}
 use Rattle.clash.specs.declared.Reach.{Reach}
 use Rattle.index.specs.Turns.{RepeatsOf, InIndex}
-use Rattle.index.specs.Marks.{Adds, Notes, HopsTake, Marks, InReach}
+use Rattle.index.specs.Marks.{Adds, Notes, HopsTake, Marks, Finds, InReach}
 use Rattle.index.specs.declared.Repeats.{Repeats}
 use Rattle.index.proofs.Turns.{in-index}
 use Rattle.index.proofs.Meets.{tests-meets, own-before, own-after}
@@ -34,10 +34,10 @@ use Rattle.rows.proofs.Walks.{nodes-few, node-small}
 use Rattle.meeting.specs.Meeting.{HopIndexed, HopAgrees, RowMeets, RowPlaced, HearingRead, HopMarked, RowMarked, RowIn}
 
 -- THE ROW
-pub row-placed : {s : List ℕ} {at S K p : ℕ} {repeats : Repeats} → Framed s → RowStands s at → InList p × (periodAt p ≡ K) → K ≡ rowAt s at .period
+pub row-placed : {s : List ℕ} {at S K p : ℕ} {repeats : Repeats} → FieldsInRange s → RowStands s at → InList p × (periodAt p ≡ K) → K ≡ rowAt s at .period
     → S ≡ planOf s .slots → RepeatsOf S (periodAt p) repeats → RowPlaced s at repeats
-row-placed {s} {p = p} {repeats} framed stands place e f v = record {
-  framed = framed;
+row-placed {s} {p = p} {repeats} fields stands place e f v = record {
+  fields = fields;
   row = stands;
   repeats-are = subst (λ (K : ℕ). RepeatsOf (planOf s .slots) K repeats) (place .1 ∙ e) (subst (λ (S : ℕ). RepeatsOf S (periodAt p) repeats) f v);
 }
@@ -46,20 +46,20 @@ row-placed {s} {p = p} {repeats} framed stands place e f v = record {
 pub rows-first : {s : List ℕ} {start n rows : ℕ} → RowsThere s start n → rows ≤ n → RowsThere s start rows
 rows-first w l = record { each = λ i h. w .each i (omega (arith, h, l)); few = omega (arith, l, w .few) }
 
-pub row-there : {s : List ℕ} {at : ℕ} → Framed s → RowStands s at → RowThere s at
-row-there framed stands = record { whole = stands .whole; lawful = stands .lawful; small = node-small framed stands }
+pub row-there : {s : List ℕ} {at : ℕ} → FieldsInRange s → RowStands s at → RowThere s at
+row-there fields stands = record { whole = stands .whole; lawful = stands .lawful; small = node-small fields stands }
 
 -- A HOP OF THE ROW
 module _ {s : List ℕ} {at : ℕ} {repeats : Repeats} (w : RowPlaced s at repeats) where
   pub hop-in-index : {i o : ℕ} → i < hops (rowAt s at) → o ≡ rowOffset (rowAt s at) i → InIndex repeats o
-  hop-in-index {i} l e = in-index (w .repeats-are) (w .framed .fields .plan .most) (rw e (offset-within (w .row .lawful) i l))
+  hop-in-index {i} l e = in-index (w .repeats-are) (w .fields .plan .most) (rw e (offset-within (w .row .lawful) i l))
 
   module _ {hearing : List ℕ} (v : HearingRead s hearing) (i : ℕ) {from to : Node} (e : from .0 ≡ getD (rowAt s at .route) i 0)
       (f : to .0 ≡ getD (rowAt s at .route) (i + 1) 0) where
     pub between-here : i < hops (rowAt s at) → Between (topology hearing) (hop from to)
     between-here l = subst (λ (T : Topology). Between T (hop from to)) (sym (ap topology (v .rows-are))) (record {
       sound = v .sound .hearing-sound;
-      most = omega (arith, v .sound .even, nodes-few (w .framed));
+      most = omega (arith, v .sound .even, nodes-few (w .fields));
       from = omega (arith, v .sound .even, node-known (w .row .lawful) i (omega arith));
       to = omega (arith, v .sound .even, node-known (w .row .lawful) (i + 1) (omega arith));
     })
@@ -69,7 +69,7 @@ module _ {s : List ℕ} {at : ℕ} {repeats : Repeats} (w : RowPlaced s at repea
       hop-is : hop from to ≡ rowHop (rowAt s at) i
       hop-is = let g : to .0 ≡ getD (rowAt s at .route) (suc i) 0 = f ∙ ap (λ (n : ℕ). getD (rowAt s at .route) n 0) (add-one i) in λ j. record { from = e j; to = g j }
 
-      reach-is : ReachOf (hearingOf s) (rowHop (rowAt s at) i) reach
+      pub reach-is : ReachOf (hearingOf s) (rowHop (rowAt s at) i) reach
       reach-is = subst (λ (T : Topology). ReachOf T (rowHop (rowAt s at) i) reach) (ap topology (v .rows-are)) (subst (λ (h : Hop). ReachOf (topology hearing) h reach) hop-is u)
 
       module _ {o : ℕ} {before after : List ℕ} {t : Bool} (g : o ≡ rowOffset (rowAt s at) i) (m : Marks repeats o (hop from to) reach before after t) where
@@ -95,6 +95,10 @@ module _ {s : List ℕ} {at : ℕ} {repeats : Repeats} (w : RowPlaced s at repea
               (λ h. ⊎-elim (λ k. absurd (fails met-is e k))
               (λ k. agrees-for (Clashes (hearingOf s) (rowHop (rowAt s at) i)) (InReach reach) (λ end node q. reach-is end .all node q) k) h);
         }
+
+      -- looked up, it is not marked
+      pub hop-found : {o : ℕ} {words : List ℕ} {t : Bool} → o ≡ rowOffset (rowAt s at) i → Tests t (Finds (InReach reach) words repeats o) → Tests t (HopIndexed words s at i)
+      hop-found {words = words} {t} g m = tests-meets reach-is (w .repeats-are) (subst (λ (p : ℕ). Tests t (Finds (InReach reach) words repeats p)) g m)
 
 -- it meets no hop of its own row, so it may be looked up with those marked already
 pub own-apart : {s : List ℕ} {at i : ℕ} {repeats : Repeats} {start rows : ℕ} {moduli before words : List ℕ} {t : Bool} → RowPlaced s at repeats → i < hops (rowAt s at)

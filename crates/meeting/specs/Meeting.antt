@@ -9,7 +9,7 @@ use Rattle.rules.specs.Words.{Tests}
 use Rattle.rules.specs.Tiles.{shortTiles}
 use Rattle.rules.specs.Topology.{SoundTopologies}
 use Rattle.rules.specs.Book.{hops, rowHop, rowOffset, ClashingHopsMeet}
-use Rattle.rules.specs.Image.{planOf, linksOf, hearingOf, RowsOf}
+use Rattle.rules.specs.Image.{planOf, FieldsInRange, linksOf, hearingOf, RowsOf}
 use Rattle.rules.proofs.Reading.{rowsIn, bookIn}
 use Rattle.clash.specs.Reach.{End, nodeAt, Clashes}
 use Rattle.index.specs.Index.{indexLength, slowPlace, IndexOf}
@@ -69,7 +69,7 @@ pub record RowsIndexed (s words : List ℕ) (t : Bool) : Type 0 where
 
 -- a lawful row is at the place, and its period repeats so
 pub record RowPlaced (s : List ℕ) (at : ℕ) (repeats : Repeats) : Type 0 where
-  pub framed : Framed s
+  pub fields : FieldsInRange s
   pub row : RowStands s at
   pub repeats-are : RepeatsOf (planOf s .slots) (rowAt s at .period) repeats
 

@@ -42,7 +42,7 @@ fn hop_meets(
 }
 
 // Marks the row's hops up to the first that meets one of the rows before; whether there is such a hop.
-fn row_meets(
+pub fn row_meets(
     image: &[u8],
     hearing: &[u64],
     at: usize,

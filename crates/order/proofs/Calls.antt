@@ -187,7 +187,7 @@ pub served-ran : {image : List ℕ} {v : ℕ} {b : Book} → Stored image v b �
     → Ran image (allNodes (nodes (b .site .links))) b (q ∷ []) (n ∷ []) (current image len out′)
 served-ran {image} {v} {b} s q small out full n len out′ h =
     let low = all-below (nodes (b .site .links)) in
-    let given = post-alike (q ∷ []) (λ w c t. ap allNodes (stored-nodes s)) (h .posted) in
+    let given = post-alike (q ∷ []) (0 ∷ []) (λ w c t. ap allNodes (stored-nodes s)) (h .posted) in
     let ample : Ample image (h .index) out = record { tiles = omega (arith, h .index-holds, stored-index s, s .lawful .site .plan .most); full = full } in
     let z = whole-none s low (q ∷ []) (omega arith) (h .index) out ample (h .whole) (given .says) in
     let p : Post image (allNodes (nodes (b .site .links))) (q ∷ []) (h .index) out (0 ∷ []) 0 len (h .index′) out′ (n ∷ []) =

@@ -12,7 +12,7 @@ use lib.ListN.{length, getD}
 use Rattle.rules.specs.Words.{Has, Tests}
 use Rattle.rules.specs.Tiles.{PlanInRange, Period, Meet}
 use Rattle.rules.specs.Topology.{Hop, hopAt}
-use Rattle.rules.specs.Book.{Row, hops, rowHop, rowOffset}
+use Rattle.rules.specs.Book.{Site, Row, hops, rowHop, rowOffset, LawfulRow}
 use Rattle.rules.specs.Image.{planOf}
 use Rattle.rules.specs.declared.Node.{Node}
 use Rattle.rules.proofs.Tests.{alike, fails, never, said-no, tests-eq}
@@ -22,7 +22,7 @@ use Rattle.clash.specs.Reach.End.{sender, receiver}
 use Rattle.clash.specs.declared.Reach.{Reach}
 use Rattle.index.specs.Marks.{InReach}
 use Rattle.image.proofs.Hops.{offset-within}
-use Rattle.plain.specs.Plain.{HasEnd, ModulusOf, Weighed, nthRow, RowsThere, Weighs, AgreesHop, AgreesRow, Agrees, MeetsRow, MeetsPlain, MeetsRouteHop}
+use Rattle.plain.specs.Plain.{LeftOut, HasEnd, ModulusOf, Weighed, RowsThere, Weighs, AgreesHop, AgreesRow, Agrees, MeetsRow, MeetsPlain, MeetsRouteHop}
 use Rattle.plain.specs.Plain.Weighed.{weighs, indexed}
 
 -- ENDS IN REACH
@@ -60,57 +60,43 @@ module _ {C : End → ℕ → Type 0} where
   offset-reach e a = alike a (λ h. record { sought = h; is = e }) (λ h. h .sought)
 
 -- MEETING: of a row with a modulus, and of the rows
+module _ {site : Site} {r : Row} (row : LawfulRow site r) (plan : PlanInRange (site .plan)) {K o : ℕ} (p : Period K) (l : o < K * site .plan .slots) where
+  -- hop j of the row: its offset agrees exactly if it is met
+  met-iff : (j : ℕ) {m : ℕ} → j < hops r → ModulusOf (site .plan .slots) K (r .period) m
+      → Meet (site .plan .slots) K o (r .period) (rowOffset r j) ↔ (o % m ≡ rowOffset r j % m)
+  met-iff j k m =
+      subst (λ (x : ℕ). Meet (site .plan .slots) K o (r .period) (rowOffset r j) ↔ (o % x ≡ rowOffset r j % x)) (sym (m .is))
+      (meet-rule (site .plan .slots) K (r .period) (m .divisor) o (rowOffset r j) (plan .some) p (row .period) (m .greatest) l (offset-within row j k))
+
+  module _ {C : End → ℕ → Type 0} {m : ℕ} where
+    pub row-agrees-meets : Weighed (site .plan .slots) K (r .period) m → 0 < m → AgreesRow C r m o → LeftOut K (r .period) × MeetsRow C (site .plan .slots) K r o
+    row-agrees-meets (weighs out some q) z h =
+        (out, record { hop = h .hop; there = h .there; sought = h .hop-agrees .sought; meet = met-iff (h .hop) (h .there) q .1 (h .hop-agrees .agrees) })
+    row-agrees-meets (indexed f e) z h = absurd (omega (arith, e, z))
+
+    pub row-meets-agrees : Weighed (site .plan .slots) K (r .period) m → LeftOut K (r .period) → MeetsRow C (site .plan .slots) K r o → (0 < m) × AgreesRow C r m o
+    row-meets-agrees (weighs out some q) z h = (
+      some,
+      record { hop = h .hop; there = h .there; hop-agrees = record { sought = h .sought; agrees = met-iff (h .hop) (h .there) q .0 (h .meet) } },
+    )
+    row-meets-agrees (indexed f e) z h = absurd (f z)
+
 module _ {s : List ℕ} {start n K o : ℕ} (there : RowsThere s start n) (plan : PlanInRange (planOf s)) (p : Period K)
-    (l : o < K * planOf s .slots) where
-  -- hop j of row i: its offset agrees exactly if it is met
-  met-iff : (i j : ℕ) {m : ℕ} → i < n → j < hops (nthRow s start i) → ModulusOf (planOf s .slots) K (nthRow s start i .period) m
-      → Meet (planOf s .slots) K o (nthRow s start i .period) (rowOffset (nthRow s start i) j) ↔ (o % m ≡ rowOffset (nthRow s start i) j % m)
-  met-iff i j h k m =
-      let r : Row = nthRow s start i in
-      let row = there .each i h .lawful in
-      subst (λ (x : ℕ). Meet (planOf s .slots) K o (r .period) (rowOffset r j) ↔ (o % x ≡ rowOffset r j % x)) (sym (m .is))
-      (meet-rule (planOf s .slots) K (r .period) (m .divisor) o (rowOffset r j) (plan .some) p (row .period) (m .greatest) l (offset-within row j k))
+    (l : o < K * planOf s .slots) {C : End → ℕ → Type 0} {moduli : List ℕ} {rows : ℕ} (w : Weighs s start n K moduli rows) where
+  pub agrees-meets : Agrees C s start rows moduli o → MeetsPlain C s start n K o
+  agrees-meets a =
+      let inside : a .row < n = omega (arith, a .there, w .most) in
+      let k = row-agrees-meets (there .each (a .row) inside .lawful) plan p l (w .each (a .row) (a .there)) (a .weighed) (a .row-agrees) in
+      record { row = a .row; there = inside; left-out = k .0; meets = k .1 }
 
-  module _ {C : End → ℕ → Type 0} {moduli : List ℕ} {rows : ℕ} (w : Weighs s start n K moduli rows) where
-    pub agrees-meets : Agrees C s start rows moduli o → MeetsPlain C s start n K o
-    agrees-meets a = go (w .each (a .row) (a .there))
-      where
-        go : Weighed (planOf s .slots) K (nthRow s start (a .row) .period) (getD moduli (a .row) 0) → MeetsPlain C s start n K o
-        go (weighs out some m) =
-            let h = a .row-agrees in
-            let inside : a .row < n = omega (arith, a .there, w .most) in
-            record {
-              row = a .row;
-              there = inside;
-              left-out = out;
-              meets = record {
-                hop = h .hop;
-                there = h .there;
-                sought = h .hop-agrees .sought;
-                meet = met-iff (a .row) (h .hop) inside (h .there) m .1 (h .hop-agrees .agrees);
-              };
-            }
-        go (indexed f z) = absurd (omega (arith, z, a .weighed))
+  pub meets-agrees : MeetsPlain C s start n K o → Agrees C s start rows moduli o
+  meets-agrees m = go (decLt (m .row) rows)
+    where
+      go : Dec (m .row < rows) → Agrees C s start rows moduli o
+      go (no f) = absurd (w .others (m .row) (omega arith) (m .there) (m .left-out))
+      go (yes h) =
+          let k = row-meets-agrees (there .each (m .row) (m .there) .lawful) plan p l (w .each (m .row) h) (m .left-out) (m .meets) in
+          record { row = m .row; there = h; weighed = k .0; row-agrees = k .1 }
 
-    pub meets-agrees : MeetsPlain C s start n K o → Agrees C s start rows moduli o
-    meets-agrees m = go (decLt (m .row) rows)
-      where
-        go : Dec (m .row < rows) → Agrees C s start rows moduli o
-        go (no f) = absurd (w .others (m .row) (omega arith) (m .there) (m .left-out))
-        go (yes h) = by (w .each (m .row) h)
-          where
-            by : Weighed (planOf s .slots) K (nthRow s start (m .row) .period) (getD moduli (m .row) 0) → Agrees C s start rows moduli o
-            by (indexed f z) = absurd (f (m .left-out))
-            by (weighs out some q) = record {
-              row = m .row;
-              there = h;
-              weighed = some;
-              row-agrees = record {
-                hop = m .meets .hop;
-                there = m .meets .there;
-                hop-agrees = record { sought = m .meets .sought; agrees = met-iff (m .row) (m .meets .hop) (m .there) (m .meets .there) q .0 (m .meets .meet) };
-              };
-            }
-
-    pub tests-meets : {t : Bool} → Tests t (Agrees C s start rows moduli o) → Tests t (MeetsPlain C s start n K o)
-    tests-meets a = alike a agrees-meets meets-agrees
+  pub tests-meets : {t : Bool} → Tests t (Agrees C s start rows moduli o) → Tests t (MeetsPlain C s start n K o)
+  tests-meets a = alike a agrees-meets meets-agrees

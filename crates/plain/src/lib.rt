@@ -45,7 +45,7 @@ fn left_out(period: Tile, row: Tile) -> bool
 }
 
 // The modulus of a row beside hops of a period; 0 where the index leaves neither out.
-fn modulus(slots: Slot, period: Tile, row: Tile) -> u16
+pub fn modulus(slots: Slot, period: Tile, row: Tile) -> u16
     requires { ⌜ (1 ≤ slots .0) × (slots .0 ≤ 32) × Period (period .0) × Period (row .0) ⌝ }
     ensures { λ r. ⌜ Weighed (slots .0) (period .0) (row .0) r ⌝ }
 {
@@ -136,7 +136,7 @@ fn hop_agrees(image: &[u8], at: usize, i: usize, modulus: u16, reach: Reach, o: 
 }
 
 // Whether the row has a modulus, and some hop of it does.
-fn row_agrees(image: &[u8], at: usize, modulus: u16, reach: Reach, o: Slot) -> bool
+pub fn row_agrees(image: &[u8], at: usize, modulus: u16, reach: Reach, o: Slot) -> bool
     requires { ⌜ RowThere (now image) at ⌝ }
     ensures { λ r. ⌜ Tests r ((0 < modulus) × AgreesRow (InReach reach) (rowAt (now (image .entry)) at) modulus (o .0)) ⌝ }
 {

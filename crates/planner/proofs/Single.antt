@@ -26,7 +26,7 @@ serves-all {q = q} all p = record {
   index = p .index;
   index′ = p .index′;
   index-holds = p .index-holds;
-  posted = post-alike (q ∷ []) (λ v b s. all (stored-lawful s)) (p .posted);
+  posted = post-alike (q ∷ []) (0 ∷ []) (λ v b s. all (stored-lawful s)) (p .posted);
   refused = p .refused;
   done = p .done;
 }

@@ -1,5 +1,6 @@
-// The C interface: the eleven calls over bare numbers.
+// The C interface: the twelve calls over bare numbers.
 ghost use mathlib.Core.Path.{_≡_};
+ghost use Rattle.rules.specs.Salvage.{Salvage};
 ghost use Rattle.rules.specs.Calls.{New, Check, Rewrite, Serve, Expand, Balance, Links};
 ghost use Rattle.rules.specs.Calls.Request.{Open, Close};
 ghost use Rattle.posting.specs.Posting.{Posts};
@@ -185,5 +186,24 @@ pub extern "C" fn lindurask_keeps_to(book: &[u8], mains: u64, keeps: &mut u8) ->
 {
     let answer = crate::keeps_to(book, mains);
     *keeps = answer.keeps as u8;
+    answer.number
+}
+
+// Salvages what can be kept of a damaged book, and reports each row cut.
+#[no_mangle]
+pub extern "C" fn lindurask_salvage(
+    book: &[u8],
+    out: &mut [u8],
+    report: &mut [u8],
+    length: &mut usize,
+    rows: &mut usize,
+    lost: &mut usize,
+) -> u8
+    ensures { λ r. ⌜ Salvage (now (book .entry)) (now (out .entry)) (now (report .entry)) r (now (length .exit)) (now (out .exit)) (now (rows .exit)) (now (lost .exit)) (now (report .exit)) ⌝ }
+{
+    let answer = crate::salvage(book, out, report);
+    *length = answer.length;
+    *rows = answer.rows;
+    *lost = answer.lost;
     answer.number
 }

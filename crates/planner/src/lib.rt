@@ -5,6 +5,7 @@ ghost use Rattle.rules.specs.Periods.{thePlan, theAsked};
 ghost use Rattle.rules.specs.Calls.{New, Check, Rewrite, Serve, Expand, LinksOf, Links, Routes, Keeps};
 ghost use Rattle.rules.specs.Calls.Request.{Open, Close};
 ghost use Rattle.rules.specs.Image.{nodesOf};
+ghost use Rattle.rules.specs.Salvage.{Salvage};
 ghost use Rattle.rules.proofs.Reading.{bookIn, LawfulImage};
 ghost use Rattle.posting.specs.Posting.{Posts};
 ghost use Rattle.planner.specs.Balances.{BalanceSays};
@@ -16,6 +17,7 @@ use rules::Asked;
 use rules::Node;
 use rules::Plan;
 use rules::Tile;
+use salvaging::Salvaged;
 
 mod interface;
 
@@ -262,4 +264,11 @@ pub fn keeps_to(image: &[u8], mains: u64) -> Kept
         number: 0,
         keeps: keeping::rows_keep(image, book, mains),
     }
+}
+
+// Salvages what can be kept of a damaged image: writes the book of the rows kept, in its own version, and reports each row cut.
+pub fn salvage(image: &[u8], out: &mut [u8], report: &mut [u8]) -> Salvaged
+    ensures { λ r. ⌜ Salvage (now (image .entry)) (now (out .entry)) (now (report .entry)) (r .number) (r .length) (now (out .exit)) (r .rows) (r .lost) (now (report .exit)) ⌝ }
+{
+    salvaging::salvage(image, out, report)
 }

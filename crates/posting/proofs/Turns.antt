@@ -16,20 +16,13 @@ use Rattle.rules.specs.Calls as calls
 use Rattle.rules.specs.Calls.{Work, InOrder}
 use Rattle.rules.proofs.Lists.{in-append, in-left, in-right}
 use Rattle.rules.proofs.Tests.{alike, tests-or, tests-eq, said-no}
+use Rattle.rules.proofs.Choice.{in-order-more}
 use Rattle.posting.specs.declared.Request.{Request}
 use Rattle.posting.specs.declared.State.{State}
 use Rattle.posting.specs.declared.Answered.{Answered}
 use Rattle.posting.specs.Records.{theRequest, theRequests, answers, withAnswer, OnlyMarked}
 use Rattle.posting.specs.Standing.{Standing, bookAt}
 use Rattle.posting.specs.Posting.{AnsweredNext, Through, PostedAll}
-
--- one more at the end of a list
-in-order-more : (Step : Book → calls.Request → ℕ → Book → Type 0) (b : Book) (qs : List calls.Request) (ns : List ℕ) (c : Book) (q : calls.Request) (n : ℕ) (d : Book)
-    → InOrder Step b qs ns c → Step c q n d → InOrder Step b (qs ++ (q ∷ [])) (ns ++ (n ∷ [])) d
-in-order-more Step b [] [] c q n d h w = (d, subst (λ (e : Book). Step e q n d) h w, refl)
-in-order-more Step b [] (m ∷ ns) c q n d h w = absurd h
-in-order-more Step b (p ∷ qs) [] c q n d h w = absurd h
-in-order-more Step b (p ∷ qs) (m ∷ ns) c q n d (e, v, h) w = (e, v, in-order-more Step e qs ns c q n d h w)
 
 marked-more : (rs rs′ : List Request) (r : Request) (n : ℕ) → OnlyMarked rs rs′ → OnlyMarked (rs ++ (r ∷ [])) (rs′ ++ (withAnswer r n ∷ []))
 marked-more [] [] r n h = (refl, tt)

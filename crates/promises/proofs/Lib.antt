@@ -11,3 +11,4 @@ pub mod Lists
 pub mod Orders
 pub mod Mains
 pub mod Index
+pub mod Salvages

@@ -3,3 +3,4 @@ pub mod OnAir
 pub mod Needed
 pub mod Mains
 pub mod Index
+pub mod Salvage

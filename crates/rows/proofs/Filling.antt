@@ -23,7 +23,7 @@ use Rattle.rows.specs.Walk.{RowsStand}
 use Rattle.rows.proofs.Walks.{RowsFill, AllFill}
 
 -- what is read is written again
-row-written : (s : List ℕ) (at : ℕ) → Bytes s → Whole s at → drop at s ≡ encodeRow (versionOf s) (rowAt s at) ++ drop (nextAt s at) s
+pub row-written : (s : List ℕ) (at : ℕ) → Bytes s → Whole s at → drop at s ≡ encodeRow (versionOf s) (rowAt s at) ++ drop (nextAt s at) s
 unfolding rowAt nextAt
 row-written s at b w =
     let v : ℕ = versionOf s in

@@ -13,7 +13,7 @@ use Rattle.rules.specs.Tiles.{Plan, PlanInRange}
 use Rattle.rules.specs.Topology.{Topology, nodes, Path}
 use Rattle.rules.specs.Book.{Site, Row, hops, key, Offsets, OnData, LawfulRow}
 use Rattle.rules.specs.Periods.{thePlan}
-use Rattle.rules.specs.Image.{linksStart, setsAt, versionOf, nodesOf, streamsOf, linksOf, siteOf, rowsPlace}
+use Rattle.rules.specs.Image.{linksStart, setsAt, versionOf, nodesOf, streamsOf, FieldsInRange, linksOf, siteOf, rowsPlace}
 use Rattle.rules.proofs.Tests.{alike, tests-eq}
 use Rattle.rules.proofs.Written.{length-sets-at}
 use Rattle.bitset.specs.Rows.{topology}
@@ -42,13 +42,13 @@ same-site {one} {other} {r} e f w = record {
 -- WHAT WAS READ IS WHAT THE IMAGE HOLDS
 module _ {s : List ℕ} {b : Book} {links : List ℕ} (o : ReadFrom s b links) where
   pub plan-read : PlanInRange (thePlan (b .plan))
-  plan-read = subst PlanInRange (sym (o .header .plan)) (o .framed .fields .plan)
+  plan-read = subst PlanInRange (sym (o .header .plan)) (o .fields .plan)
 
   pub nodes-read : length links ≡ nodesOf s
   nodes-read = ap length (o .links-are) ∙ length-sets-at s (linksStart (versionOf s)) (nodesOf s)
 
   pub nodes-most : length links ≤ 64
-  nodes-most = omega (arith, nodes-read, o .framed .fields .nodes)
+  nodes-most = omega (arith, nodes-read, o .fields .nodes)
 
   pub topology-read : topology links ≡ linksOf s
   topology-read = ap topology (o .links-are)
@@ -67,14 +67,14 @@ module _ {s : List ℕ} {b : Book} {links : List ℕ} (o : ReadFrom s b links) w
   row-tested {t = t} {u} whole e holds f = let h = holds .yes (not-false u f) in record { whole = whole .yes (not-false t e); lawful = row-read (h .lawful); fits = h .fits }
 
 -- the links, once they are decoded
-pub links-read : {s : List ℕ} {b : Book} {all : List ℕ} → Framed s → HeaderOf s b → Sets s (linksStart (versionOf s)) (b .nodes) all → ReadFrom s b (take (b .nodes) all)
-links-read {s} f h l = record { framed = f; header = h; links-are = l .rows ∙ ap (setsAt s (linksStart (versionOf s))) (h .nodes) }
+pub links-read : {s : List ℕ} {b : Book} {all : List ℕ} → FieldsInRange s → HeaderOf s b → Sets s (linksStart (versionOf s)) (b .nodes) all → ReadFrom s b (take (b .nodes) all)
+links-read {s} f h l = record { fields = f; header = h; links-are = l .rows ∙ ap (setsAt s (linksStart (versionOf s))) (h .nodes) }
 
--- a framed image has at most 64 nodes, and the nodes of its rows are below that
-pub nodes-few : {s : List ℕ} → Framed s → nodes (linksOf s) ≤ 64
-nodes-few {s} f = omega (arith, length-sets-at s (linksStart (versionOf s)) (nodesOf s), f .fields .nodes)
+-- an image has at most 64 nodes, and the nodes of its rows are below that
+pub nodes-few : {s : List ℕ} → FieldsInRange s → nodes (linksOf s) ≤ 64
+nodes-few {s} f = omega (arith, length-sets-at s (linksStart (versionOf s)) (nodesOf s), f .nodes)
 
-pub node-small : {s : List ℕ} {at : ℕ} → Framed s → RowStands s at → (i : ℕ) → i ≤ hops (rowAt s at) → getD (rowAt s at .route) i 0 < 64
+pub node-small : {s : List ℕ} {at : ℕ} → FieldsInRange s → RowStands s at → (i : ℕ) → i ≤ hops (rowAt s at) → getD (rowAt s at .route) i 0 < 64
 node-small f w i l = omega (arith, node-known (w .lawful) i l, nodes-few f)
 
 -- THE WALK

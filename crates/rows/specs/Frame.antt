@@ -12,8 +12,8 @@ pub record Framed (s : List ℕ) : Type 0 where
   pub fields : FieldsInRange s
   pub size : length s ≡ statedLength s
 
--- what was read of the image: its header, and its links
+-- what was read of an image whose fields are in their ranges: its header, and its links
 pub record ReadFrom (s : List ℕ) (b : Book) (links : List ℕ) : Type 0 where
-  pub framed : Framed s
+  pub fields : FieldsInRange s
   pub header : HeaderOf s b
   pub links-are : links ≡ linksOf s .rows

@@ -6,7 +6,7 @@ ghost use Rattle.rules.specs.Words.{Tests};
 ghost use Rattle.rules.specs.Tiles.{periodAt, PlanInRange};
 ghost use Rattle.rules.specs.Book.{key};
 ghost use Rattle.rules.specs.Periods.{thePlan, InList};
-ghost use Rattle.rules.specs.Image.{versionOf, RowsOf};
+ghost use Rattle.rules.specs.Image.{versionOf, FieldsInRange, RowsOf};
 ghost use Rattle.rules.proofs.Reading.{rowsIn};
 ghost use Rattle.image.specs.Places.{rowAt, Whole};
 ghost use Rattle.bitset.specs.Rows.{topology};
@@ -120,7 +120,7 @@ pub fn row_holds(image: &[u8], at: usize, plan: Plan, links: &[u64]) -> bool
 }
 
 // The row's key: its id, then its way.
-fn key_at(image: &[u8], at: usize) -> usize
+pub fn key_at(image: &[u8], at: usize) -> usize
     requires { ⌜ Whole (now image) at ⌝ }
     ensures { λ r. ⌜ r ≡ key (rowAt (now (image .entry)) at) ⌝ }
 {
@@ -130,8 +130,8 @@ fn key_at(image: &[u8], at: usize) -> usize
 }
 
 // Whether the row may come behind the one before, of the key `last`, or as the first of all, where that is 0.
-fn follows(image: &[u8], before: usize, last: usize, at: usize) -> bool
-    requires { ⌜ Framed (now image) × (1 ≤ last → RowStands (now image) before) × RowStands (now image) at ⌝ }
+pub fn follows(image: &[u8], before: usize, last: usize, at: usize) -> bool
+    requires { ⌜ FieldsInRange (now image) × (1 ≤ last → RowStands (now image) before) × RowStands (now image) at ⌝ }
     ensures { λ r. ⌜ Tests r (Follows (now (image .entry)) before last at) ⌝ }
 {
     if key_at(image, at) <= last {
@@ -148,7 +148,7 @@ fn follows(image: &[u8], before: usize, last: usize, at: usize) -> bool
 
 // Whether the rows are as many as the header says, each lawful and behind the one before, and fill the image.
 pub fn rows_hold(image: &[u8], book: Book, links: &[u64]) -> bool
-    requires { ⌜ ReadFrom (now image) book (now links) ⌝ }
+    requires { ⌜ Framed (now image) × ReadFrom (now image) book (now links) ⌝ }
     ensures { λ r. ⌜ Tests r (RowsOf (now (image .entry)) (rowsIn (now (image .entry)))) ⌝ }
 {
     let plan = book.plan;

@@ -3,10 +3,9 @@ ghost use Prim.Native.Nat.{ℕ, _≤_};
 ghost use Rattle.rules.specs.Words.{Tests, _∈_};
 ghost use Rattle.rules.specs.Topology.{nodes, middles, Beside};
 ghost use Rattle.rules.specs.Book.{Pair};
-ghost use Rattle.rules.specs.Image.{linksOf};
+ghost use Rattle.rules.specs.Image.{FieldsInRange, linksOf};
 ghost use Rattle.bitset.specs.Sets.{SetOf};
 ghost use Rattle.image.specs.Places.{rowAt};
-ghost use Rattle.rows.specs.Frame.{Framed};
 ghost use Rattle.rows.specs.Walk.{RowStands};
 ghost use Rattle.rows.specs.Pairs.{SameStream, SameEnds};
 use rules::SHORT_HOPS;
@@ -61,7 +60,7 @@ fn same_ends(image: &[u8], before: usize, at: usize) -> bool
 
 // Whether a route between the same ends is beside the one before: short, another one, and without a common middle.
 fn is_beside(image: &[u8], before: usize, at: usize) -> bool
-    requires { ⌜ Framed (now image) × RowStands (now image) before × RowStands (now image) at × SameEnds (rowAt (now image) before) (rowAt (now image) at) ⌝ }
+    requires { ⌜ FieldsInRange (now image) × RowStands (now image) before × RowStands (now image) at × SameEnds (rowAt (now image) before) (rowAt (now image) at) ⌝ }
     ensures { λ r. ⌜ Tests r (Beside (rowAt (now (image .entry)) before .route) (rowAt (now (image .entry)) at .route)) ⌝ }
 {
     let h = image::hops_at(image, at);
@@ -77,7 +76,7 @@ fn is_beside(image: &[u8], before: usize, at: usize) -> bool
 
 // Whether the row at a place may stand as the second way beside the first that is before it.
 pub fn pair_holds(image: &[u8], before: usize, at: usize) -> bool
-    requires { ⌜ Framed (now image) × RowStands (now image) before × RowStands (now image) at ⌝ }
+    requires { ⌜ FieldsInRange (now image) × RowStands (now image) before × RowStands (now image) at ⌝ }
     ensures { λ r. ⌜ Tests r (Pair (rowAt (now (image .entry)) before) (rowAt (now (image .entry)) at)) ⌝ }
 {
     if !same_stream(image, before, at) {

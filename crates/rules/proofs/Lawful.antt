@@ -34,14 +34,14 @@ pub same-site : (b c : Book) → c .site ≡ b .site → withRows b (c .rows) �
 same-site b c s = λ i. record { site = sym s i; rows = c .rows }
 
 -- no two of the rows with different keys meet
-abbrev Quiet : Site → List Row → Type 0
+abbrev pub Quiet : Site → List Row → Type 0
 Quiet site rows = (x y : Row) → x ∈ rows → y ∈ rows → (key x ≡ key y → ⊥) → RowsMeet site x y → ⊥
 
-lawful-quiet : (b : Book) → LawfulBook b → Quiet (b .site) (b .rows)
+pub lawful-quiet : (b : Book) → LawfulBook b → Quiet (b .site) (b .rows)
 lawful-quiet b l x y m n d h = l .never-meet record { one = x; other = y; one-there = m; other-there = n; different = d; meets = h }
 
 module _ (site : Site) (r : Row) (rows : List Row) (q : Quiet site rows) (new : (x : Row) → x ∈ rows → RowsMeet site r x → ⊥) where
-  quiet-more : Quiet site (r ∷ rows)
+  pub quiet-more : Quiet site (r ∷ rows)
   quiet-more x y (inl m) (inl n) d h = d (ap key (m ∙ sym n))
   quiet-more x y (inl m) (inr n) d h = new y n (subst (λ (v : Row). RowsMeet site v y) m h)
   quiet-more x y (inr m) (inl n) d h = new x m (rows-meet-turned site x r (subst (RowsMeet site x) n h))
@@ -68,7 +68,7 @@ module _ (q : Asked) where
       all-quiet (beside r b) (suc way) ps rs (n .1) more x y (moved r x rs (b .rows) m) (moved r y rs (b .rows) k)
 
 -- a row whose first way is among the rows has it among more rows
-paired-more : (rows more : List Row) (x : Row) → ((r : Row) → r ∈ rows → r ∈ more) → Paired rows x → Paired more x
+pub paired-more : (rows more : List Row) (x : Row) → ((r : Row) → r ∈ rows → r ∈ more) → Paired rows x → Paired more x
 paired-more rows more x f p e = let t = p e in (t .0, f (t .0) (t .1), t .2)
 
 module _ (b : Book) (l : LawfulBook b) (middle : ℕ) where

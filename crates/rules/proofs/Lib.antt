@@ -13,6 +13,7 @@ pub mod Choice
 pub mod Encoding
 pub mod Entries
 pub mod Unique
+pub mod Salvaging
 pub mod Written
 pub mod Every
 pub mod Bezout
@@ -33,3 +34,4 @@ pub mod Balances
 pub mod Added
 pub mod Lawful
 pub mod Mains
+pub mod Saved

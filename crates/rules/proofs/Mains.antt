@@ -23,10 +23,10 @@ pub all-below : (N : ℕ) → NoBitFrom N (allNodes N)
 all-below N = omega (arith, pow-pos N)
 
 -- sets that are the same where the image holds a book post a list alike
-pub post-alike : {image : List ℕ} {mains mains′ : ℕ} {index out answers index′ out′ answers′ : List ℕ} {number len : ℕ} (qs : List Request)
+pub post-alike : {image : List ℕ} {mains mains′ : ℕ} {index out index′ out′ answers′ : List ℕ} {number len : ℕ} (qs : List Request) (answers : List ℕ)
     → ((v : ℕ) (b : Book) → Stored image v b → mains ≡ mains′) → Post image mains qs index out answers number len index′ out′ answers′
     → Post image mains′ qs index out answers number len index′ out′ answers′
-post-alike {image} {mains} {mains′} {index} {out} {answers} {index′} {out′} {answers′} {number} {len} qs e p = record {
+post-alike {image} {mains} {mains′} {index} {out} {index′} {out′} {answers′} {number} {len} qs answers e p = record {
   says = go (p .says);
   refused = p .refused;
   done = λ z.

@@ -26,7 +26,7 @@ sets-requires-2 c κs =
 -- what was read: the links, and the hearing
 links-here : (c : tie.After-sets2) → let start = c .before .before .before .before in
     ReadFrom (start .args .image .now) (start .args .book) (take (start .args .book .nodes) (c .before .before .sets .result))
-links-here c = let p = c .before .before .before .before .pre in links-read (p .1) (p .2) (c .before .before .sets .ensures)
+links-here c = let p = c .before .before .before .before .pre in links-read (p .1 .fields) (p .2) (c .before .before .sets .ensures)
 
 hearing-here : (c : tie.After-sets2) → let start = c .before .before .before .before in
     take (start .args .book .nodes) (c .sets2 .result) ≡ hearingOf (start .args .image .now) .rows
@@ -56,7 +56,9 @@ returns c =
     (subst₂ SoundTopologies (sym (topology-read (links-here read))) (sym (ap topology (hearing-here read))) h))
 
 rows-hold-requires : tie.Need-rows-hold-requires
-rows-hold-requires c κs = links-here (c .before .before .before .before)
+rows-hold-requires c κs =
+    let read = c .before .before .before .before in
+    (read .before .before .before .before .pre .1, links-here read)
 
 -- the topologies are sound
 sound-here : (c : tie.Else1) → let s = c .before .before .before .before .before .before .before .before .args .image .now in SoundTopologies (linksOf s) (hearingOf s)

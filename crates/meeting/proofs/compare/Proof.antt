@@ -36,7 +36,7 @@ row-meets-requires c κs =
     let period-is = c .before .before .before .before .before .before .before .before .before .before .before .period-at .ensures .0 in
     let place = found-at (c .before .before .before .before .before .before .before .before .before .before .place-of .ensures)
     (c .before .before .before .before .before .before .before .before .place .given .1) in (
-      row-placed (p .0 .framed) (p .0 .row) place period-is (p .2) (c .before .before .before .before .before .before .repeats-of .ensures),
+      row-placed (p .0 .framed .fields) (p .0 .row) place period-is (p .2) (c .before .before .before .before .before .before .repeats-of .ensures),
       p .1,
       p .0 .size,
       rows-first (p .0 .there) (c .before .before .weigh .ensures .most),

@@ -18,8 +18,8 @@ mark-requires c κs =
     let p = a .pre in (
       p .3,
       hop-in-index (p .0) (p .2) (c .before .before .offset-at .ensures .0),
-      omega (arith, node-small (p .0 .framed) (p .0 .row) (a .args .i) (omega arith)),
-      omega (arith, node-small (p .0 .framed) (p .0 .row) (a .args .i + 1) (omega arith)),
+      omega (arith, node-small (p .0 .fields) (p .0 .row) (a .args .i) (omega arith)),
+      omega (arith, node-small (p .0 .fields) (p .0 .row) (a .args .i + 1) (omega arith)),
     )
 
 returns : tie.Need-returns

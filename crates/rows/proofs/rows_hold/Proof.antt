@@ -17,31 +17,31 @@ abbrev μ-loop : tie.MeasureT-loop
 loop-holds : tie.Need-loop-holds Inv-loop μ-loop
 loop-holds c =
     let p = c .before .before .before .before .pre in
-    still-start _ _ (p .framed) (rows-start (p .header) (c .rows-start .ensures)) (omega arith)
+    still-start _ _ (p .0) (rows-start (p .1 .header) (c .rows-start .ensures)) (omega arith)
 
 returns : tie.Need-returns Inv-loop μ-loop
 returns c =
     let start = c .before .before .before .before .before .before .before .before in
     said-no (λ h. still-no (c .before .before .before .loop .inv) (omega arith) (λ g. fails (c .before .is-whole .ensures) (not-true _ (c .if1 .taken)) (g .row .whole))
-    (all-fill _ (start .pre .framed) h))
+    (all-fill _ (start .pre .0) h))
 
 row-holds-requires : tie.Need-row-holds-requires Inv-loop μ-loop
 row-holds-requires c κs =
     let start = c .before .before .before .before .before .before .before .before in
-    (c .before .is-whole .ensures .yes (not-false _ (c .if1 .left)), plan-read (start .pre), nodes-most (start .pre))
+    (c .before .is-whole .ensures .yes (not-false _ (c .if1 .left)), plan-read (start .pre .1), nodes-most (start .pre .1))
 
 returns-2 : tie.Need-returns-2 Inv-loop μ-loop
 returns-2 c =
     let start = c .before .before .before .before .before .before .before .before .before .before in
     said-no (λ h. still-no (c .before .before .before .before .before .loop .inv) (omega arith) (λ g. fails (c .before .row-holds .ensures) (not-true _ (c .if2 .taken))
-    (row-by-read (start .pre) (g .row))) (all-fill _ (start .pre .framed) h))
+    (row-by-read (start .pre .1) (g .row))) (all-fill _ (start .pre .0) h))
 
 follows-requires : tie.Need-follows-requires Inv-loop μ-loop
 follows-requires c κs =
     let start = c .before .before .before .before .before .before .before .before .before .before in (
-      start .pre .framed,
+      start .pre .1 .fields,
       c .before .before .before .before .before .loop .inv .row-before,
-      row-tested (start .pre) (c .before .before .before .is-whole .ensures) (c .before .before .if1 .left) (c .before .row-holds .ensures) (c .if2 .left),
+      row-tested (start .pre .1) (c .before .before .before .is-whole .ensures) (c .before .before .if1 .left) (c .before .row-holds .ensures) (c .if2 .left),
     )
 
 returns-3 : tie.Need-returns-3 Inv-loop μ-loop
@@ -49,7 +49,7 @@ returns-3 c =
     let start = c .before .before .before .before .before .before .before .before .before .before .before .before in
     let here = c .before .before .before .before .before .before .before in
     said-no (λ h. still-no (here .loop .inv) (omega arith) (λ g. fails (c .before .follows .ensures) (not-true _ (c .if3 .taken)) (g .follows))
-    (all-fill _ (start .pre .framed) h))
+    (all-fill _ (start .pre .0) h))
 
 key-at-requires : tie.Need-key-at-requires Inv-loop μ-loop
 key-at-requires c κs =
@@ -63,7 +63,7 @@ loop-again : tie.Need-loop-again Inv-loop μ-loop
 loop-again c =
     let start = c .before .before .before .before .before .before .before .before .before .before .before .before .before .before in
     let here = c .before .before .before .before .before .before .before .before .before in
-    let row = row-tested (start .pre) (c .before .before .before .before .before .before .before .is-whole .ensures) (c .before .before .before .before .before .before .if1 .left)
+    let row = row-tested (start .pre .1) (c .before .before .before .before .before .before .before .is-whole .ensures) (c .before .before .before .before .before .before .if1 .left)
     (c .before .before .before .before .before .row-holds .ensures) (c .before .before .before .before .if2 .left) in
     still-next (here .loop .inv) (omega (arith, c .before .before .before .before .before .before .before .before .loop-test))
     (record { row = row; follows = c .before .before .before .follows .ensures .yes (not-false _ (c .before .before .if3 .left)) })
@@ -72,7 +72,7 @@ loop-again c =
 returns-4 : tie.Need-returns-4 Inv-loop μ-loop
 returns-4 c =
     let start = c .before .before .before .before .before .before in
-    tests-rows-of _ (start .pre .framed) (λ i. c .before .before .before .before .before .shared-slice-known .given i .fits) (still-end (c .before .loop .inv) (omega arith))
+    tests-rows-of _ (start .pre .0) (λ i. c .before .before .before .before .before .shared-slice-known .given i .fits) (still-end (c .before .loop .inv) (omega arith))
 
 pub rows-hold-spec : {M : Type 1} → statement M
 rows-hold-spec =

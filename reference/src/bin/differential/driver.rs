@@ -27,6 +27,9 @@ const LONGEST_TABLE: u16 = 9600;
 /// Bytes of the longest list of routes: a hop byte and 7 nodes each.
 const LONGEST_LIST: u16 = 8 * MAX_LISTED as u16;
 
+/// Bytes of the longest report.
+const LONGEST_REPORT: u16 = 4096;
+
 /// How long an output buffer to give.
 #[derive(Clone, Copy)]
 pub enum Room {
@@ -77,7 +80,8 @@ fn needed(request: &Request) -> u16 {
     match request.call {
         Call::Open | Call::Close | Call::Post => Version::NEWEST.longest_image() as u16,
         _ => {
-            let answer = Request { room: LONGEST_TABLE, ..request.clone() }.answer();
+            let beside = if request.call == Call::Salvage { LONGEST_REPORT } else { 0 };
+            let answer = Request { room: LONGEST_TABLE, beside, ..request.clone() }.answer();
             answer.counts[0] as u16
         }
     }

@@ -6,7 +6,7 @@ use reference::frame::{Answer, Call, Request};
 use reference::image;
 use reference::plan::LONGEST_QUICK_PERIOD;
 use reference::record::{RECORD_BYTES, Record};
-use reference::refusal::DONE;
+use reference::refusal::{DONE, Refusal};
 use reference::version::Version;
 
 const NO_ROUTE: &str = "route lists without a route";
@@ -24,6 +24,11 @@ const NOT_KEPT: &str = "books that do not keep to a mains set";
 const SHORT_INDEX: &str = "postings refused for a short index";
 const SLOW_READ: &str = "calls done on a book with a period over 100";
 const LATE_TILES: &str = "tables of tiles from 100 on";
+const ALL_KEPT: &str = "salvages that kept every row";
+const DROPPED_15: &str = "salvages that dropped a row for 15";
+const DROPPED_8: &str = "salvages that dropped a row for 8";
+const DROPPED_16: &str = "salvages that dropped a row for 16";
+const BYTES_LOST: &str = "salvages that lost bytes";
 const EMPTY_LIST: &str = "postings of an empty list";
 const NONE_DONE: &str = "postings of which no record was done";
 const ALL_DONE: &str = "postings of which every record was done";
@@ -32,7 +37,7 @@ const LONGEST_LIST: &str = "postings of 64 records";
 const NO_LINKS: &str = "nodes without a link";
 const MOST_LINKS: &str = "nodes with 63 links";
 
-pub const EVENTS: [&str; 22] = [
+pub const EVENTS: [&str; 27] = [
     NO_ROUTE,
     FEW_ROUTES,
     ALL_LISTED,
@@ -48,6 +53,11 @@ pub const EVENTS: [&str; 22] = [
     SHORT_INDEX,
     SLOW_READ,
     LATE_TILES,
+    ALL_KEPT,
+    DROPPED_15,
+    DROPPED_8,
+    DROPPED_16,
+    BYTES_LOST,
     EMPTY_LIST,
     NONE_DONE,
     ALL_DONE,
@@ -65,6 +75,9 @@ pub fn events(request: &Request, answer: &Answer) -> Vec<&'static str> {
         12 if request.call == Call::Post && full_size => return vec![SHORT_INDEX],
         _ => return Vec::new(),
     }
+    if request.call == Call::Salvage {
+        return salvage_events(answer);
+    }
     // The bytes of a new book are its links.
     let Ok((version, book)) = image::read(&request.bytes) else { return Vec::new() };
     let older = version < Version::NEWEST;
@@ -77,25 +90,23 @@ pub fn events(request: &Request, answer: &Answer) -> Vec<&'static str> {
         Call::Links => links_event(answer),
         _ => Vec::new(),
     };
-    if older {
-        events.push(OLDER_READ);
-    }
-    if book.topology.hearing != book.topology.links {
-        events.push(HEARD_FURTHER);
-    }
-    if book.rows.iter().any(|row| row.period > LONGEST_QUICK_PERIOD) {
-        events.push(SLOW_READ);
-    }
-    if request.call == Call::Expand && request.first >= 100 {
-        events.push(LATE_TILES);
-    }
-    if request.call == Call::Open && request.second {
-        events.push(SECOND_OPENED);
-    }
-    if request.call == Call::Close && rows_of(&book, request.id) == 2 {
-        events.push(BOTH_CLOSED);
-    }
+    events.extend(book_events(request, older, &book));
     events
+}
+
+/// What the book of a call that was done is like.
+fn book_events(request: &Request, older: bool, book: &Book) -> Vec<&'static str> {
+    let slow = book.rows.iter().any(|row| row.period > LONGEST_QUICK_PERIOD);
+    let closes = request.call == Call::Close;
+    let happened = [
+        (older, OLDER_READ),
+        (book.topology.hearing != book.topology.links, HEARD_FURTHER),
+        (slow, SLOW_READ),
+        (request.call == Call::Expand && request.first >= 100, LATE_TILES),
+        (request.call == Call::Open && request.second, SECOND_OPENED),
+        (closes && rows_of(book, request.id) == 2, BOTH_CLOSED),
+    ];
+    happened.into_iter().filter(|(so, _)| *so).map(|(_, event)| event).collect()
 }
 
 fn routes_event(answer: &Answer) -> &'static str {
@@ -112,6 +123,21 @@ fn routes_event(answer: &Answer) -> &'static str {
         (MAX_LISTED, _) => ALL_LISTED,
         _ => FEW_ROUTES,
     }
+}
+
+fn salvage_events(answer: &Answer) -> Vec<&'static str> {
+    let [_, rows, lost] = answer.counts;
+    let reasons: Vec<u8> =
+        answer.beside.chunks(3).take(rows as usize).map(|line| line[0]).collect();
+    let dropped = |reason: Refusal| reasons.contains(&(reason as u8));
+    let happened = [
+        (reasons.iter().all(|&reason| reason == DONE), ALL_KEPT),
+        (dropped(Refusal::UnlawfulRows), DROPPED_15),
+        (dropped(Refusal::BookIsFull), DROPPED_8),
+        (dropped(Refusal::ClashingHopsMeet), DROPPED_16),
+        (lost > 0, BYTES_LOST),
+    ];
+    happened.into_iter().filter(|(so, _)| *so).map(|(_, event)| event).collect()
 }
 
 fn post_events(answer: &Answer) -> Vec<&'static str> {

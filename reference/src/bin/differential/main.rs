@@ -2,7 +2,8 @@
 //!
 //! `differential [--seed S] [--cases N] [--patience SECONDS] -- program arguments…`
 //! puts calls to the program, framed as `reference::frame` says, and compares
-//! number, length or counts, every byte of the output buffer and of the records.
+//! number, length or counts, and every byte of the output buffer, of the records and
+//! of the index or the report.
 //! `differential --self` puts them to the reference itself.
 //!
 //! It fails on the first differences, and where an answer number that the
@@ -10,6 +11,7 @@
 //! `second_events` and `posting_events`, was never reached. `--cases` sets how
 //! many calls are thrown beside the fixed ones.
 
+mod damage;
 mod dice;
 mod driver;
 mod events;

@@ -157,10 +157,9 @@ fn difference(call: u64, exchange: &Exchange, answer: &Answer) -> String {
         let (good, bad) = (hex(&expected.records), hex(&answer.records));
         text += &format!("records: expected {good}\n         answer   {bad}\n");
     }
-    if let Some(place) = expected.index.iter().zip(&answer.index).position(|(a, b)| a != b) {
-        let word = |index: &[u8]| hex(&index[place / 8 * 8..place / 8 * 8 + 8]);
-        let (good, bad) = (word(&expected.index), word(&answer.index));
-        text += &format!("word {} of the index: expected {good}, answer {bad}\n", place / 8);
+    if let Some(place) = expected.beside.iter().zip(&answer.beside).position(|(a, b)| a != b) {
+        let (good, bad) = (expected.beside[place], answer.beside[place]);
+        text += &format!("byte {place} beside it: expected {good:02X}, answer {bad:02X}\n");
     }
     text
 }
@@ -180,10 +179,10 @@ fn show(exchange: &Exchange) -> String {
              second {second}"
         ),
     };
-    let Request { bytes, further, mains, room, words, fill, .. } = &exchange.request;
+    let Request { bytes, further, mains, room, beside, fill, .. } = &exchange.request;
     format!(
         "family {}: {call:?} with {arguments}, mains {mains:016X}, \
-         buffer of {room} bytes {fill:02X}, index of {words} words\n\
+         buffer of {room} bytes {fill:02X}, index or report of {beside}\n\
          {} bytes {}\nand {} bytes {}\n",
         exchange.family,
         bytes.len(),

@@ -49,6 +49,11 @@ pub fn open_with_second(book: &[u8], id: u16, source: u8, destination: u8, perio
     Request { second: true, ..open(book, id, source, destination, period) }
 }
 
+/// A salvage with a report of so many bytes.
+pub fn salvage(book: &[u8], report: u16) -> Request {
+    Request { beside: report, ..on(Call::Salvage, book) }
+}
+
 pub fn close(book: &[u8], id: u16) -> Request {
     Request { id, ..on(Call::Close, book) }
 }
@@ -91,7 +96,7 @@ pub fn post(book: &[u8], records: &[Record]) -> Request {
 
 pub fn post_within(book: &[u8], mains: u64, records: &[Record]) -> Request {
     let further = records.iter().flat_map(Record::write).collect();
-    Request { mains, further, words: words_of(book), ..on(Call::Post, book) }
+    Request { mains, further, beside: words_of(book), ..on(Call::Post, book) }
 }
 
 /// Words of the index of a book that has, or claims, the S of its header.
@@ -115,7 +120,7 @@ pub fn keeps_to(book: &[u8], mains: u64) -> Request {
 }
 
 /// The calls on a book.
-pub const BOOK_CALLS: [Call; 10] = [
+pub const BOOK_CALLS: [Call; 11] = [
     Call::Check,
     Call::Rewrite,
     Call::Open,
@@ -126,6 +131,7 @@ pub const BOOK_CALLS: [Call; 10] = [
     Call::Post,
     Call::KeepsTo,
     Call::Links,
+    Call::Salvage,
 ];
 
 /// N as the header has it, or claims it.
@@ -156,9 +162,10 @@ pub fn any(dice: &mut Dice, call: Call, book: &[u8], ids: &[u16]) -> Request {
             let length = dice.below(6);
             let records: Vec<Record> = (0..length).map(|_| any_record(dice, nodes, ids)).collect();
             let request = post_within(book, any_mains(dice, nodes), &records);
-            Request { words: any_words(dice, request.words), ..request }
+            Request { beside: any_words(dice, request.beside), ..request }
         }
         Call::KeepsTo => keeps_to(book, any_mains(dice, nodes)),
+        Call::Salvage => salvage(book, dice.pick(&[0, 3, 9, 30, 200, 200, 600])),
     }
 }
 

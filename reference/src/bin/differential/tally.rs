@@ -50,6 +50,7 @@ fn possible(call: Call) -> &'static [u8] {
         Call::Post => &[0, 10, 11, 12, 13, 14, 15, 16, 25, 26],
         Call::KeepsTo => &[0, 10, 11, 13, 14, 15, 16, 25],
         Call::Links => &[0, 4, 10, 11, 13, 14, 15, 16],
+        Call::Salvage => &[0, 10, 11, 12, 13, 14],
     }
 }
 

@@ -2,6 +2,7 @@
 
 mod arguments;
 mod changes;
+mod damaged;
 mod examples;
 mod faults;
 mod limits;
@@ -54,6 +55,8 @@ pub fn fixed(driver: &mut Driver, dice: &mut Dice) {
     route_lists::ask(driver);
     driver.family("slow probes");
     slow::ask(driver, dice);
+    driver.family("books damaged on laptops");
+    damaged::ask(driver, dice);
     driver.family("mains sets");
     mains::ask(driver, dice);
     driver.family("postings around their limits");

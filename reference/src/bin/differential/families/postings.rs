@@ -190,7 +190,7 @@ fn index_lengths(driver: &mut Driver) {
                     vec![open(1, 0, 1, 1); 65],
                 ] {
                     for room in [Room::OneShort, Room::Exact] {
-                        driver.ask(Request { words, ..post(&image, &list) }, room);
+                        driver.ask(Request { beside: words, ..post(&image, &list) }, room);
                     }
                 }
             }
@@ -235,8 +235,8 @@ pub fn thrown(driver: &mut Driver, dice: &mut Dice) {
         let room = if dice.chance(80) { Room::Exact } else { Room::any(dice) };
         let mains = any_mains(dice, book.topology.nodes());
         let request = post_within(&image, mains, &list);
-        let words = any_words(dice, request.words);
-        let answer = driver.ask(Request { words, ..request }, room);
+        let beside = any_words(dice, request.beside);
+        let answer = driver.ask(Request { beside, ..request }, room);
         if !answer.written().is_empty() {
             image = answer.written().to_vec();
         }

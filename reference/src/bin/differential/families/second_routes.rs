@@ -20,7 +20,7 @@ pub fn ask(driver: &mut Driver, dice: &mut Dice) {
     }
     around_full_books(driver);
     short_of_slots(driver);
-    for rows in unlawful_rows() {
+    for rows in lawful_rows().into_iter().chain(unlawful_rows()) {
         let book = Book { rows, ..knot() };
         let image = image::write(Version::NEWEST, &book);
         driver.ask(check(&image), Room::Nothing);
@@ -136,17 +136,29 @@ fn row(id: u16, route: u8, period: u16, nodes: &[u8]) -> Row {
     Row { id, route, period, nodes: nodes.to_vec(), offsets }
 }
 
-/// Lawful rows 2 at their limits, then every way in which one is not lawful.
-fn unlawful_rows() -> Vec<Vec<Row>> {
-    let first = || row(5, 1, 10, &[0, 1, 8]);
-    let beside = |second: Row| vec![first(), second];
-    let mut meeting = row(5, 2, 10, &[0, 2, 8]);
-    meeting.offsets = first().offsets;
+fn first() -> Row {
+    row(5, 1, 10, &[0, 1, 8])
+}
+
+fn beside(second: Row) -> Vec<Row> {
+    vec![first(), second]
+}
+
+/// Rows 2 at their limits, and one that meets its row 1.
+fn lawful_rows() -> Vec<Vec<Row>> {
+    let meeting = Row { offsets: first().offsets, ..row(5, 2, 10, &[0, 2, 8]) };
     vec![
         beside(row(5, 2, 10, &[0, 2, 8])),
         beside(row(5, 2, 10, &[0, 8])),
         beside(row(5, 2, 10, &[0, 2, 3, 4, 5, 6, 8])),
         vec![row(5, 1, 10, &[0, 8]), row(5, 2, 10, &[0, 2, 8])],
+        beside(meeting),
+    ]
+}
+
+/// Every way in which a row 2 is not lawful.
+fn unlawful_rows() -> Vec<Vec<Row>> {
+    vec![
         // 7 hops.
         beside(row(5, 2, 10, &[0, 2, 3, 4, 5, 6, 7, 8])),
         // Without a row 1, or not right after it.
@@ -175,7 +187,5 @@ fn unlawful_rows() -> Vec<Vec<Row>> {
         vec![row(5, 3, 10, &[0, 1, 8])],
         beside(first()),
         vec![first(), row(5, 2, 10, &[0, 2, 8]), row(5, 2, 10, &[0, 3, 8])],
-        // The two routes of a stream meet.
-        beside(meeting),
     ]
 }

@@ -36,7 +36,7 @@ fn mixed_book(s: u8) -> Book {
 /// First tiles and counts around every limit, with and without room.
 fn tiles(driver: &mut Driver, image: &[u8]) {
     for first in [0, 1, 99, 100, 899, 900, 901, 999, 1000, 1001, 65535] {
-        for count in [0, 1, 2, 99, 100, 101, 65535] {
+        for count in [0, 1, 2, 99, 100, 101, 257, 356, 65535] {
             for node in [5, 6] {
                 driver.ask(expand_tiles(image, node, first, count), Room::Exact);
             }
