@@ -31,13 +31,16 @@ int main(void) {
         0, 0, 0, 0, 0, 0, 0, 3,
     };
 
+    /* One account: number 1, which has bought 1,000 hop uses per cycle, 03E8. */
+    const uint8_t accounts[6] = {0, 1, 0, 0, 0x03, 0xE8};
+
     /*
      * A tile has 4 slots. The plan repeats after 2 tiles: tile 0 is downlink (bit 0 of the kinds), and
      * its first 2 slots are control; tile 1 is uplink, and its first slot is control. Each node hears
      * exactly its neighbours.
      */
-    uint8_t number = lindurask_new(4, 2, 1, 2, 1, 3, links, sizeof links, links, sizeof links, first, sizeof first,
-                                   &first_length);
+    uint8_t number = lindurask_new(4, 2, 1, 2, 1, 3, links, sizeof links, links, sizeof links, accounts,
+                                   sizeof accounts, first, sizeof first, &first_length);
     if (number != 0) {
         printf("no book was made: refused %u\n", number);
         return 1;
@@ -45,11 +48,11 @@ int main(void) {
     print_image("The empty book", first, first_length);
 
     /*
-     * Stream 7 sends from node 1 to node 0 every 2 tiles. The planner finds its route and its slots, and
-     * writes the book with it. The new row: id 0007, route 01, period 02, one hop 01, nodes 01 00, offset
-     * 0002: slot 2 is the first that is no control slot.
+     * Stream 7 sends from node 1 to node 0 every 2 tiles, and account 1 pays: one hop, 500 times a cycle. The
+     * planner finds its route and its slots, and writes the book with it. The new row: id 0007, route 01, period
+     * 0002, one hop 01, nodes 01 00, offset 0002, account 0001: slot 2 is the first that is no control slot.
      */
-    number = lindurask_open(first, first_length, 7, 1, 0, 2, false, other, sizeof other, &other_length);
+    number = lindurask_open(first, first_length, 7, 1, 0, 2, false, 1, other, sizeof other, &other_length);
     if (number != 0) {
         printf("the stream was not opened: refused %u\n", number);
         return 1;
@@ -58,9 +61,10 @@ int main(void) {
 
     /*
      * Stream 9 sends from node 0 to node 1 every 10 tiles, and has a second route, so that it lives on where
-     * one of the two fails. Its rows: route 01 is the link, and route 02 goes by node 2.
+     * one of the two fails. Its rows: route 01 is the link, and route 02 goes by node 2. Three hops, 100 times a
+     * cycle each: account 1 has 200 hop uses left.
      */
-    number = lindurask_open(other, other_length, 9, 0, 1, 10, true, first, sizeof first, &first_length);
+    number = lindurask_open(other, other_length, 9, 0, 1, 10, true, 1, first, sizeof first, &first_length);
     if (number != 0) {
         printf("the stream was not opened: refused %u\n", number);
         return 1;
@@ -80,7 +84,7 @@ int main(void) {
     printf("Node 1: %" PRIu32 " data slots, %" PRIu32 " used, %" PRIu32 " free\n", data, used, free_slots);
 
     /* A refusal has a number, gives length 0 and leaves the output buffer alone: there is no node 3. */
-    number = lindurask_open(first, first_length, 8, 1, 3, 2, false, other, sizeof other, &other_length);
+    number = lindurask_open(first, first_length, 8, 1, 3, 2, false, 1, other, sizeof other, &other_length);
     printf("Opening a stream to node 3: refused %u, length %zu\n", number, other_length);
     return 0;
 }

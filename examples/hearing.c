@@ -31,6 +31,9 @@ static const uint8_t deaf[32] = {
     0, 0, 0, 0, 0, 0, 0, 4,
 };
 
+/* One account, number 0, that has bought the largest 32-bit number of hop uses: it pays for everything here. */
+static const uint8_t accounts[6] = {0, 0, 0xFF, 0xFF, 0xFF, 0xFF};
+
 /* The first slot in which the node sends, read from the first tiles of its table, or -1. */
 static int first_sent(const uint8_t *book, size_t book_len, uint8_t node) {
     uint8_t table[LINDURASK_LONGEST_TABLE];
@@ -47,15 +50,17 @@ static int first_sent(const uint8_t *book, size_t book_len, uint8_t node) {
 static int open_both(const char *title, const uint8_t *hearing) {
     uint8_t book[LINDURASK_LONGEST_IMAGE], next[LINDURASK_LONGEST_IMAGE];
     size_t length;
-    if (lindurask_new(4, 2, 1, 2, 1, 4, links, sizeof links, hearing, sizeof links, book, sizeof book, &length) != 0 ||
-        lindurask_open(book, length, 1, 0, 1, 2, false, next, sizeof next, &length) != 0 ||
-        lindurask_open(next, length, 2, 3, 2, 2, false, book, sizeof book, &length) != 0)
+    if (lindurask_new(4, 2, 1, 2, 1, 4, links, sizeof links, hearing, sizeof links, accounts, sizeof accounts, book,
+                      sizeof book, &length) != 0 ||
+        lindurask_open(book, length, 1, 0, 1, 2, false, 0, next, sizeof next, &length) != 0 ||
+        lindurask_open(next, length, 2, 3, 2, 2, false, 0, book, sizeof book, &length) != 0)
         return 1;
     printf("%s: stream 1 is sent in slot %d, stream 2 in slot %d\n", title, first_sent(book, length, 0),
            first_sent(book, length, 3));
-    if (lindurask_open(book, length, 3, 3, 1, 100, false, next, sizeof next, &length) != 0)
+    if (lindurask_open(book, length, 3, 3, 1, 100, false, 0, next, sizeof next, &length) != 0)
         return 1;
-    printf("  from 3 to 1: %u hops\n", next[length - 3 * 2 - 2]);
+    /* The last row ends with its account; before it stand 2 offsets, 3 nodes and the hop count. */
+    printf("  from 3 to 1: %u hops\n", next[length - 2 - 2 * 2 - 3 - 1]);
     return 0;
 }
 
@@ -64,7 +69,8 @@ int main(void) {
         return 1;
     uint8_t book[LINDURASK_LONGEST_IMAGE];
     size_t length;
-    uint8_t number = lindurask_new(4, 2, 1, 2, 1, 4, links, sizeof links, deaf, sizeof deaf, book, sizeof book, &length);
+    uint8_t number = lindurask_new(4, 2, 1, 2, 1, 4, links, sizeof links, deaf, sizeof deaf, accounts,
+                                   sizeof accounts, book, sizeof book, &length);
     printf("A link that is not heard: refused %u\n", number);
     return 0;
 }

@@ -39,8 +39,10 @@ int main(void) {
         0, 0, 0, 0, 0, 0, 0, 10,
         0, 0, 0, 0, 0, 0, 0, 4,
     };
-    uint8_t number = lindurask_new(4, 2, 1, 2, 1, 4, links, sizeof links, links, sizeof links, book, sizeof book,
-                                   &book_length);
+    /* Account 0 has bought 10,000 hop uses, 2710; it pays for every stream here, since a request names no other. */
+    const uint8_t accounts[6] = {0, 0, 0, 0, 0x27, 0x10};
+    uint8_t number = lindurask_new(4, 2, 1, 2, 1, 4, links, sizeof links, links, sizeof links, accounts,
+                                   sizeof accounts, book, sizeof book, &book_length);
     if (number != 0) {
         printf("no book was made: refused %u\n", number);
         return 1;

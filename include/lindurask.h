@@ -1,14 +1,15 @@
 /*
  * Lindurask: a slot planner for radio meshes.
  *
- * A book holds a site's tile plan, its links, who hears whom, and its accepted streams, each on one
- * route or on two. It is kept as an image: plain bytes, big-endian, that can be stored and sent as they are.
+ * A book holds a site's tile plan, its prepaid accounts, its links, who hears whom, and its accepted streams,
+ * each of an account and on one route or on two. It is kept as an image: plain bytes, big-endian, that can be stored and sent as they are.
  * Every call but lindurask_new takes an image and checks it in full first; a call that changes the
  * book writes the image of the new book into a second buffer and leaves the first as it is. Nothing
  * is kept between calls, so calls may run in several threads at once, on buffers of their own.
  *
- * Images of versions 1 to 4 are read; in versions 1 and 2 a node hears exactly its neighbours, and up
- * to version 3 no stream has a period over 100. A new or changed book is written in version 4;
+ * Images of versions 1 to 5 are read; in versions 1 and 2 a node hears exactly its neighbours, up to version 3
+ * no stream has a period over 100, and up to version 4 there is one account, number 0, that has bought
+ * 4,294,967,295 hop uses, and every stream is of it. A new or changed book is written in version 5;
  * lindurask_rewrite keeps the version. The cycle is 1,000 tiles, whatever the version.
  *
  * Link with target/staticlib/libplanner.a, which `rt staticlib planner` makes (x86-64 Linux).
@@ -29,23 +30,36 @@
  *    8  rows would pass 64, or hops would pass 512; a stream has a row for each of its routes
  *    9  no placing exists: no free slots for the stream on its route, or on its second route
  *       beside the first
- *   10  a field of bytes 5 to 15 of the image, or an argument of a new book, out of its range
+ *   10  a field of bytes 5 to 15 of the image, its account list, or an argument of a new book, out of its range
  *   11  links or hearing: wrong length (new book), a bit from N up, a node joined to itself, one way
  *       only, or a link that is missing from the hearing
- *   12  output buffer shorter than the answer; of a call that changes the book, shorter than
- *       LINDURASK_LONGEST_IMAGE, or the index of a posting shorter than 200 x S words
+ *   12  output buffer shorter than the answer; of a posting, an open or a close, shorter
+ *       than LINDURASK_LONGEST_IMAGE, or the index of a posting shorter than 200 x S words
  *   13  image: wrong mark or version
- *   14  image: under 16 bytes, or not the length that its header gives
- *   15  image: rows are not lawful, not rising by id and then route, or do not fill it
+ *   14  image: under 16 bytes, ending inside its account list, or not the length that its header and its number
+ *       of accounts give
+ *   15  image: rows are not lawful, not rising by id and then route, do not fill it, are of an unknown account,
+ *       or draw more than their account has bought
  *   16  image: two clashing hops of different rows meet
  *   17  such routes exist, but every one has over 15 hops
  *   18  no second route: no such route of at most 6 hops that has no middle node in common with the first
  *   21  tiles outside the cycle, or a count of 0 or over LINDURASK_MOST_TILES
+ *   22  unknown account
+ *   23  the account has not enough left
+ *   24  a purchase that would pass 32 bits
  *   25  the set has a bit from N up
  *   26  over LINDURASK_MOST_REQUESTS requests in a list
  *
- * An image is tested in the order 14 (under 16 bytes), 13, 10, 14, 11, 15, 16; then a call has
- * its own refusals, in the order given with it below.
+ * An image is tested in the order 14 (under 16 bytes), 13, 10 (bytes 5 to 15), 14 (it ends inside its account
+ * list), 10 (the account list), 14 (its length), 11, 15, 16; then a call has its own refusals, in the order given
+ * with it below.
+ *
+ *
+ * Prepaid accounts
+ *
+ * An account has a number and what it has bought: hop uses per cycle. A stream of h hops over all its routes and
+ * of period K draws h x 1000/K from its account while it is open; closing it gives the same back. No account ever
+ * has drawn more than it has bought, and only lindurask_purchase changes what it has bought.
  *
  *
  * The set of nodes that may stand in the middle of a route
@@ -70,7 +84,7 @@
  * - The input, the requests, the index, out, *length, *more, *links, *keeps and the counts of a balance lie apart:
  *   none of them overlaps another. To make the new image the current one, swap the two buffers.
  * - No image is longer than LINDURASK_LONGEST_IMAGE bytes; an output buffer of that size is never
- *   too short for a book, and a call that changes the book takes none that is shorter. A part of a
+ *   too short for a book, and a posting, an open or a close takes none that is shorter. A part of a
  *   table takes 3 x S bytes for each of its tiles, S the slots of a tile: at most
  *   LINDURASK_LONGEST_TABLE. A list of routes takes at most LINDURASK_LONGEST_LIST. The index of a
  *   posting takes 200 x S words: at most LINDURASK_LONGEST_INDEX.
@@ -89,14 +103,17 @@
 extern "C" {
 #endif
 
-/* The longest image, in bytes: 64 nodes, 64 rows, 512 hops, in version 4. */
-#define LINDURASK_LONGEST_IMAGE 3024
+/* The longest image, in bytes: 32 accounts, 64 nodes, 64 rows, 512 hops, in version 5. */
+#define LINDURASK_LONGEST_IMAGE 3345
 
 /* The most tiles of a table in one call. */
 #define LINDURASK_MOST_TILES 100
 
 /* The longest part of a table, in bytes: as many tiles of 32 slots, 3 bytes an entry. */
 #define LINDURASK_LONGEST_TABLE 9600
+
+/* The most accounts of a book. */
+#define LINDURASK_MOST_ACCOUNTS 32
 
 /* The most requests in a list. */
 #define LINDURASK_MOST_REQUESTS 64
@@ -108,7 +125,7 @@ extern "C" {
 #define LINDURASK_LONGEST_INDEX 6400
 
 /*
- * Makes a book without streams, and writes its image of 16 + 16 x n bytes. Refusals: 10, 11, 12.
+ * Makes a book without streams, and writes its image of 17 + accounts_len + 16 x n bytes. Refusals: 10, 11, 12.
  *
  * s            slots of a tile, 1 to 32
  * c            tiles after which the plan repeats: 1, 2, 4, 5 or 10
@@ -119,10 +136,12 @@ extern "C" {
  *              a node's row set if node b is its neighbour. links_len is 8 x n
  * hearing      the same for the nodes that hear each other, every link among them. hearing_len is
  *              8 x n; where nodes hear exactly their neighbours, links once more
+ * accounts     as they stand in the image: for each its number in 2 bytes, and what it has bought in 4, big-endian,
+ *              the numbers rising. accounts_len is 6 for each; 1 to LINDURASK_MOST_ACCOUNTS of them
  */
 uint8_t lindurask_new(uint8_t s, uint8_t c, uint16_t kinds, uint8_t d, uint8_t u, uint8_t n,
                       const uint8_t *links, size_t links_len, const uint8_t *hearing, size_t hearing_len,
-                      uint8_t *out, size_t out_len, size_t *length);
+                      const uint8_t *accounts, size_t accounts_len, uint8_t *out, size_t out_len, size_t *length);
 
 /* Checks an image: 0 if it is that of a lawful book. Writes nothing. Refusals: those of an image. */
 uint8_t lindurask_check(const uint8_t *book, size_t book_len, size_t *length);
@@ -132,12 +151,13 @@ uint8_t lindurask_rewrite(const uint8_t *book, size_t book_len, uint8_t *out, si
 
 /*
  * A request of a list: to open a stream, or to close one, for which id alone counts. A posting sets the
- * answer of each request and changes nothing else in it. 10 bytes, in the order of the fields.
+ * answer of each request and changes nothing else in it. 12 bytes, in the order of the fields.
  */
 struct lindurask_request {
     bool opens, second;          /* it opens a stream, with a second route */
     uint8_t source, destination; /* from and to these nodes */
     uint16_t id, period;         /* of this id, every so many tiles */
+    uint16_t account;            /* paid by this account */
     uint8_t answer;              /* 0 where it was done, otherwise the number of its refusal */
 };
 
@@ -147,11 +167,11 @@ struct lindurask_request {
  * written. A request that is refused leaves the book as it found it, and the list goes on.
  *
  * An open asks for a stream of this id (1 to 65535) from the source to the destination, every `period`
- * tiles. The route is the shortest with only nodes of `mains` in its middle, the lowest node list among equals; the slots are the lexicographically
+ * tiles, of the account. The route is the shortest with only nodes of `mains` in its middle, the lowest node list among equals; the slots are the lexicographically
  * first that are free. Where `second` is true the stream has a second route as well: another than the
  * first, without a middle node in common with it, its own in `mains` too, at most 6 hops, the shortest and
  * then the lowest node list; its slots are the first that are free beside the first route's. Both are opened or neither. Its
- * answers: 0, or the first that applies of 1, 4, 5, 6, 2, 7, 17, 18, 8, 9.
+ * answers: 0, or the first that applies of 1, 4, 5, 6, 22, 2, 7, 17, 18, 8, 9, 23.
  *
  * A close takes the stream of this id with all its routes out. Its answers: 0, or the first of 1, 3.
  *
@@ -168,13 +188,20 @@ uint8_t lindurask_post(const uint8_t *book, size_t book_len, uint64_t mains, str
 
 /*
  * Opens a stream: a list of one open, with all nodes in the set and an index of its own. Gives the refusal of the whole call, or the answer of the request.
- * Refusals: those of an image, then 12, 1, 4, 5, 6, 2, 7, 17, 18, 8, 9.
+ * Refusals: those of an image, then 12, 1, 4, 5, 6, 22, 2, 7, 17, 18, 8, 9, 23.
  */
 uint8_t lindurask_open(const uint8_t *book, size_t book_len, uint16_t id, uint8_t source, uint8_t destination,
-                       uint16_t period, bool second, uint8_t *out, size_t out_len, size_t *length);
+                       uint16_t period, bool second, uint16_t account, uint8_t *out, size_t out_len, size_t *length);
 
 /* Closes a stream: a list of one close. Refusals: those of an image, then 12, 1, 3. */
 uint8_t lindurask_close(const uint8_t *book, size_t book_len, uint16_t id, uint8_t *out, size_t out_len, size_t *length);
+
+/*
+ * Raises what an account has bought by exactly the amount, which may be 0; nothing else of the book changes. The buffer
+ * need only hold the book. Refusals: those of an image, then 22, 24, 12.
+ */
+uint8_t lindurask_purchase(const uint8_t *book, size_t book_len, uint16_t account, uint32_t amount, uint8_t *out,
+                           size_t out_len, size_t *length);
 
 /*
  * Writes a part of a node's slot table: so many tiles of the cycle of 1,000, from the first on, which is counted
@@ -219,8 +246,9 @@ uint8_t lindurask_keeps_to(const uint8_t *book, size_t book_len, uint64_t mains,
  * count; each that is lawful beside those kept is kept, and the book of these is written in the version that came in. The
  * report has 3 bytes for each row cut: 0 where it is kept, or the reason, 15, 8 or 16, and then its id, big-endian. *rows
  * is how many were cut, *lost the number of bytes behind the last of them. A refusal sets *length, *rows and *lost to 0
- * and changes neither buffer. Refusals: 14 (under 16 bytes), 13, 10, 14 (it ends before its topologies do), 11, 12 (the
- * output is shorter than the book, or the report than 3 bytes for each row cut).
+ * and changes neither buffer. Refusals: 14 (under 16 bytes), 13, 10 (bytes 5 to 15), 14 (it ends inside its account
+ * list), 10 (the account list), 14 (it ends before its topologies do), 11, 12 (the output is shorter than the book, or
+ * the report than 3 bytes for each row cut).
  */
 uint8_t lindurask_salvage(const uint8_t *book, size_t book_len, uint8_t *out, size_t out_len, uint8_t *report,
                           size_t report_len, size_t *length, size_t *rows, size_t *lost);

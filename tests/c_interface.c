@@ -16,25 +16,27 @@
 
 enum { HEAD = 44, REPLY = 13, MOST_BYTES = 4096, MOST_ROOM = 16384, MOST_WORDS = 6500, MARGIN = 64 };
 
-/* The calls that have a name here; 10 and 12 are none. */
-enum { NEW = 0, BALANCE = 6, ROUTES = 7, POST = 8, KEEPS = 9, SALVAGE = 11, LINKS = 13 };
+/* The calls that have a name here; 12 is none. */
+enum { NEW = 0, BALANCE = 6, ROUTES = 7, POST = 8, KEEPS = 9, PURCHASE = 10, SALVAGE = 11, LINKS = 13 };
 
 /* A record of a framed posting, the most of them, and how many requests or words stand on either side of a list or an index. */
 enum { RECORD = 11, MOST_RECORDS = 100, BESIDE = 4, WORD = 8 };
 
-_Static_assert(LINDURASK_LONGEST_IMAGE == 16 + 16 * 64 + 7 * 64 + 3 * 512, "64 nodes, 64 rows, 512 hops");
+_Static_assert(LINDURASK_LONGEST_IMAGE == 16 + 1 + 6 * LINDURASK_MOST_ACCOUNTS + 16 * 64 + 9 * 64 + 3 * 512,
+               "32 accounts, 64 nodes, 64 rows, 512 hops");
 _Static_assert(LINDURASK_LONGEST_TABLE == 3 * 100 * 32, "100 tiles of 32 slots");
 _Static_assert(LINDURASK_LONGEST_LIST == 32 * (1 + 7), "32 routes of 6 hops");
 
 /* The planner's archive lays a request out so; that it does is seen by the comparison. */
-_Static_assert(sizeof(struct lindurask_request) == 10, "a request");
+_Static_assert(sizeof(struct lindurask_request) == 12, "a request");
 _Static_assert(offsetof(struct lindurask_request, opens) == 0, "whether a request opens");
 _Static_assert(offsetof(struct lindurask_request, second) == 1, "whether it asks for a second route");
 _Static_assert(offsetof(struct lindurask_request, source) == 2, "its source");
 _Static_assert(offsetof(struct lindurask_request, destination) == 3, "its destination");
 _Static_assert(offsetof(struct lindurask_request, id) == 4, "its id");
 _Static_assert(offsetof(struct lindurask_request, period) == 6, "its period");
-_Static_assert(offsetof(struct lindurask_request, answer) == 8, "its answer");
+_Static_assert(offsetof(struct lindurask_request, account) == 8, "its account");
+_Static_assert(offsetof(struct lindurask_request, answer) == 10, "its answer");
 
 /* What no call gives back: it shows where one has not set what it should. */
 static const uint32_t UNSET = 0xA5A5A5A5;
@@ -68,12 +70,15 @@ struct reply {
 
 static uint8_t input[MARGIN + MOST_BYTES + MARGIN], before[MOST_BYTES];
 static uint8_t hearing[MARGIN + MOST_BYTES + MARGIN], hearing_before[MOST_BYTES];
+static uint8_t accounts[MARGIN + MOST_BYTES + MARGIN], accounts_before[MOST_BYTES];
 static uint8_t output[MARGIN + MOST_ROOM + MARGIN];
 static uint8_t report[MARGIN + MOST_BYTES + MARGIN];
 static struct lindurask_request list[BESIDE + MOST_RECORDS + BESIDE];
 static uint64_t words[BESIDE + MOST_WORDS + BESIDE];
 
 static unsigned be16(const uint8_t *p) { return (unsigned)p[0] << 8 | p[1]; }
+
+static uint32_t be32(const uint8_t *p) { return (uint32_t)be16(p) << 16 | be16(p + 2); }
 
 static uint64_t be64(const uint8_t *p) {
     uint64_t x = 0;
@@ -126,6 +131,7 @@ static void prepare_list(const uint8_t *records, size_t count) {
             .destination = p[3],
             .id = (uint16_t)be16(p + 4),
             .period = (uint16_t)be16(p + 6),
+            .account = (uint16_t)be16(p + 8),
             .answer = p[10],
         };
 }
@@ -141,6 +147,7 @@ static void put_list(uint8_t *records, size_t count) {
         records[3] = r->destination;
         put16(records + 4, r->id);
         put16(records + 6, r->period);
+        put16(records + 8, r->account);
         records[10] = r->answer;
     }
 }
@@ -162,25 +169,25 @@ static int is_beside(const void *all, size_t size, size_t entry, size_t count) {
 }
 
 /*
- * Makes the call of a frame; book has len bytes, hearing has heard, out has room, the list has count requests, and the
- * index has the words or the report the bytes that the frame says.
+ * Makes the call of a frame; book has len bytes, hearing has heard, the accounts or the list have further, out has room,
+ * and the index has the words or the report the bytes that the frame says.
  */
-static uint8_t call(const uint8_t *head, const uint8_t *book, size_t len, const uint8_t *hearing, size_t heard, size_t count,
-                    uint8_t *out, size_t room, struct reply *r) {
-    uint16_t id = be16(head + 1), period = be16(head + 5), kinds = be16(head + 9);
+static uint8_t call(const uint8_t *head, const uint8_t *book, size_t len, const uint8_t *hearing, size_t heard,
+                    size_t further, uint8_t *out, size_t room, struct reply *r) {
+    uint16_t id = be16(head + 1), period = be16(head + 5), kinds = be16(head + 9), account = be16(head + 20);
     uint8_t source = head[3], destination = head[4];
     uint64_t mains = be64(head + 26);
     bool second = head[19] != 0;
     switch (head[0]) {
     case NEW:
-        return lindurask_new(head[7], head[8], kinds, head[11], head[12], head[13], book, len, hearing, heard, out,
-                             room, &r->length);
+        return lindurask_new(head[7], head[8], kinds, head[11], head[12], head[13], book, len, hearing, heard,
+                             accounts + MARGIN, further, out, room, &r->length);
     case 1:
         return lindurask_check(book, len, &r->length);
     case 2:
         return lindurask_rewrite(book, len, out, room, &r->length);
     case 3:
-        return lindurask_open(book, len, id, source, destination, period, second, out, room, &r->length);
+        return lindurask_open(book, len, id, source, destination, period, second, account, out, room, &r->length);
     case 4:
         return lindurask_close(book, len, id, out, room, &r->length);
     case 5:
@@ -189,6 +196,8 @@ static uint8_t call(const uint8_t *head, const uint8_t *book, size_t len, const 
         return lindurask_balance(book, len, source, &r->data, &r->used, &r->free_slots);
     case ROUTES:
         return lindurask_routes(book, len, mains, source, destination, out, room, &r->length, &r->more);
+    case PURCHASE:
+        return lindurask_purchase(book, len, account, be32(head + 34), out, room, &r->length);
     case KEEPS:
         return lindurask_keeps_to(book, len, mains, &r->keeps);
     case LINKS:
@@ -196,7 +205,8 @@ static uint8_t call(const uint8_t *head, const uint8_t *book, size_t len, const 
     case SALVAGE:
         return lindurask_salvage(book, len, out, room, report + MARGIN, be16(head + 42), &r->length, &r->rows, &r->lost);
     default:
-        return lindurask_post(book, len, mains, list + BESIDE, count, words + BESIDE, be16(head + 42), out, room, &r->length);
+        return lindurask_post(book, len, mains, list + BESIDE, further / RECORD, words + BESIDE, be16(head + 42), out, room,
+                              &r->length);
     }
 }
 
@@ -249,37 +259,43 @@ static void give(const uint8_t *bytes, size_t size) {
 /* Answers one frame, whose head is read. */
 static void serve(const uint8_t *head) {
     size_t len = be16(head + 14), room = be16(head + 16), heard = be16(head + 38), further = be16(head + 40);
-    size_t count = further / RECORD, beside = be16(head + 42);
+    size_t bought = head[0] == NEW ? further : 0, recorded = head[0] == POST ? further : 0;
+    size_t count = recorded / RECORD, beside = be16(head + 42);
     size_t indexed = head[0] == POST ? beside : 0, reported = head[0] == SALVAGE ? beside : 0;
     uint8_t reply[REPLY], records[RECORD * MOST_RECORDS], word[WORD];
     struct reply r = {.length = UNSET, .data = UNSET, .used = UNSET, .free_slots = UNSET, .rows = UNSET, .lost = UNSET};
     r.more = r.links = r.keeps = (uint8_t)UNSET;
-    if ((head[0] > KEEPS && head[0] != SALVAGE && head[0] != LINKS) || len > MOST_BYTES || room > MOST_ROOM)
+    if ((head[0] > SALVAGE && head[0] != LINKS) || len > MOST_BYTES || room > MOST_ROOM)
         fail("is given a frame that is none");
     if (heard > MOST_BYTES || (heard != 0 && head[0] != NEW))
         fail("is given a hearing that is none");
-    if (further % RECORD != 0 || count > MOST_RECORDS || (further != 0 && head[0] != POST))
-        fail("is given records that are none");
+    if (bought > MOST_BYTES || recorded % RECORD != 0 || count > MOST_RECORDS || further != bought + recorded)
+        fail("is given accounts or records that are none");
     if (indexed > MOST_WORDS || reported > MOST_BYTES || beside != indexed + reported)
         fail("is given an index or a report that is none");
     prepare(input, len, 0);
     prepare(hearing, heard, 0);
+    prepare(accounts, bought, 0);
     prepare(output, room, head[18]);
     take(before, len);
     take(hearing_before, heard);
-    take(records, further);
+    take(accounts_before, bought);
+    take(records, recorded);
     memcpy(input + MARGIN, before, len);
     memcpy(hearing + MARGIN, hearing_before, heard);
+    memcpy(accounts + MARGIN, accounts_before, bought);
     prepare_list(records, count);
     prepare_index(indexed, head[18]);
     prepare(report, reported, head[18]);
-    uint8_t number = call(head, input + MARGIN, len, hearing + MARGIN, heard, count, output + MARGIN, room, &r);
+    uint8_t number = call(head, input + MARGIN, len, hearing + MARGIN, heard, further, output + MARGIN, room, &r);
     answer(head, number, &r, reply);
     put_list(records, count);
     if (memcmp(input + MARGIN, before, len) != 0 || !is_around(input, len))
         fail("changes its input");
     if (memcmp(hearing + MARGIN, hearing_before, heard) != 0 || !is_around(hearing, heard))
         fail("changes its hearing");
+    if (memcmp(accounts + MARGIN, accounts_before, bought) != 0 || !is_around(accounts, bought))
+        fail("changes its accounts");
     if (!is_around(output, room))
         fail("writes beside its buffer");
     if (!is_beside(list, sizeof list, sizeof list[0], count))
@@ -290,7 +306,7 @@ static void serve(const uint8_t *head) {
         fail("writes beside its report");
     give(reply, REPLY);
     give(output + MARGIN, room);
-    give(records, further);
+    give(records, recorded);
     give(report + MARGIN, reported);
     for (size_t i = 0; i < indexed; i++) {
         put64(word, words[BESIDE + i]);

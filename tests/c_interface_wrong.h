@@ -162,6 +162,61 @@ static inline uint8_t amiss_salvage(const uint8_t *book, size_t len, uint8_t *ou
         *rows = cut, *lost = gone;
     return number;
 }
+#elif WRONG == 65 /* a new book: hearing and accounts exchanged */
+#define lindurask_new(s, c, kinds, d, u, n, links, links_len, hearing, hearing_len, accounts, accounts_len, ...) \
+    lindurask_new(s, c, kinds, d, u, n, links, links_len, accounts, accounts_len, hearing, hearing_len, __VA_ARGS__)
+#elif WRONG == 66 /* a new book: the length of the accounts is their number */
+#define lindurask_new(s, c, kinds, d, u, n, links, links_len, hearing, hearing_len, accounts, accounts_len, ...) \
+    lindurask_new(s, c, kinds, d, u, n, links, links_len, hearing, hearing_len, accounts, (accounts_len) / 6, __VA_ARGS__)
+#elif WRONG == 67 /* a new book: whole accounts only */
+#define lindurask_new(s, c, kinds, d, u, n, links, links_len, hearing, hearing_len, accounts, accounts_len, ...) \
+    lindurask_new(s, c, kinds, d, u, n, links, links_len, hearing, hearing_len, accounts, (accounts_len) / 6 * 6, __VA_ARGS__)
+#elif WRONG == 68 /* a new book: its accounts changed */
+#define lindurask_new(s, c, kinds, d, u, n, links, links_len, hearing, hearing_len, accounts, accounts_len, ...) \
+    ((accounts_len) ? ((uint8_t *)(accounts))[(accounts_len) - 1]++ : 0, \
+     lindurask_new(s, c, kinds, d, u, n, links, links_len, hearing, hearing_len, accounts, accounts_len, __VA_ARGS__))
+#elif WRONG == 69 /* an open: the account in one byte */
+#define lindurask_open(book, len, id, source, destination, period, second, account, ...) \
+    lindurask_open(book, len, id, source, destination, period, second, (uint8_t)(account), __VA_ARGS__)
+#elif WRONG == 70 /* an open: account 0 always pays */
+#define lindurask_open(book, len, id, source, destination, period, second, account, ...) \
+    lindurask_open(book, len, id, source, destination, period, second, (uint16_t)((account) - (account)), __VA_ARGS__)
+#elif WRONG == 71 /* an open: account and id exchanged */
+#define lindurask_open(book, len, id, source, destination, period, second, account, ...) \
+    lindurask_open(book, len, account, source, destination, period, second, id, __VA_ARGS__)
+#elif WRONG == 72 /* an open: whether with a second route and account exchanged */
+#define lindurask_open(book, len, id, source, destination, period, second, account, ...) \
+    lindurask_open(book, len, id, source, destination, period, account, second, __VA_ARGS__)
+#elif WRONG == 73 /* a purchase: account and amount exchanged */
+#define lindurask_purchase(book, len, account, amount, ...) lindurask_purchase(book, len, (uint16_t)(amount), account, __VA_ARGS__)
+#elif WRONG == 74 /* a purchase: the amount in two bytes */
+#define lindurask_purchase(book, len, account, amount, ...) lindurask_purchase(book, len, account, (uint16_t)(amount), __VA_ARGS__)
+#elif WRONG == 75 /* a purchase: the account in one byte */
+#define lindurask_purchase(book, len, account, ...) lindurask_purchase(book, len, (uint8_t)(account), __VA_ARGS__)
+#elif WRONG == 76 /* a purchase: the buffer taken for a byte longer */
+#define lindurask_purchase(book, len, account, amount, out, room, length) \
+    lindurask_purchase(book, len, account, amount, out, (room) + 1, length)
+#elif WRONG == 77 /* a purchase: the buffer taken for a byte shorter */
+#define lindurask_purchase(book, len, account, amount, out, room, length) \
+    lindurask_purchase(book, len, account, amount, out, (room) - ((room) > 0), length)
+#elif WRONG == 78 /* a purchase: the length is not set */
+#define lindurask_purchase(book, len, account, amount, out, room, length) \
+    lindurask_purchase(book, len, account, amount, out, room, &(size_t){0})
+#elif WRONG == 79 /* a purchase: its input changed */
+#define lindurask_purchase(book, len, ...) \
+    ((len) ? ((uint8_t *)(book))[(len) - 1]++ : 0, lindurask_purchase(book, len, __VA_ARGS__))
+#elif WRONG == 80 /* a purchase: the book rewritten */
+#define lindurask_purchase(book, len, account, amount, out, room, length) \
+    ((void)(account), (void)(amount), lindurask_rewrite(book, len, out, room, length))
+#elif WRONG == 81 /* a request: account and period exchanged */
+#define AMISS(r) exchange(&(r)->account, &(r)->period, 2)
+#elif WRONG == 82 /* a request: account and id exchanged */
+#define AMISS(r) exchange(&(r)->account, &(r)->id, 2)
+#elif WRONG == 83 /* a request: the bytes of its account in the other order */
+#define AMISS(r) ((r)->account = (uint16_t)((r)->account << 8 | (r)->account >> 8))
+#elif WRONG == 84 /* a request: its account ignored, and account 0 pays */
+static uint16_t ignored[100];
+#define AMISS(r) exchange(&(r)->account, &ignored[i], 2)
 #else
 #error "there is no such wrong interface"
 #endif

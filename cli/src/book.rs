@@ -1,5 +1,7 @@
 //! A book's bytes as a person thinks of them. Only bytes that the engine called lawful are read.
 
+use crate::account::{Account, ENDLESS};
+
 /// Tiles of the cycle.
 pub const CYCLE: u16 = 1000;
 /// The periods that a stream may have, in tiles.
@@ -29,21 +31,39 @@ pub struct Layout {
     period_bytes: usize,
     /// The longest period.
     longest: u16,
+    /// A list of accounts stands behind the head, and the account of a row at its end; where they do not, the one account
+    /// is endless.
+    accounts: bool,
 }
 
 /// Every version that is read, the newest last.
-const LAYOUTS: [Layout; 4] = [
-    Layout { version: 1, hearing: false, way_bytes: 0, period_bytes: 1, longest: 100 },
-    Layout { version: 2, hearing: false, way_bytes: 1, period_bytes: 1, longest: 100 },
-    Layout { version: 3, hearing: true, way_bytes: 1, period_bytes: 1, longest: 100 },
-    Layout { version: 4, hearing: true, way_bytes: 1, period_bytes: 2, longest: CYCLE },
+const LAYOUTS: [Layout; 5] = [
+    Layout { version: 1, way_bytes: 0, ..EARLY },
+    Layout { version: 2, ..EARLY },
+    Layout { version: 3, hearing: true, ..EARLY },
+    Layout { version: 4, ..SLOW },
+    Layout { version: 5, accounts: true, ..SLOW },
 ];
+/// What early versions share, and those that have long periods.
+const EARLY: Layout = Layout {
+    version: 0,
+    hearing: false,
+    way_bytes: 1,
+    period_bytes: 1,
+    longest: 100,
+    accounts: false,
+};
+const SLOW: Layout = Layout { hearing: true, period_bytes: 2, longest: CYCLE, ..EARLY };
 /// Bytes of a row that say the id, the hops, a node and an offset; and of a node's row of a topology.
 const ID: usize = 2;
 const HOP_COUNT: usize = 1;
 const NODE: usize = 1;
 const OFFSET: usize = 2;
 const NODE_ROW: usize = 8;
+/// Bytes that say how many accounts there are, and of an account its number and what it has bought.
+const ACCOUNT_COUNT: usize = 1;
+const ACCOUNT: usize = 2;
+const BOUGHT: usize = 4;
 /// The numbers of a stream's routes.
 const FIRST: u8 = 1;
 const SECOND: u8 = 2;
@@ -61,7 +81,16 @@ impl Layout {
     /// The bytes of an image before its rows.
     pub fn before_rows(&self, image: &[u8]) -> usize {
         let topologies = if self.hearing { 2 } else { 1 };
-        HEAD + topologies * NODE_ROW * usize::from(stated_nodes(image))
+        HEAD + self.account_list(image) + topologies * NODE_ROW * usize::from(stated_nodes(image))
+    }
+
+    /// The bytes of the list of accounts, with its count.
+    fn account_list(&self, image: &[u8]) -> usize {
+        if !self.accounts {
+            return 0;
+        }
+        let stated = image.get(HEAD).copied().unwrap_or(0);
+        ACCOUNT_COUNT + (ACCOUNT + BOUGHT) * usize::from(stated)
     }
 
     /// The bytes of a row before its hop count.
@@ -71,11 +100,12 @@ impl Layout {
 
     /// The bytes of a row of so many hops.
     pub fn row(&self, hops: u8) -> usize {
-        self.before_hops() + HOP_COUNT + NODE + usize::from(hops) * (NODE + OFFSET)
+        let behind = if self.accounts { ACCOUNT } else { 0 };
+        self.before_hops() + HOP_COUNT + NODE + usize::from(hops) * (NODE + OFFSET) + behind
     }
 }
 
-/// A site's plan, its links, who hears whom, and its streams.
+/// A site's plan, its accounts, its links, who hears whom, and its streams.
 #[derive(Clone, Debug, PartialEq, Eq)]
 pub struct Book {
     pub version: u16,
@@ -89,6 +119,8 @@ pub struct Book {
     pub down: u8,
     /// Control slots of an uplink tile.
     pub up: u8,
+    /// The accounts by their numbers.
+    pub accounts: Vec<Account>,
     /// For each node the set of its neighbours.
     pub links: Vec<u64>,
     /// For each node the set of the nodes that it hears, its neighbours among them.
@@ -107,6 +139,8 @@ pub struct Way {
     pub period: u16,
     pub nodes: Vec<u8>,
     pub offsets: Vec<u16>,
+    /// The number of the account that it draws from.
+    pub account: u16,
 }
 
 /// A stream of a book: its route, and its second one where it has one.
@@ -155,6 +189,18 @@ impl Bytes<'_> {
         self.number(2).map(|n| n as u16)
     }
 
+    /// The list of accounts, behind its count.
+    fn accounts(&mut self, layout: &Layout) -> Option<Vec<Account>> {
+        if !layout.accounts {
+            return Some(vec![ENDLESS]);
+        }
+        let account = |bytes: &mut Self| {
+            let number = bytes.number(ACCOUNT)? as u16;
+            Some(Account { number, bought: bytes.number(BOUGHT)? as u32 })
+        };
+        (0..self.number(ACCOUNT_COUNT)?).map(|_| account(self)).collect()
+    }
+
     /// A row of a site for each node: its neighbours, or the nodes that it hears.
     fn nodes(&mut self, nodes: u8) -> Option<Vec<u64>> {
         (0..nodes).map(|_| self.number(NODE_ROW)).collect()
@@ -169,7 +215,8 @@ impl Bytes<'_> {
         let hops = self.byte()?;
         let nodes = (0..=hops).map(|_| self.byte()).collect::<Option<_>>()?;
         let offsets = (0..hops).map(|_| self.word()).collect::<Option<_>>()?;
-        Some(Way { id, number, period, nodes, offsets })
+        let account = if layout.accounts { self.number(ACCOUNT)? as u16 } else { ENDLESS.number };
+        Some(Way { id, number, period, nodes, offsets, account })
     }
 }
 
@@ -199,10 +246,11 @@ impl Book {
         let (slots, tiles, kinds) = (head.byte()?, head.byte()?, head.word()?);
         let (down, up, nodes, ways) = (head.byte()?, head.byte()?, head.byte()?, head.byte()?);
         let mut rest = Bytes(&image[HEAD..]);
+        let accounts = rest.accounts(layout)?;
         let links = rest.nodes(nodes)?;
         let hearing = if layout.hearing { rest.nodes(nodes)? } else { links.clone() };
         let ways = (0..ways).map(|_| rest.way(layout)).collect::<Option<_>>()?;
-        let book = Book { version, slots, tiles, kinds, down, up, links, hearing, ways };
+        let book = Book { version, slots, tiles, kinds, down, up, accounts, links, hearing, ways };
         (rest.0.is_empty() && book.is_sound(layout)).then_some(book)
     }
 
@@ -222,6 +270,7 @@ impl Book {
             && self.ways.iter().all(is_sound)
             && self.ways.windows(2).all(|two| two[0].id <= two[1].id)
             && self.streams().all(|stream| stream.is_sound())
+            && self.has_sound_accounts()
     }
 
     pub fn nodes(&self) -> u8 {
@@ -333,9 +382,9 @@ impl<'a> Stream<'a> {
         self.ways.get(1)
     }
 
-    /// It has one route, or a second one too, of the same period and ends.
+    /// It has one route, or a second one too, of the same period, ends and account.
     fn is_sound(&self) -> bool {
-        let shared = |way: &'a Way| (way.period, way.nodes.first(), way.nodes.last());
+        let shared = |way: &'a Way| (way.period, way.nodes.first(), way.nodes.last(), way.account);
         match self.ways {
             [first] => first.number == FIRST,
             [first, second] => {
@@ -395,7 +444,7 @@ mod tests {
 
     fn way(number: u8, nodes: &[u8]) -> Way {
         let offsets = (1..nodes.len() as u16).collect();
-        Way { id: 7, number, period: 5, nodes: nodes.to_vec(), offsets }
+        Way { id: 7, number, period: 5, nodes: nodes.to_vec(), offsets, account: 0 }
     }
 
     #[test]

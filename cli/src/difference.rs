@@ -1,9 +1,10 @@
 //! Where two books differ, and where the nodes' tables first show it.
 
+use crate::account::Account;
 use crate::book::{Book, Stream, Way};
 use crate::table::Entry;
 use crate::tiles::Tiles;
-use std::collections::BTreeSet;
+use std::collections::{BTreeMap, BTreeSet};
 
 /// What the first book has, and what the second has.
 pub type Pair<T> = [T; 2];
@@ -29,6 +30,8 @@ pub struct Difference<'a> {
     pub books: Pair<&'a Book>,
     /// The parts of the plan that differ.
     pub plan: Vec<Differs>,
+    /// The accounts that have not bought the same, by their numbers.
+    pub accounts: Vec<Differs>,
     /// The links that each book has alone.
     pub links: Pair<Vec<(usize, usize)>>,
     /// The pairs that hear each other without a link by each book alone.
@@ -65,7 +68,24 @@ fn stream(stream: Stream) -> Vec<Part> {
         ("offsets", offsets(first)),
         ("second route", second.map(nodes).unwrap_or_default()),
         ("second offsets", second.map(offsets).unwrap_or_default()),
+        ("account", words([first.account])),
     ]
+}
+
+/// The accounts that have not bought the same: the number of each, and what it has bought by each book.
+fn accounts(books: Pair<&Book>) -> Vec<Differs> {
+    let bought = books.map(|book| {
+        let pair = |own: &Account| (own.number, own.bought);
+        book.accounts.iter().map(pair).collect::<BTreeMap<_, _>>()
+    });
+    let numbers: BTreeSet<u16> = bought.iter().flat_map(|own| own.keys().copied()).collect();
+    let both = numbers.into_iter().map(|number| (number, [0, 1].map(|at| bought[at].get(&number))));
+    let said = |number: u16, bought: Option<&u32>| {
+        vec![number.to_string(), bought.map_or("none".into(), u32::to_string)]
+    };
+    both.filter(|(_, [one, other])| one != other)
+        .map(|(number, pair)| ("account", pair.map(|bought| said(number, bought))))
+        .collect()
 }
 
 /// The parts that differ.
@@ -119,6 +139,7 @@ impl<'a> Difference<'a> {
         Difference {
             books,
             plan: differing(books.map(plan)),
+            accounts: accounts(books),
             links: alone(books.map(Book::pairs)),
             heard: alone(books.map(Book::heard_pairs)),
             streams: streams(books),
@@ -134,6 +155,7 @@ impl<'a> Difference<'a> {
     /// Nothing differs but the version in which the books are written.
     pub fn is_none(&self) -> bool {
         self.plan.is_empty()
+            && self.accounts.is_empty()
             && self.unequal(Book::nodes).is_none()
             && self.links.iter().chain(&self.heard).all(Vec::is_empty)
             && self.streams.is_empty()

@@ -38,6 +38,7 @@ enum Call {
     Routes = 7,
     Post = 8,
     KeepsTo = 9,
+    Purchase = 10,
     Links = 13,
     End = 255,
 }
@@ -54,6 +55,8 @@ pub struct Site {
     pub links: Vec<u8>,
     /// A row of the nodes that it hears for each node, as in a book.
     pub hearing: Vec<u8>,
+    /// The accounts, as in a book, without their count.
+    pub accounts: Vec<u8>,
 }
 
 /// What an open asks for.
@@ -65,6 +68,8 @@ pub struct Wish {
     pub period: u16,
     /// A second route is asked for.
     pub second: bool,
+    /// The number of the account that it draws from.
+    pub account: u16,
 }
 
 /// A request of a list.
@@ -124,15 +129,17 @@ impl Record {
     fn bytes(self) -> [u8; RECORD] {
         let (opens, wish) = match self {
             Record::Open(wish) => (true, wish),
-            Record::Close(id) => {
-                (false, Wish { id, source: 0, destination: 0, period: 0, second: false })
-            }
+            Record::Close(id) => (
+                false,
+                Wish { id, source: 0, destination: 0, period: 0, second: false, account: 0 },
+            ),
         };
         let mut bytes = [0; RECORD];
         bytes[..2].copy_from_slice(&[opens, wish.second].map(u8::from));
         bytes[2..4].copy_from_slice(&[wish.source, wish.destination]);
         bytes[4..6].copy_from_slice(&wish.id.to_be_bytes());
         bytes[6..8].copy_from_slice(&wish.period.to_be_bytes());
+        bytes[8..10].copy_from_slice(&wish.account.to_be_bytes());
         bytes[RECORD - 1] = FILL;
         bytes
     }
@@ -145,7 +152,8 @@ pub fn new(site: &Site) -> Request {
     head[9..11].copy_from_slice(&site.kinds.to_be_bytes());
     head[11..14].copy_from_slice(&[site.down, site.up, site.nodes]);
     head[38..40].copy_from_slice(&(site.hearing.len() as u16).to_be_bytes());
-    head.extend(&site.hearing);
+    head[40..42].copy_from_slice(&(site.accounts.len() as u16).to_be_bytes());
+    head.extend(site.hearing.iter().chain(&site.accounts));
     request
 }
 
@@ -160,12 +168,21 @@ pub fn open(book: &[u8], wish: Wish) -> Request {
     head[3..5].copy_from_slice(&[wish.source, wish.destination]);
     head[5..7].copy_from_slice(&wish.period.to_be_bytes());
     head[19] = u8::from(wish.second);
+    head[20..22].copy_from_slice(&wish.account.to_be_bytes());
     request
 }
 
 pub fn close(book: &[u8], id: u16) -> Request {
     let mut request = blank(Call::Close, book, BOOK_ROOM);
     request.bytes[1..3].copy_from_slice(&id.to_be_bytes());
+    request
+}
+
+/// Buys so many hop uses in a cycle for an account.
+pub fn purchase(book: &[u8], account: u16, amount: u32) -> Request {
+    let mut request = blank(Call::Purchase, book, BOOK_ROOM);
+    request.bytes[20..22].copy_from_slice(&account.to_be_bytes());
+    request.bytes[34..38].copy_from_slice(&amount.to_be_bytes());
     request
 }
 

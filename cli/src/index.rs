@@ -30,6 +30,7 @@ pub fn of(book: &Book) -> Vec<u64> {
 #[cfg(test)]
 mod tests {
     use super::*;
+    use crate::account::ENDLESS;
     use crate::book::Way;
 
     #[test]
@@ -40,6 +41,7 @@ mod tests {
             period,
             nodes: nodes.into(),
             offsets: offsets.into(),
+            account: ENDLESS.number,
         };
         let ways = vec![way(1, 50, &[3, 2, 1], &[2, 199]), way(2, 50, &[63, 0], &[2])];
         let plan = Book {
@@ -49,6 +51,7 @@ mod tests {
             kinds: 0,
             down: 0,
             up: 0,
+            accounts: vec![ENDLESS],
             links: vec![],
             hearing: vec![],
             ways,

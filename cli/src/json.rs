@@ -1,5 +1,6 @@
 //! Answers for programs, in JSON.
 
+use crate::account::Standing;
 use crate::book::{Balance, Book, Loss, Stream, Way};
 use crate::trouble::{Refusal, Trouble};
 use std::fmt::Display;
@@ -31,15 +32,29 @@ pub fn object<'a>(fields: impl IntoIterator<Item = (&'a str, String)>) -> String
     format!("{{{}}}", fields.join(","))
 }
 
-/// How many nodes, streams, routes and hops a book has.
+/// How many nodes, streams, routes and hops a book has, and how many accounts where its clerk keeps them.
 pub fn counts(book: &Book) -> Vec<(&'static str, String)> {
-    vec![
+    let mut counts = vec![
         ("version", book.version.to_string()),
         ("nodes", book.nodes().to_string()),
         ("streams", book.streams().count().to_string()),
         ("routes", book.ways.len().to_string()),
         ("hops", book.hops().to_string()),
-    ]
+    ];
+    counts.extend(book.keeps_accounts().then(|| ("accounts", book.accounts.len().to_string())));
+    counts
+}
+
+/// Every account with what it has bought, drawn and left.
+pub fn accounts(accounts: &[Standing]) -> String {
+    array(accounts.iter().map(|own| {
+        object([
+            ("account", own.number.to_string()),
+            ("bought", own.bought.to_string()),
+            ("drawn", own.drawn.to_string()),
+            ("left", own.left().to_string()),
+        ])
+    }))
 }
 
 /// The nodes, offsets and latency of a route.
@@ -51,12 +66,17 @@ pub fn way(way: &Way) -> Vec<(&'static str, String)> {
     ]
 }
 
-pub fn stream(stream: Stream) -> String {
+/// A stream of a book, with its account where the clerk of that book keeps accounts.
+pub fn stream(book: &Book, stream: Stream) -> String {
     let first = stream.first();
     let second = stream.second().map_or("null".to_string(), |second| object(way(second)));
     let head = [("id", first.id.to_string()), ("period", first.period.to_string())];
     let survives = (stream.loss() != Loss::Ends).to_string();
-    let rest = [("second", second), ("survives", survives)];
+    let mut rest = vec![("second", second), ("survives", survives)];
+    if book.keeps_accounts() {
+        rest.push(("account", stream.account().to_string()));
+        rest.push(("draws", stream.draws().to_string()));
+    }
     object(head.into_iter().chain(way(first)).chain(rest))
 }
 

@@ -1,13 +1,17 @@
 //! A list of requests as a person types it, a line for each.
 
+use crate::account::WHAT_ACCOUNT;
 use crate::lines::{fault, lines, number, numbers, Fault};
-use crate::request::{Asked, Request, SECOND};
+use crate::request::{account, Asked, Extras, Request};
 use crate::words::{Number, WHAT_ID};
 
 /// How a line is written, for one who wrote it otherwise.
 const STARTS: &str = "a line starts with open or close";
 const AS_OPEN: &str =
-    "write open, an id, two nodes and a period, as in: open 7 3 0 10, or open 7 3 0 10 second";
+    "write open, an id, two nodes and a period, as in: open 7 3 0 10, or open 7 3 0 10 second, \
+                       or open 7 3 0 10 account 3";
+/// The numbers of an open.
+const NUMBERS: usize = 4;
 const AS_CLOSE: &str = "write close and one id, as in: close 12";
 
 /// A request, and the line that it stands in.
@@ -37,18 +41,22 @@ fn request(line: usize, words: &[&[u8]]) -> Result<Request, Fault> {
 
 /// The open that the words behind that word ask for.
 fn open(line: usize, words: &[&[u8]]) -> Result<Request, Fault> {
-    let (words, second) = match words.split_last() {
-        Some((last, rest)) if *last == SECOND.as_bytes() => (rest, true),
-        _ => (words, false),
-    };
-    let Some([id, source, destination, period]) = numbers(words) else {
+    let (words, behind) = words.split_at(words.len().min(NUMBERS));
+    let (Some([id, source, destination, period]), Some(extras)) =
+        (numbers(words), Extras::read(behind))
+    else {
         return fault(line, AS_OPEN);
     };
     let id = as_id(line, id)?;
     let [source, destination, period] = [source, destination, period].map(Number);
-    Ok(Request::Open(Asked { id, source, destination, period, second }))
+    let account = extras.account.map(|word| as_account(line, word)).transpose()?;
+    Ok(Request::Open(Asked { id, source, destination, period, second: extras.second, account }))
 }
 
 fn as_id(line: usize, id: u64) -> Result<u16, Fault> {
     u16::try_from(id).or_else(|_| fault(line, WHAT_ID))
+}
+
+fn as_account(line: usize, word: &[u8]) -> Result<u16, Fault> {
+    account(word).map_or_else(|| fault(line, WHAT_ACCOUNT), Ok)
 }

@@ -35,10 +35,17 @@ pub fn decode(bytes: &[u8]) -> Result<Book, Trouble> {
     Book::decode(bytes).ok_or_else(unreadable)
 }
 
-/// The stream that an open gave, with a second route exactly if one was asked for, and over no other nodes than it may.
+/// The account of a stream that names none, by the book in these bytes, be they lawful or not.
+pub fn usual_account(bytes: &[u8]) -> u16 {
+    Book::decode(bytes).map_or(0, |book| book.usual_account())
+}
+
+/// The stream that an open gave, with a second route exactly if one was asked for, of the account that was asked for, and
+/// over no other nodes than it may.
 pub fn opened(book: &Book, mains: Mains, wish: Wish) -> Result<Stream<'_>, Trouble> {
     let stream = book.stream(wish.id).filter(|stream| stream.second().is_some() == wish.second);
     stream
+        .filter(|stream| stream.account() == wish.account)
         .filter(|&stream| mains.keeps(stream))
         .ok_or_else(|| Trouble::Failed("the engine opened another stream".into()))
 }

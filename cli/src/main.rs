@@ -1,5 +1,6 @@
 //! The clerk's tool: keeps the book of a site in a file, and asks the proved engine for every judgement.
 
+mod account;
 mod book;
 mod colour;
 mod commands;

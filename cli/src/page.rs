@@ -1,6 +1,7 @@
-//! The page of a book: one HTML file with the site, its streams, the slots of the cycle and each
-//! node's balance.
+//! The page of a book: one HTML file with the site, its streams, the slots of the cycle, each node's
+//! balance, and the accounts where its clerk keeps any.
 
+mod accounts;
 mod agreement;
 mod arrows;
 mod bars;
@@ -16,7 +17,7 @@ mod markup;
 mod read_back;
 mod routes;
 #[cfg(test)]
-mod samples;
+pub mod samples;
 mod streams;
 mod style;
 mod summary;
@@ -52,21 +53,23 @@ pub fn page(title: &str, book: &Book, balances: &[Balance]) -> String {
         section("streams", "Streams", &streams),
         section("slots", "Slots of the cycle", &grid::grid(book)),
         section("balances", "Nodes: data, used and free slots", &bars::bars(balances)),
+        accounts::accounts(book),
     ];
     format!(
         "<!DOCTYPE html>\n<html lang=\"en\">\n{}<body>\n\
-         <header>\n<h1><bdi>{title}</bdi></h1>\n{}{CONTENTS}</header>\n\
+         <header>\n<h1><bdi>{title}</bdi></h1>\n{}{CONTENTS}{}</p></nav>\n</header>\n\
          <main>\n{}</main>\n</body>\n</html>\n",
         head(&title),
         summary::summary(book),
+        accounts::entry(book),
         sections.concat()
     )
 }
 
-/// What stands on the page, to go there.
+/// What stands on every page, to go there.
 const CONTENTS: &str =
     "<nav aria-label=\"Contents\"><p><a href=\"#site\">Site</a> <a href=\"#streams\">Streams</a> \
-                        <a href=\"#slots\">Slots</a> <a href=\"#balances\">Nodes</a></p></nav>\n";
+                        <a href=\"#slots\">Slots</a> <a href=\"#balances\">Nodes</a>";
 
 /// The page's head: nothing is fetched from anywhere, and nothing runs.
 fn head(title: &str) -> String {
@@ -86,6 +89,7 @@ mod tests {
     use super::samples::{balances, bare, full_site, kiln, kiln_balances, ring};
     use super::wellformed::{assert_well_formed, tags};
     use super::*;
+    use crate::account::Account;
 
     /// The most bytes of a page.
     const MOST_BYTES: usize = 1_000_000;
@@ -214,5 +218,18 @@ mod tests {
         assert_eq!(page.matches("<li class=\"k").count(), 2);
         assert_eq!(page.matches("latency 3 slots and 3 slots; survives the loss of").count(), 1);
         assert!(page.contains("<dt>Streams</dt><dd>2 with 4 routes of at most 64</dd>"));
+    }
+    #[test]
+    fn accounts_stand_on_the_page_of_a_book_that_keeps_them() {
+        let kept = |bought| Book { accounts: vec![Account { number: 0, bought }], ..ring() };
+        let page = page_of(&kept(2000));
+        assert_well_formed(&page);
+        assert!(page.contains("<a href=\"#accounts\">Accounts</a>"));
+        let cell = |number: u32| format!("<td class=\"number\">{number}</td>");
+        let row = |cells: &[u32]| cells.iter().copied().map(cell).collect::<String>() + "</tr>";
+        assert!(page.contains(&format!("<th scope=\"row\">0</th>{}", row(&[2000, 1600, 400]))));
+        assert_eq!(page.matches(&row(&[0, 600])).count(), 2);
+        assert_eq!(page.matches(&row(&[0, 100])).count(), 1);
+        assert!(!page_of(&kept(u32::MAX)).contains("Account"));
     }
 }

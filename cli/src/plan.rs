@@ -1,15 +1,21 @@
-//! A site's plan, its links and who hears whom as a person types them: read line by line, and explained where the engine
-//! refuses it.
+//! A site's plan, its links, who hears whom and its accounts as a person types them: read line by line, and explained where
+//! the engine refuses it.
 
+use crate::account::{Account, ENDLESS, MOST_ACCOUNTS, WHAT_ACCOUNT, WHAT_AMOUNT};
 use crate::book::MOST_NODES;
 use crate::frame::Site;
 use crate::lines::{fault, lines, numbers, Fault};
+use std::collections::BTreeMap;
 
 /// The numbers by which the engine refuses a plan, and its links or its hearing.
 const OUT_OF_RANGE: u8 = 10;
 const UNSOUND_PAIRS: u8 = 11;
 /// What a line may start with.
-const STARTS: &str = "a line starts with slots, tiles, control, nodes, link or hear";
+const STARTS: &str = "a line starts with slots, tiles, control, nodes, link, hear or account";
+
+/// How the line of an account is written, for one who wrote it otherwise.
+const AS_ACCOUNT: &str =
+    "write account, its number and the hop uses that it has bought, as in: account 3 1000";
 
 /// Two nodes that a line joins.
 type Pair = Said<(u64, u64)>;
@@ -31,6 +37,8 @@ pub struct Plan {
     links: Vec<Pair>,
     /// The pairs that hear each other; linked ones do without being named here.
     hears: Vec<Pair>,
+    /// What each account has bought, by its number.
+    accounts: BTreeMap<u16, Said<u32>>,
 }
 
 /// The kinds of tiles that words name: true for downlink.
@@ -56,6 +64,13 @@ fn keep<T>(place: &mut Option<Said<T>>, line: usize, value: T) -> Result<(), Fau
 fn join(pairs: &mut Vec<Pair>, line: usize, value: (u64, u64)) -> Result<(), Fault> {
     pairs.push(Said { line, value });
     Ok(())
+}
+
+/// The account that numbers say.
+fn account(line: usize, [number, bought]: [u64; 2]) -> Result<Account, Fault> {
+    let Ok(number) = u16::try_from(number) else { return fault(line, WHAT_ACCOUNT) };
+    let Ok(bought) = u32::try_from(bought) else { return fault(line, WHAT_AMOUNT) };
+    Ok(Account { number, bought })
 }
 
 /// A row for each node with those that it is joined to. A node that no row can hold makes a row too many, which the
@@ -113,8 +128,43 @@ impl Plan {
                 Some([a, b]) => join(&mut self.hears, line, (a, b)),
                 None => fault(line, "write hear and two nodes, as in: hear 0 2"),
             },
+            b"account" => match numbers(rest) {
+                Some(said) => self.keep_account(line, account(line, said)?),
+                None => fault(line, AS_ACCOUNT),
+            },
             _ => fault(line, STARTS),
         }
+    }
+
+    /// Keeps an account that is said once.
+    fn keep_account(&mut self, line: usize, account: Account) -> Result<(), Fault> {
+        let Account { number, bought } = account;
+        if let Some(before) = self.accounts.insert(number, Said { line, value: bought }) {
+            return fault(
+                line,
+                format!("account {number} was said in line {} before", before.line),
+            );
+        }
+        Ok(())
+    }
+
+    /// The accounts as in a book, without their count: the endless one where none is said. Of too many the first one too
+    /// many is the last.
+    fn accounts(&self) -> Vec<u8> {
+        let said = self.accounts.iter().map(|(&number, said)| (number, said.value));
+        let endless = self.accounts.is_empty().then_some((ENDLESS.number, ENDLESS.bought));
+        let all = said.chain(endless).take(MOST_ACCOUNTS + 1);
+        all.flat_map(|(number, bought)| {
+            number.to_be_bytes().into_iter().chain(bought.to_be_bytes())
+        })
+        .collect()
+    }
+
+    /// The line with the first account too many, where there is one.
+    fn too_many_accounts(&self) -> Option<usize> {
+        let mut lines: Vec<usize> = self.accounts.values().map(|said| said.line).collect();
+        lines.sort_unstable();
+        lines.get(MOST_ACCOUNTS).copied()
     }
 
     /// The plan, if nothing is missing.
@@ -148,6 +198,7 @@ impl Plan {
             nodes: byte(nodes.value),
             links: rows(nodes.value, self.links.iter()),
             hearing: rows(nodes.value, self.links.iter().chain(&self.hears)),
+            accounts: self.accounts(),
         }
     }
 
@@ -190,6 +241,11 @@ impl Plan {
                 control.line,
                 down.max(up) > slots.value,
                 "there are more control slots than slots in a tile",
+            ),
+            (
+                self.too_many_accounts().unwrap_or(0),
+                MOST_ACCOUNTS < self.accounts.len(),
+                "a book has at most 32 accounts",
             ),
         ];
         faults.sort_by_key(|&(line, ..)| line);

@@ -1,7 +1,7 @@
 //! The answers by number, in words.
 
 /// What each number says; document 01 has the numbers, and document 02 those from 17 on.
-const WORDS: [(u8, &str); 22] = [
+const WORDS: [(u8, &str); 25] = [
     (0, "done"),
     (1, "a stream's id is never 0"),
     (2, "a stream of this id is in the book already"),
@@ -12,16 +12,19 @@ const WORDS: [(u8, &str); 22] = [
     (7, "no route exists between these nodes"),
     (8, "the book is full: 64 routes or 512 hops"),
     (9, "no free slots for this stream"),
-    (10, "a number of the plan or of the book's head is out of its range"),
+    (10, "a number of the plan, of the head or of the accounts is out of its range"),
     (11, "links or hearing not sound: a self-link, one-way, unheard or no such node"),
     (12, "no room for the answer"),
-    (13, "this is no book of version 1 to 4: its mark or its version is wrong"),
+    (13, "this is no book of version 1 to 5: its mark or its version is wrong"),
     (14, "the book is cut short, or not as long as its head says"),
     (15, "the rows of the book's streams are not lawful"),
     (16, "hops of two routes clash and meet in a slot"),
     (17, "every route has over 15 hops"),
     (18, "no second route of at most 6 hops by other relays"),
     (21, "the tiles are not in the cycle of 1000, or are none, or over 100 at once"),
+    (22, "the book has no account of this number"),
+    (23, "not enough left on the account"),
+    (24, "an account holds at most 4294967295 hop uses"),
     (25, "the mains set names a node that the site has not"),
     (26, "a list has at most 64 requests"),
 ];

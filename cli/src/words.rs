@@ -1,8 +1,10 @@
 //! The words of the command line: operands, options, and what they are as numbers.
 
+use crate::account::{WHAT_ACCOUNT, WHAT_AMOUNT};
 use crate::book::CYCLE;
 use crate::lines;
 use crate::mains::Mains;
+use crate::request::{self, Extras};
 use crate::trouble::Trouble;
 use std::ffi::{OsStr, OsString};
 use std::os::unix::ffi::OsStrExt;
@@ -113,6 +115,23 @@ impl Words {
         number(&self.operands[place]).ok_or_else(|| misused(said))
     }
 
+    /// The account at a place.
+    pub fn account(&self, place: usize) -> Result<u16, Trouble> {
+        as_account(self.operands[place].as_bytes())
+    }
+
+    /// The hop uses at a place.
+    pub fn amount(&self, place: usize) -> Result<u32, Trouble> {
+        let amount = number(&self.operands[place]).and_then(|Number(n)| u32::try_from(n).ok());
+        amount.ok_or_else(|| misused(WHAT_AMOUNT))
+    }
+
+    /// The words from a place on that stand behind the numbers of an open; none where there are others.
+    pub fn extras(&self, place: usize) -> Option<Extras<'_>> {
+        let words: Vec<&[u8]> = self.operands.iter().skip(place).map(|w| w.as_bytes()).collect();
+        Extras::read(&words)
+    }
+
     /// The tile at a place, where there is one.
     pub fn tile_if(&self, place: usize) -> Result<Option<Number>, Trouble> {
         self.number_if(place, "a tile is a number, from 0 on")
@@ -170,4 +189,9 @@ fn as_id(word: &OsStr) -> Result<u16, Trouble> {
 
 fn as_node(word: &OsStr) -> Result<Number, Trouble> {
     number(word).ok_or_else(|| misused("a node is a number, from 0 on"))
+}
+
+/// The account that a word names.
+pub fn as_account(word: &[u8]) -> Result<u16, Trouble> {
+    request::account(word).ok_or_else(|| misused(WHAT_ACCOUNT))
 }

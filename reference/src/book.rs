@@ -1,5 +1,7 @@
-//! A book: a site's tile plan, its topology and the rows of its streams.
+//! A book: a site's tile plan, its topology, its accounts and the rows of its
+//! streams.
 
+use crate::account::Account;
 use crate::plan::Plan;
 use crate::row::Row;
 use crate::topology::Topology;
@@ -20,6 +22,8 @@ pub const MAX_SHORT_HOPS: usize = 6;
 pub struct Book {
     pub plan: Plan,
     pub topology: Topology,
+    /// In a lawful book, 1 to 32 rising strictly by number.
+    pub accounts: Vec<Account>,
     /// In a lawful book, rising strictly by id and then route.
     pub rows: Vec<Row>,
 }

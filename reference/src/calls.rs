@@ -4,8 +4,9 @@
 //! the output buffer as it was; success writes only the answer's own bytes.
 //! A new or changed book is written in the newest version.
 
+use crate::account::read_accounts;
 use crate::book::Book;
-use crate::change::Open;
+use crate::change::{self, Open};
 use crate::image;
 use crate::index::{index_of, index_words};
 use crate::node_set::NodeSet;
@@ -38,9 +39,9 @@ pub struct Site<'a> {
     pub hearing: &'a [u8],
 }
 
-/// Makes an empty book.
-pub fn new(site: &Site, out: &mut [u8]) -> (u8, usize) {
-    deliver(new_book(site).map(in_newest_version), out)
+/// Makes an empty book with these accounts, 6 bytes each.
+pub fn new(site: &Site, accounts: &[u8], out: &mut [u8]) -> (u8, usize) {
+    deliver(new_book(site, accounts).map(in_newest_version), out)
 }
 
 /// Says whether a book is lawful.
@@ -107,6 +108,12 @@ pub fn open(book: &[u8], asked: Open, out: &mut [u8]) -> (u8, usize) {
 /// Closes a stream.
 pub fn close(book: &[u8], id: u16, out: &mut [u8]) -> (u8, usize) {
     post_one(book, Record::close(id), out)
+}
+
+/// Raises what an account has bought.
+pub fn purchase(book: &[u8], account: u16, amount: u32, out: &mut [u8]) -> (u8, usize) {
+    let bought = read(book).and_then(|book| change::purchase(&book, account, amount));
+    deliver(bought.map(in_newest_version), out)
 }
 
 /// Expands so many tiles of one node's slot table, from the first one given.
@@ -225,12 +232,13 @@ fn in_newest_version(book: Book) -> Vec<u8> {
     image::write(Version::NEWEST, &book)
 }
 
-fn new_book(site: &Site) -> Result<Book, Refusal> {
+fn new_book(site: &Site, accounts: &[u8]) -> Result<Book, Refusal> {
     let in_range = site.plan.is_in_range() && NODES.contains(&site.nodes);
     refuse_if(!in_range, Refusal::OutOfRange)?;
+    let accounts = read_accounts(accounts).ok_or(Refusal::OutOfRange)?;
     let topology = Topology::read(site.nodes, site.links, site.hearing);
     let topology = topology.ok_or(Refusal::UnsoundTopology)?;
-    Ok(Book { plan: site.plan.clone(), topology, rows: Vec::new() })
+    Ok(Book { plan: site.plan.clone(), topology, accounts, rows: Vec::new() })
 }
 
 /// Reads a book of any version.

@@ -10,8 +10,8 @@
 //! | Bytes | Field                                                          |
 //! |-------|----------------------------------------------------------------|
 //! | 0     | call: 0 new, 1 check, 2 rewrite, 3 open, 4 close, 5 expand,    |
-//! |       | 6 balance, 7 routes, 8 post, 9 keeps to, 11 salvage, 13 links, |
-//! |       | 255 end                                                        |
+//! |       | 6 balance, 7 routes, 8 post, 9 keeps to, 10 purchase,          |
+//! |       | 11 salvage, 13 links, 255 end                                  |
 //! | 1–2   | id (open, close)                                               |
 //! | 3     | source (open, routes) or node (expand, balance, links)         |
 //! | 4     | destination (open, routes)                                     |
@@ -25,13 +25,14 @@
 //! |       | balance, keeps to and links, which have none                   |
 //! | 18    | fill byte of the output buffer                                 |
 //! | 19    | 1 to ask for a second route, otherwise 0 (open)                |
-//! | 20–21 | 0                                                              |
+//! | 20–21 | account (open, purchase)                                       |
 //! | 22–23 | first tile (expand)                                            |
 //! | 24–25 | number of tiles (expand)                                       |
 //! | 26–33 | mains set (routes, post, keeps to)                             |
-//! | 34–37 | 0                                                              |
+//! | 34–37 | amount (purchase)                                              |
 //! | 38–39 | length of the hearing (new), at most 1,024                     |
-//! | 40–41 | length of the further bytes, which are the records (post)      |
+//! | 40–41 | length of the further bytes, which are the accounts (new), at  |
+//! |       | most 1,024, or the records (post)                              |
 //! | 42–43 | length of the index (post), in words of 8 bytes, at most       |
 //! |       | 6,500, or of the report (salvage), in bytes, at most 4,096     |
 //!
@@ -48,7 +49,7 @@
 //! | 2, 3  | source, destination                                            |
 //! | 4–5   | id                                                             |
 //! | 6–7   | period                                                         |
-//! | 8–9   | 0                                                              |
+//! | 8–9   | account                                                        |
 //! | 10    | what the answer is before the call                             |
 //!
 //! An answer is 13 bytes, then what the call was lent, as it left it:
@@ -64,10 +65,9 @@
 //! | then  | the output buffer, as long as the request says                 |
 //! | then  | the records, then the index (post), or the report (salvage)    |
 //!
-//! What is 0 is for document 02's other requests, and so are calls 10 and 12:
-//! 20–21 account (W11); 34–37 amount (W11); further bytes that are the accounts
-//! (W11) or the tables (W9); bytes 8–9 of a record, its account (W11). Call 10
-//! is purchase (W11), 12 book of (W9).
+//! The accounts of a new book are 6 bytes each, as they stand in an image
+//! without the count. Call 12, book of, is for document 02's request W9; its
+//! further bytes are the tables.
 //!
 //! A request with call 255 is a header only, has no answer and ends the
 //! stream, as does the end of the input between two frames. Answers may be
@@ -103,12 +103,13 @@ pub enum Call {
     Routes = 7,
     Post = 8,
     KeepsTo = 9,
+    Purchase = 10,
     Salvage = 11,
     Links = 13,
 }
 
 impl Call {
-    pub const ALL: [Call; 12] = [
+    pub const ALL: [Call; 13] = [
         Call::New,
         Call::Check,
         Call::Rewrite,
@@ -119,6 +120,7 @@ impl Call {
         Call::Routes,
         Call::Post,
         Call::KeepsTo,
+        Call::Purchase,
         Call::Salvage,
         Call::Links,
     ];

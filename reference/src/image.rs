@@ -1,5 +1,6 @@
 //! The image: a book as stored bytes, big-endian throughout.
 
+use crate::account::{Account, ONLY_ACCOUNT, read_accounts, write_accounts};
 use crate::book::{Book, MAX_HOPS, MAX_ROWS};
 use crate::law::{clashing_hops_meet, rows_are_lawful};
 use crate::plan::Plan;
@@ -21,17 +22,23 @@ pub struct Head {
     rows: usize,
     /// The hops stated.
     hops: usize,
+    pub accounts: Vec<Account>,
 }
 
 impl Head {
-    /// Where the rows begin.
-    pub fn before_rows(&self) -> usize {
-        HEADER_LENGTH + self.version.topology_bytes(self.nodes)
+    /// Where the topology begins.
+    pub fn before_topology(&self) -> usize {
+        HEADER_LENGTH + self.version.accounts_bytes(self.accounts.len())
     }
 
-    /// The length the header gives.
+    /// Where the rows begin.
+    pub fn before_rows(&self) -> usize {
+        self.before_topology() + self.version.topology_bytes(self.nodes)
+    }
+
+    /// The length the header and the count of accounts give.
     fn image_length(&self) -> usize {
-        self.version.image_length(self.nodes, self.rows, self.hops)
+        self.version.image_length(self.accounts.len(), self.nodes, self.rows, self.hops)
     }
 }
 
@@ -39,11 +46,11 @@ impl Head {
 pub fn read(image: &[u8]) -> Result<(Version, Book), Refusal> {
     let head = read_head(image)?;
     refuse_if(image.len() != head.image_length(), Refusal::WrongLength)?;
-    let (topology, rows) = image.split_at(head.before_rows());
     let version = head.version;
-    let topology = read_topology(version, head.nodes, &topology[HEADER_LENGTH..])?;
+    let (before, rows) = image.split_at(head.before_rows());
+    let topology = read_topology(version, head.nodes, &before[head.before_topology()..])?;
     let rows = read_rows(version, rows, head.rows).ok_or(Refusal::UnlawfulRows)?;
-    let book = Book { plan: head.plan, topology, rows };
+    let book = Book { plan: head.plan, topology, accounts: head.accounts, rows };
     refuse_if(book.hops() != head.hops, Refusal::UnlawfulRows)?;
     let lawful = version.fits(&book) && rows_are_lawful(&book);
     refuse_if(!lawful, Refusal::UnlawfulRows)?;
@@ -66,7 +73,18 @@ pub fn read_head(image: &[u8]) -> Result<Head, Refusal> {
         && hops <= MAX_HOPS
         && image[15] == 0;
     refuse_if(!in_range, Refusal::OutOfRange)?;
-    Ok(Head { version, plan, nodes, rows, hops })
+    let accounts = read_account_list(version, &image[HEADER_LENGTH..])?;
+    Ok(Head { version, plan, nodes, rows, hops, accounts })
+}
+
+/// Reads the accounts after the header; an older version has the only one.
+fn read_account_list(version: Version, rest: &[u8]) -> Result<Vec<Account>, Refusal> {
+    if !version.stores_accounts() {
+        return Ok(vec![ONLY_ACCOUNT]);
+    }
+    let count = rest.first().copied().map(usize::from).ok_or(Refusal::WrongLength)?;
+    let list = rest.get(1..version.accounts_bytes(count)).ok_or(Refusal::WrongLength)?;
+    read_accounts(list).ok_or(Refusal::OutOfRange)
 }
 
 /// Reads links and hearing; an older version hears exactly its links.
@@ -94,7 +112,9 @@ pub fn read_row(version: Version, rest: &mut &[u8]) -> Option<Row> {
     let hops = usize::from(take(rest, 1)?[0]);
     let nodes = take(rest, hops + 1)?.to_vec();
     let offsets = take(rest, 2 * hops)?.chunks(2).map(two_bytes).collect();
-    Some(Row { id, route, period, nodes, offsets })
+    let account =
+        if version.stores_accounts() { two_bytes(take(rest, 2)?) } else { ONLY_ACCOUNT.number };
+    Some(Row { id, route, period, nodes, offsets, account })
 }
 
 /// Takes `count` bytes off the front; none if there are fewer.
@@ -124,6 +144,10 @@ pub fn write(version: Version, book: &Book) -> Vec<u8> {
     image.push(book.rows.len() as u8);
     image.extend((book.hops() as u16).to_be_bytes());
     image.push(0);
+    if version.stores_accounts() {
+        image.push(book.accounts.len() as u8);
+        image.extend(write_accounts(&book.accounts));
+    }
     image.extend(write_rows(&book.topology.links));
     if version.stores_hearing() {
         image.extend(write_rows(&book.topology.hearing));
@@ -150,4 +174,7 @@ fn write_row(version: Version, row: &Row, image: &mut Vec<u8>) {
     image.push(row.offsets.len() as u8);
     image.extend(&row.nodes);
     image.extend(row.offsets.iter().flat_map(|offset| offset.to_be_bytes()));
+    if version.stores_accounts() {
+        image.extend(row.account.to_be_bytes());
+    }
 }

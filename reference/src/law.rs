@@ -8,12 +8,14 @@ use crate::row::{FIRST_ROUTE, Row, SECOND_ROUTE};
 use crate::topology::Topology;
 
 /// The rows are lawful one by one, rise strictly by id and then route, and
-/// every second route is lawful beside its first.
+/// every second route is lawful beside its first; every row is of a known
+/// account, and none is overdrawn.
 pub fn rows_are_lawful(book: &Book) -> bool {
     let lawful = |row| row_is_lawful(row, &book.plan, &book.topology);
     rises_strictly(book.rows.iter().map(Row::key))
         && book.rows.iter().all(lawful)
         && second_routes_are_lawful(&book.rows)
+        && accounts_pay(book)
 }
 
 /// One row by itself is lawful.
@@ -57,11 +59,12 @@ fn second_routes_are_lawful(rows: &[Row]) -> bool {
     })
 }
 
-/// The row 2 has the id, period and ends of the row 1, at most 6 hops, another
-/// route and no common middle.
+/// The row 2 has the id, period, account and ends of the row 1, at most 6 hops,
+/// another route and no common middle.
 fn second_is_lawful(first: &Row, second: &Row) -> bool {
     (first.id, first.route) == (second.id, FIRST_ROUTE)
         && first.period == second.period
+        && first.account == second.account
         && first.nodes.first() == second.nodes.first()
         && first.nodes.last() == second.nodes.last()
         && second.offsets.len() <= MAX_SHORT_HOPS
@@ -70,12 +73,21 @@ fn second_is_lawful(first: &Row, second: &Row) -> bool {
 }
 
 /// A row may stand behind the rows of a book: it is lawful by itself, rises
-/// above the last of them, and as a row 2 is lawful beside it.
+/// above the last of them, as a row 2 is lawful beside it, and its account pays
+/// for it beside them.
 pub fn row_may_follow(book: &Book, row: &Row) -> bool {
     let last = book.rows.last();
     last.is_none_or(|last| last.key() < row.key())
         && row_is_lawful(row, &book.plan, &book.topology)
         && (row.route == FIRST_ROUTE || last.is_some_and(|first| second_is_lawful(first, row)))
+        && accounts_pay(&with_row(book, row))
+}
+
+/// The book with this row behind its own.
+fn with_row(book: &Book, row: &Row) -> Book {
+    let mut book = book.clone();
+    book.rows.push(row.clone());
+    book
 }
 
 /// Two hops clash and meet.
@@ -88,6 +100,15 @@ pub fn meets_another(book: &Book, row: &Row) -> bool {
     let hops = row.placed_hops(&book.plan);
     let others = book.rows.iter().flat_map(|row| row.placed_hops(&book.plan));
     others.into_iter().any(|one| hops.iter().any(|two| at_odds(&book.topology, &one, two)))
+}
+
+/// Every row is of a known account, and none has drawn more than it bought.
+fn accounts_pay(book: &Book) -> bool {
+    book.rows.iter().all(|row| book.account(row.account).is_some())
+        && book
+            .accounts
+            .iter()
+            .all(|account| book.drawn(account.number) <= u64::from(account.bought))
 }
 
 /// Two clashing hops of different rows meet.

@@ -7,12 +7,13 @@
 //!
 //! One subject a file, in document 01's order:
 //! `plan`, `slots` (tiles, slots, periods); `node_set`, `topology`, `route`,
-//! `hop`, `placing` (routes and clashes); `row`, `book`, `law`, `version`,
-//! `image` (the image); `refusal`, `change`, `record`, `index`, `calls` (what
-//! each call says back); `table`, `listing` (a node's table and balance);
-//! document 02's `statement` (many sites) and `salvage` (damaged books). `frame`
-//! and `request` carry calls between programs.
+//! `hop`, `placing` (routes and clashes); `row`, `account`, `book`, `law`,
+//! `version`, `image` (the image); `refusal`, `change`, `record`, `index`,
+//! `calls` (what each call says back); `table`, `listing` (a node's table and
+//! balance); document 02's `statement` (many sites) and `salvage` (damaged
+//! books). `frame` and `request` carry calls between programs.
 
+pub mod account;
 pub mod book;
 pub mod calls;
 pub mod change;

@@ -25,7 +25,8 @@ pub enum Refusal {
     BookIsFull = 8,
     /// No placing exists.
     NoPlacing = 9,
-    /// A field of bytes 5 to 15, or an argument of a new book, out of its range.
+    /// A field of bytes 5 to 15, the account list, or an argument of a new book,
+    /// out of its range.
     OutOfRange = 10,
     /// Topology: wrong length, a bit from N up, a self-link, a one-way link, a
     /// link missing from the hearing.
@@ -48,6 +49,12 @@ pub enum Refusal {
     NoSecondRoute = 18,
     /// Tiles outside the cycle, or a count of 0 or over 100.
     TilesOutOfRange = 21,
+    /// The account is unknown.
+    UnknownAccount = 22,
+    /// The account has not enough left.
+    NotEnoughLeft = 23,
+    /// A purchase past 32 bits.
+    PastLargestNumber = 24,
     /// A mains set with a bit from N up.
     MainsOutOfRange = 25,
     /// Over 64 records.

@@ -19,6 +19,9 @@ pub struct Request {
     pub period: u16,
     /// An open asks for a second route.
     pub second: bool,
+    pub account: u16,
+    /// What a purchase adds.
+    pub amount: u32,
     /// The first tile of an expand, and how many.
     pub first: u16,
     pub tiles: u16,
@@ -33,7 +36,7 @@ pub struct Request {
     pub bytes: Vec<u8>,
     /// The hearing of a new book.
     pub hearing: Vec<u8>,
-    /// The records of a posting.
+    /// The accounts of a new book, the records of a posting.
     pub further: Vec<u8>,
     /// Length of the output buffer.
     pub room: u16,
@@ -54,6 +57,8 @@ impl Request {
             destination: 0,
             period: 0,
             second: false,
+            account: 0,
+            amount: 0,
             first: 0,
             tiles: 0,
             mains: 0,
@@ -87,9 +92,11 @@ impl Request {
         put(14, &(self.bytes.len() as u16).to_be_bytes());
         put(16, &self.room.to_be_bytes());
         put(18, &[self.fill, u8::from(self.second)]);
+        put(20, &self.account.to_be_bytes());
         put(22, &self.first.to_be_bytes());
         put(24, &self.tiles.to_be_bytes());
         put(26, &self.mains.to_be_bytes());
+        put(34, &self.amount.to_be_bytes());
         put(38, &(self.hearing.len() as u16).to_be_bytes());
         put(40, &(self.further.len() as u16).to_be_bytes());
         put(42, &self.beside.to_be_bytes());
@@ -116,6 +123,8 @@ impl Request {
             destination: header[4],
             period: number(5),
             second: header[19] != 0,
+            account: number(20),
+            amount: u32::from_be_bytes(header[34..38].try_into().expect("four bytes")),
             first: number(22),
             tiles: number(24),
             mains: u64::from_be_bytes(header[26..34].try_into().expect("eight bytes")),
@@ -165,7 +174,7 @@ impl Request {
     ) -> (u8, [u32; 3]) {
         let book = &self.bytes;
         let (number, length) = match self.call {
-            Call::New => calls::new(&self.site(), out),
+            Call::New => calls::new(&self.site(), &self.further, out),
             Call::Check => calls::check(book),
             Call::Rewrite => calls::rewrite(book, out),
             Call::Open => calls::open(book, self.open(), out),
@@ -186,6 +195,7 @@ impl Request {
                 let counts = [said.length, said.rows, said.lost];
                 return (said.number, counts.map(|count| count as u32));
             }
+            Call::Purchase => calls::purchase(book, self.account, self.amount, out),
             Call::KeepsTo => {
                 let (number, keeps) = calls::keeps_to(book, self.mains);
                 return (number, [u32::from(keeps), 0, 0]);
@@ -226,6 +236,7 @@ impl Request {
             destination: self.destination,
             period: self.period,
             second: self.second,
+            account: self.account,
         }
     }
 }

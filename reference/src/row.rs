@@ -21,6 +21,8 @@ pub struct Row {
     pub nodes: Vec<u8>,
     /// One offset a hop, in slots.
     pub offsets: Vec<u16>,
+    /// The account that pays.
+    pub account: u16,
 }
 
 impl Row {

@@ -5,7 +5,7 @@ use crate::image::{read_head, read_row, read_topology};
 use crate::law::{meets_another, row_may_follow};
 use crate::refusal::{DONE, Refusal};
 use crate::row::Row;
-use crate::version::{HEADER_LENGTH, Version};
+use crate::version::Version;
 
 /// What came out of a damaged image.
 pub struct Salvaged {
@@ -23,10 +23,10 @@ pub struct Salvaged {
 pub fn salvage(image: &[u8]) -> Result<Salvaged, Refusal> {
     let head = read_head(image)?;
     let before_rows = head.before_rows();
-    let topology = image.get(HEADER_LENGTH..before_rows).ok_or(Refusal::WrongLength)?;
+    let topology = image.get(head.before_topology()..before_rows).ok_or(Refusal::WrongLength)?;
     let topology = read_topology(head.version, head.nodes, topology)?;
     let version = head.version;
-    let mut book = Book { plan: head.plan, topology, rows: Vec::new() };
+    let mut book = Book { plan: head.plan, topology, accounts: head.accounts, rows: Vec::new() };
     let (mut cuts, mut rest) = (Vec::new(), &image[before_rows..]);
     while let Some((row, left)) = cut(version, rest) {
         rest = left;

@@ -4,6 +4,7 @@
 mod common;
 
 use common::*;
+use reference::account::ONLY_ACCOUNT;
 use reference::book::{Book, MAX_ROUTE_HOPS, MAX_SHORT_HOPS};
 use reference::calls;
 use reference::change::Open;
@@ -59,7 +60,7 @@ fn small_book(dice: &mut Dice) -> Book {
         heard.push((dice.below(5) as usize, 5));
     }
     let topology = Topology::read(6, &topology(6, &links), &topology(6, &heard)).unwrap();
-    let mut book = Book { plan, topology, rows: Vec::new() };
+    let mut book = Book { plan, topology, accounts: vec![ONLY_ACCOUNT], rows: Vec::new() };
     for id in 1..=dice.below(5) as u16 {
         try_to_open(dice, &mut book, id);
     }
@@ -72,7 +73,7 @@ fn try_to_open(dice: &mut Dice, book: &mut Book, id: u16) {
     let mut out = vec![0; ROOM];
     let before = image::write(Version::NEWEST, book);
     let second = dice.below(3) == 0;
-    let asked = Open { id, source, destination, period, second };
+    let asked = Open { id, source, destination, period, second, account: 0 };
     let (number, length) = calls::open(&before, asked, &mut out);
     if number == 0 {
         *book = read(&out[..length]);
@@ -277,7 +278,8 @@ fn a_nodes_links_are_the_ones_of_its_row() {
         let book = small_book(&mut dice);
         let bytes = image::write(Version::NEWEST, &book);
         for node in 0..6 {
-            let row = &bytes[16 + 8 * node..][..8];
+            // The links follow the header and one account with its count.
+            let row = &bytes[16 + 7 + 8 * node..][..8];
             let ones: u32 = row.iter().map(|byte| byte.count_ones()).sum();
             assert_eq!(calls::links(&bytes, node as u8), (0, ones as u8));
         }
@@ -327,7 +329,7 @@ fn opens_that_are_apart_give_the_same_in_either_order() {
         let mut any = |id| {
             let period = PERIODS[dice.below(4) as usize];
             let (source, destination) = (dice.below(6) as u8, dice.below(6) as u8);
-            Open { id, source, destination, period, second: dice.below(2) == 0 }
+            Open { id, source, destination, period, second: dice.below(2) == 0, account: 0 }
         };
         let (one, two) = (any(100), any(200));
         if !are_apart(&book.topology, one, two) {

@@ -106,10 +106,12 @@ const P10: [u8; 32] = [
 ];
 
 /// P10 in every version. From version 3 on it has the hearing, which is the
-/// links.
-fn p10s() -> [Vec<u8>; 4] {
-    let with_hearing = [&P10, &P10[16..]].concat();
-    let mut books = [P10.to_vec(), P10.to_vec(), with_hearing.clone(), with_hearing];
+/// links, and version 5 has the only account after the header.
+fn p10s() -> [Vec<u8>; 5] {
+    let (header, links) = P10.split_at(16);
+    let with_hearing = [header, links, links].concat();
+    let with_account = [header, &[1], &ONLY, links, links].concat();
+    let mut books = [P10.to_vec(), P10.to_vec(), with_hearing.clone(), with_hearing, with_account];
     for (book, version) in books.iter_mut().zip(1..) {
         book[4] = version;
     }
@@ -117,11 +119,12 @@ fn p10s() -> [Vec<u8>; 4] {
 }
 
 /// P11 in every version: P10 with one row more, of one hop.
-fn p11s() -> [Vec<u8>; 4] {
+fn p11s() -> [Vec<u8>; 5] {
     let version_1 = vec![0x00, 0x07, 0x02, 0x01, 0x01, 0x00, 0x00, 0x02];
     let version_2 = vec![0x00, 0x07, 0x01, 0x02, 0x01, 0x01, 0x00, 0x00, 0x02];
     let version_4 = vec![0x00, 0x07, 0x01, 0x00, 0x02, 0x01, 0x01, 0x00, 0x00, 0x02];
-    let rows = [version_1, version_2.clone(), version_2, version_4];
+    let version_5 = [version_4.clone(), vec![0x00, 0x00]].concat();
+    let rows = [version_1, version_2.clone(), version_2, version_4, version_5];
     let mut books = p10s();
     for (book, row) in books.iter_mut().zip(rows) {
         (book[12], book[14]) = (0x01, 0x01);
@@ -173,7 +176,7 @@ fn run_15_hops_are_accepted_and_16_are_too_far() {
 fn run_64_nodes_stand_and_65_do_not() {
     assert_eq!(calls::check(&new_book(OPEN_PLAN, &line(64))), (0, 0));
     let rows = vec![0; 8 * 65];
-    assert_eq!(refused(ROOM, |out| calls::new(&site(OPEN_PLAN, 65, &rows), out)), 10);
+    assert_eq!(refused(ROOM, |out| calls::new(&site(OPEN_PLAN, 65, &rows), &ONLY, out)), 10);
     let mut image = new_book(OPEN_PLAN, &line(64));
     image[11] = 65;
     assert_eq!(calls::check(&image), (10, 0));

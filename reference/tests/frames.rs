@@ -31,6 +31,8 @@ fn a_request_has_every_field_in_its_place() {
         room: 0x1011,
         fill: 0x12,
         second: true,
+        account: 0x1415,
+        amount: 0x2A2B2C2D,
         first: 0x1617,
         tiles: 0x1819,
         mains: 0x2021222324252627,
@@ -41,8 +43,9 @@ fn a_request_has_every_field_in_its_place() {
     let lengths = [0, 1, 0, 2, 0x28, 0x29];
     let bytes = [0xEE, 0xEE, 0xEE, 0xCC, 0xDD, 0xDD];
     let mains = [0x20, 0x21, 0x22, 0x23, 0x24, 0x25, 0x26, 0x27];
-    let tiles = [0x16, 0x17, 0x18, 0x19];
-    let expected = [&fields[..], &[0; 2], &tiles, &mains, &[0; 4], &lengths, &bytes].concat();
+    let tiles = [0x14, 0x15, 0x16, 0x17, 0x18, 0x19];
+    let amount = [0x2A, 0x2B, 0x2C, 0x2D];
+    let expected = [&fields[..], &tiles, &mains, &amount, &lengths, &bytes].concat();
     assert_eq!(bytes_of(&request), expected);
     assert_eq!(Request::read(&mut &expected[..]).unwrap(), Some(request));
 }
@@ -68,12 +71,13 @@ fn a_new_book_is_answered_with_its_whole_buffer() {
         n: 2,
         bytes: line(2),
         hearing: line(2),
-        room: 50,
+        further: ONLY.to_vec(),
+        room: 57,
         fill: FILL,
         ..Request::blank(Call::New)
     };
     let image = [line_a(2), vec![FILL, FILL]].concat();
-    let expected = [&[0, 0, 0, 0, 48, 0, 0, 0, 0, 0, 0, 0, 0], &image[..]].concat();
+    let expected = [&[0, 0, 0, 0, 55, 0, 0, 0, 0, 0, 0, 0, 0], &image[..]].concat();
     assert_eq!(served(&[request]), expected);
 }
 
@@ -93,17 +97,18 @@ fn check_balance_and_links_are_answered_without_a_buffer() {
 }
 
 #[test]
-fn calls_10_and_12_are_reserved() {
-    for number in [10, 12, 14, 254] {
+fn call_12_is_reserved() {
+    for number in [12, 14, 254] {
         assert!(Call::of_number(number).is_err());
     }
     assert_eq!(Call::of_number(9).unwrap(), Call::KeepsTo);
+    assert_eq!(Call::of_number(10).unwrap(), Call::Purchase);
     assert_eq!(Call::of_number(13).unwrap(), Call::Links);
 }
 
 #[test]
 fn an_answer_reads_as_it_was_written() {
-    let request = Request { bytes: p2(), room: 99, fill: 7, ..Request::blank(Call::Rewrite) };
+    let request = Request { bytes: p2(), room: 199, fill: 7, ..Request::blank(Call::Rewrite) };
     let answer = request.answer();
     let mut bytes = Vec::new();
     answer.write(&mut bytes).unwrap();

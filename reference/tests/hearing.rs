@@ -48,10 +48,11 @@ fn routes_keep_to_the_links() {
 #[test]
 fn version_3_stores_it_after_the_links() {
     let book = new_book_hearing(PLAN_A, &line(4), &heard());
+    let book = stored(Version::Three, &book);
     assert_eq!(book[16..48], line(4));
     assert_eq!(book[48..80], heard());
     assert_eq!(written(|out| calls::rewrite(&book, out)), book);
-    assert_eq!(Version::Three.image_length(4, 0, 0), 80);
+    assert_eq!(Version::Three.image_length(1, 4, 0, 0), 80);
 }
 
 #[test]
@@ -67,7 +68,7 @@ fn older_versions_hear_exactly_their_links() {
 fn a_new_book_gives_11_for_its_hearing_too() {
     let new = |hearing: &[u8]| {
         let links = line(4);
-        refused(ROOM, |out| calls::new(&Site { hearing, ..site(PLAN_A, 4, &links) }, out))
+        refused(ROOM, |out| calls::new(&Site { hearing, ..site(PLAN_A, 4, &links) }, &ONLY, out))
     };
     let with = |more: (usize, usize)| topology(4, &[(0, 1), (1, 2), (2, 3), more]);
     assert_eq!(new(&[]), 11);
@@ -87,6 +88,7 @@ fn a_new_book_gives_11_for_its_hearing_too() {
 #[test]
 fn an_image_gives_11_for_its_hearing_too() {
     let book = new_book_hearing(PLAN_A, &line(4), &heard());
+    let book = stored(Version::Three, &book);
     let turned = |place: usize, bits: u8| {
         let mut image = book.clone();
         image[place] ^= bits;

@@ -3,8 +3,10 @@
 mod common;
 
 use common::*;
-use reference::calls;
+use reference::account::{Account, ONLY_ACCOUNT};
+use reference::book::Book;
 use reference::version::Version;
+use reference::{calls, image};
 
 /// S=32, every slot data.
 const WIDE_PLAN: (u8, u8, u16, u8, u8) = (32, 1, 0, 0, 0);
@@ -67,7 +69,7 @@ fn damaged_books() -> Vec<(u8, Vec<u8>)> {
 fn new_gives_0_10_11_12() {
     let rows = line(4);
     let new = |s, c, kinds, d, u, n, rows: &[u8]| {
-        refused(ROOM, |out| calls::new(&site((s, c, kinds, d, u), n, rows), out))
+        refused(ROOM, |out| calls::new(&site((s, c, kinds, d, u), n, rows), &ONLY, out))
     };
     let length = new_book(PLAN_A, &rows).len();
     assert_eq!(new(0, 2, 1, 0, 0, 4, &rows), 10);
@@ -86,11 +88,11 @@ fn new_gives_0_10_11_12() {
     let mut one_way = line(4);
     one_way[7] = 0;
     assert_eq!(new(4, 2, 1, 2, 1, 4, &one_way), 11);
-    let short = |room| refused(room, |out| calls::new(&site(PLAN_A, 4, &rows), out));
+    let short = |room| refused(room, |out| calls::new(&site(PLAN_A, 4, &rows), &ONLY, out));
     assert_eq!((short(0), short(length - 1)), (12, 12));
     // 10 before 11 before 12.
-    assert_eq!(refused(0, |out| calls::new(&site((0, 2, 1, 2, 1), 4, &[]), out)), 10);
-    assert_eq!(refused(0, |out| calls::new(&site(PLAN_A, 4, &[]), out)), 11);
+    assert_eq!(refused(0, |out| calls::new(&site((0, 2, 1, 2, 1), 4, &[]), &ONLY, out)), 10);
+    assert_eq!(refused(0, |out| calls::new(&site(PLAN_A, 4, &[]), &ONLY, out)), 11);
 }
 
 #[test]
@@ -116,7 +118,8 @@ fn every_call_gives_the_image_numbers_first() {
 fn image_numbers_come_in_order() {
     // Faults from the last looked at to the first, added one after another.
     let meeting = vec![row(1, 2, &[0, 1], &[2]), row(2, 2, &[2, 3], &[2])];
-    let mut book = with_rows(&line_a(4), meeting);
+    let book = Book { rows: meeting, ..read(&line_a(4)) };
+    let mut book = image::write(Version::One, &book);
     assert_eq!(calls::check(&book), (16, 0));
     *book.last_mut().unwrap() = 4;
     assert_eq!(calls::check(&book), (15, 0));
@@ -284,8 +287,12 @@ fn links_gives_0_and_4() {
 #[test]
 fn the_longest_book_stands() {
     let book = loaded(64, 8);
-    for (version, longest) in Version::ALL.into_iter().zip([2384, 2448, 2960, 3024]) {
-        let book = stored(version, &book);
+    let accounts: Vec<Account> = (0..32).map(|number| Account { number, ..ONLY_ACCOUNT }).collect();
+    let with_accounts = Book { accounts, ..read(&book) };
+    for (version, longest) in Version::ALL.into_iter().zip([2384, 2448, 2960, 3024, 3345]) {
+        let fitting =
+            if version.fits(&with_accounts) { with_accounts.clone() } else { read(&book) };
+        let book = image::write(version, &fitting);
         assert_eq!((book.len(), version.longest_image()), (longest, longest));
         assert_eq!(calls::check(&book), (0, 0));
         assert_eq!(open_refused(&book, 65, 40, 41, 100), 8);

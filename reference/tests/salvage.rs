@@ -3,6 +3,7 @@
 mod common;
 
 use common::*;
+use reference::account::Account;
 use reference::book::Book;
 use reference::calls::{self, SalvageSaid};
 use reference::image;
@@ -145,4 +146,62 @@ fn the_lines_of_the_tool() {
     assert_eq!(lines(&line_a(4)), "lost 0\n");
     assert_eq!(lines(&[]), "refused 14\n");
     assert_eq!(lines(&image[..40]), "refused 14\n");
+}
+
+/// Line A of two accounts: 5 has bought 40, 9 nothing.
+fn two_accounts(rows: Vec<Row>) -> Vec<u8> {
+    let accounts = vec![Account { number: 5, bought: 40 }, Account { number: 9, bought: 0 }];
+    image::write(Version::Five, &Book { accounts, rows, ..read(&line_a(4)) })
+}
+
+#[test]
+fn a_row_that_its_account_does_not_pay_for_is_15() {
+    // A hop of period 100 draws 10, one of period 50 draws 20.
+    let of = |account: u16, row: Row| Row { account, ..row };
+    let rows = vec![
+        of(5, row(1, 50, &[0, 1], &[2])),
+        of(6, row(2, 100, &[0, 1], &[10])),
+        of(9, row(3, 100, &[0, 1], &[10])),
+        of(5, row(4, 100, &[0, 1, 2, 3], &[10, 11, 18])),
+        of(5, row(5, 100, &[0, 1, 2], &[10, 11])),
+        of(5, row(6, 1000, &[0, 1], &[18])),
+    ];
+    let (said, out, report) = salvaged(&two_accounts(rows.clone()));
+    // Unknown; nothing bought; 20 + 30 of 40; 20 + 20 of 40; 41 of 40.
+    assert_eq!(report, [0, 0, 1, 15, 0, 2, 15, 0, 3, 15, 0, 4, 0, 0, 5, 15, 0, 6]);
+    assert_eq!((said.rows, said.lost), (6, 0));
+    assert_eq!(out, two_accounts(vec![rows[0].clone(), rows[4].clone()]));
+    assert_eq!(calls::check(&out), (0, 0));
+}
+
+#[test]
+fn a_second_route_of_another_account_is_15() {
+    let ring = topology(4, &[(0, 1), (1, 2), (2, 3), (3, 0)]);
+    let empty = new_book((4, 1, 0, 0, 0), &ring);
+    let accounts = [5, 9].map(|number| Account { number, bought: 4000 }).to_vec();
+    let second = |account| Row { account, ..row_2(7, 5, &[0, 3, 2], &[2, 3]) };
+    let rows =
+        |account| vec![Row { account: 5, ..row(7, 5, &[0, 1, 2], &[0, 1]) }, second(account)];
+    let book = |account| Book { accounts: accounts.clone(), rows: rows(account), ..read(&empty) };
+    let report = |account| salvaged(&image::write(Version::Five, &book(account))).2;
+    assert_eq!(report(5), [0, 0, 7, 0, 0, 7]);
+    assert_eq!(report(9), [0, 0, 7, 15, 0, 7]);
+}
+
+#[test]
+fn a_salvage_refuses_an_account_list_as_check_does() {
+    // The header, a count and two accounts of 6 bytes, then 2 × 32 bytes of topologies.
+    let book = two_accounts(Vec::new());
+    assert_eq!(book.len(), 16 + 13 + 64);
+    for length in [16, 17, 28, 29, 92] {
+        assert_eq!(salvage_refused(&book[..length], ROOM, ROOM), 14);
+    }
+    let changed = |place: usize, value: u8| {
+        let mut bytes = book.clone();
+        bytes[place] = value;
+        salvage_refused(&bytes, ROOM, ROOM)
+    };
+    // 12 accounts end inside the topologies, and do not rise; 13 end past the image.
+    assert_eq!((changed(16, 0), changed(16, 12), changed(18, 9)), (10, 10, 10));
+    assert_eq!(changed(16, 13), 14);
 }

@@ -7,13 +7,15 @@ USAGE = {
     "new": "BOOK PLAN",
     "check": "BOOK [--mains NODES] [--json]",
     "show": "BOOK [TILE] [--stream ID] [--node NODE] [--no-lists] [--json]",
-    "open": "BOOK ID SOURCE DESTINATION PERIOD [second] [--mains NODES]",
+    "open": "BOOK ID SOURCE DESTINATION PERIOD [second] [account N] [--mains NODES]",
     "close": "BOOK ID",
     "post": "BOOK FILE [--dry-run] [--mains NODES] [--json]",
-    "quote": "BOOK SOURCE DESTINATION [--mains NODES] [--json]",
+    "buy": "BOOK ACCOUNT AMOUNT",
+    "quote": "BOOK SOURCE DESTINATION [account N] [--mains NODES] [--json]",
     "routes": "BOOK SOURCE DESTINATION [--mains NODES] [--json]",
     "table": "BOOK [NODE [TILE [COUNT]]] [--json]",
     "balance": "BOOK [NODE] [--json]",
+    "accounts": "BOOK [--json]",
     "diff": "BOOK BOOK [--json]",
     "statement": "LAST THIS [LAST THIS ..] [--raw]",
     "replan": "BOOK PLAN NEW",
@@ -116,14 +118,18 @@ def images(room):
     good = room.get("kiln.book")
     row = good.index(bytes([0, 1, 1, 0, 10, 7]))
     second = good.index(bytes([0, 2, 1, 0, 20, 7]))
-    # Stream 5 goes 6 to 7 in slot 4; in slot 2 node 7 sends for stream 1.
-    clash = good[:-1] + b"\x02"
+    # Stream 5 goes 6 to 7 in slot 4, and its account stands behind; in slot 2 node 7 sends for stream 1.
+    clash = good[:-3] + b"\x02" + good[-2:]
     cases = [(b"", 14), (good[:15], 14), (good[:-1], 14), (good + b"x", 14), (good + bytes(100000), 14), (b"X" + good[1:], 13), (good[:4] + b"\x09" + good[5:], 13),
-             (good[:4] + b"\x05" + good[5:], 13), (good[:5] + b"\x21" + good[6:], 10), (good[:16] + bytes(7) + b"\x03" + good[24:], 11),
+             (good[:4] + b"\x06" + good[5:], 13), (good[:5] + b"\x21" + good[6:], 10), (good[:23] + bytes(7) + b"\x03" + good[31:], 11),
              (good[:row + 4] + b"\x03" + good[row + 5:], 15), (good[:row + 3] + b"\x01" + good[row + 4:], 15), (good[:row + 2] + b"\x02" + good[row + 3:], 15), (good[:second + 1] + b"\x01" + good[second + 2:], 15)]
     # The hearing of 8 nodes stands behind their links: node 0 hears itself, hears 2 alone, hears node 8, and it and 1 do not hear each other.
     heard = [[(0, 3)], [(0, 6)], [(0, 0x102)], [(0, 0), (1, 4)]]
-    cases += [(with_rows(good, 16 + 8 * 8, rows), 11) for rows in heard]
+    cases += [(with_rows(good, 23 + 8 * 8, rows), 11) for rows in heard]
+    # The accounts: none, over 32, and the list cut short, which comes before a number out of its range in it, and behind one in the head.
+    cases += [(good[:16] + b"\0" + good[17:], 10), (good[:16] + b"\x21" + good[17:], 10), (good[:16], 14), (good[:22], 14), (good[:16] + b"\x32" + good[17:], 14), (good[:5] + b"\x21" + good[6:20], 10)]
+    # The last account of the last row is none, or that of one row of a pair alone; the account has bought one hop use too few.
+    cases += [(good[:-2] + b"\0\1", 15), (good[:19] + (2849).to_bytes(4, "big") + good[23:], 15)]
     # In older versions a period of 200 is none, though a byte holds it.
     for version in [1, 2, 3]:
         older = work_out.Book.read(good).in_version(version).image()
@@ -149,8 +155,8 @@ def usage(room):
         least = len([w for w in words.split("[")[0].split()])
         most = least + sum(1 for w in words.split() if w.startswith("[") and not w.startswith("[--"))
         # A third book stands alone; the most that a statement takes is in statements.py.
-        most = least if name == "statement" else most
-        operands = ["kiln.book", "1", "2", "5", "5", "6", "7"]
+        most = least if name == "statement" else most + words.count("[account N]")
+        operands = ["kiln.book", "1", "2", "5", "5", "6", "7", "8", "9"]
         if least:
             room.says(2, line, name, *operands[:least - 1])
         room.says(2, line, name, *operands[:most + 1])
@@ -168,8 +174,8 @@ def usage(room):
     room.says(2, "usage: lindurask show %s\n" % USAGE["show"], "show", "kiln.book", "--stream")
     check(room.run("help").out == room.run("--help").out == room.run("-h").out == room.run("help", "help").out, "the ways to ask for help differ")
     version = [line.split('"')[1] for line in open(os.path.join(ROOT, "cli/Cargo.toml")) if line.startswith("version")][0]
-    room.says(0, "lindurask %s, books of version 4\n" % version, "--version")
-    for word in ["Second", "2", "", "--second", "second second"]:
+    room.says(0, "lindurask %s, books of version 5\n" % version, "--version")
+    for word in ["Second", "2", "", "--second", "second second", "account", "Account"]:
         room.says(2, "usage: lindurask open %s\n" % USAGE["open"], "open", "pond.book", "8", "4", "9", "20", word)
 
 

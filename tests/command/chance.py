@@ -21,12 +21,15 @@ def plan(dice):
     # Some pairs that hear each other, be they linked or not.
     heard = {tuple(sorted(dice.sample(range(nodes), 2))) for _ in range(dice.choice([0, 1, nodes]))}
     lines += ["hear %d %d" % dice.choice([(a, b), (b, a)]) for a, b in heard]
+    # Some clerks keep accounts, one of them number 0, or one alone; not all have bought enough.
+    accounts = dice.choice([[], [], [(0, dice.randint(0, 4000)), (9, dice.randint(0, 400))], [(dice.randint(0, 65535), dice.choice([0, 700, 9000]))]])
+    lines += ["account %d %d" % account for account in accounts]
     dice.shuffle(lines)
     rows = [0] * nodes
     for a, b in links:
         rows[a] |= 1 << b
         rows[b] |= 1 << a
-    return "\n".join(lines), work_out.Book(slots, kinds, down, up, rows, [], heard=heard)
+    return "\n".join(lines), work_out.Book(slots, kinds, down, up, rows, [], heard=heard, accounts=accounts or work_out.ENDLESS)
 
 
 def changed(room, name, book, dice):
@@ -37,17 +40,17 @@ def changed(room, name, book, dice):
         source, destination = dice.sample(range(book.n), 2)
         if own:
             said = room.run("close", name, str(id))
-            check(said.status == 0 and said.all == work_out.closed(own), said.all)
             book = book.without(id)
+            check(said.status == 0 and said.all == work_out.closed(own, after=book), said.all)
         else:
             said = room.run("open", name, str(id), str(source), str(destination), str(period), *["second"] * second)
             got = book.opened(id, source, destination, period, second)
             if isinstance(got, int):
-                line = "refused %d: %s (from node %d to node %d, period %d)\n" % (got, work_out.WORDS[got], source, destination, period)
+                line = work_out.refused_open(book, (id, source, destination, period), got)
                 check(said.status == 1 and said.all == line, said.all + line)
             else:
-                check(said.status == 0 and said.all == work_out.stream("opened ", got), said.all)
                 book = book.with_ways(got)
+                check(said.status == 0 and said.all == work_out.stream("opened ", got, book), said.all)
         check(room.get(name) == book.image(), "the file holds another book")
     return book
 
@@ -57,7 +60,7 @@ def read(room, name, book, dice):
     node, start = dice.randrange(book.n), dice.randrange(work_out.CYCLE)
     every = range(book.n)
     source, destination = dice.sample(range(book.n), 2)
-    wants = [(["check", name], "lawful: " + work_out.counts(book)), (["balance", name], work_out.balances(book, every)),
+    wants = [(["check", name], "lawful: " + work_out.counts(book)), (["accounts", name], work_out.account_lines(book)), (["balance", name], work_out.balances(book, every)),
              (["balance", name, "--json"], work_out.balance_json(book, every)), (["table", name, str(node)], work_out.tables(book, [node])),
              (["table", name, str(node), str(start)], work_out.tables(book, [node], start)), (["table", name, str(node), str(start), "1"], work_out.tables(book, [node], start, 1)),
              (["table", name, "--json"], work_out.table_json(book, every)), (["show", name, "--json"], work_out.show_json(book, book.streams())),
@@ -86,7 +89,7 @@ def site(turn):
         check(said.status == 0 and said.out == "made: " + work_out.counts(book) and room.get("a.book") == book.image(), "new: %s\n%s" % (said.all, text))
         if turn % 2:
             # A book of an older version, which knows no hearing beside the links, is changed into the newest.
-            book = book.but(heard=[], version=1 + turn // 2 % 3)
+            book = book.but(heard=[], accounts=work_out.ENDLESS, version=1 + turn // 2 % 4)
             room.put("a.book", book.image())
         book = changed(room, "a.book", book, dice)
         read(room, "a.book", book, dice)
@@ -113,11 +116,11 @@ def hostile(room):
         name = "h%d" % turn
         data = [spoilt(dice.choice(books)), dice.randbytes(dice.randrange(3000)), spoilt(room.get("kiln.plan"))][turn % 3]
         room.put(name, data)
-        command = dice.choice([["check"], ["show"], ["table"], ["balance", "3"], ["quote", "0", "3"], ["open", "9", "2", "0", "1"], ["close", "9"], ["post", "a.list"], ["page"], ["diff", "kiln.book"], ["salvage", name + ".new"], ["new"]])
+        command = dice.choice([["check"], ["show"], ["table"], ["balance", "3"], ["quote", "0", "3"], ["open", "9", "2", "0", "1"], ["close", "9"], ["post", "a.list"], ["buy", "0", "5"], ["accounts"], ["page"], ["diff", "kiln.book"], ["salvage", name + ".new"], ["new"]])
         words = ["new", name + ".book", name] if turn % 3 == 2 or command == ["new"] else [command[0], name, *command[1:]]
         said = room.run(*words)
         right = said.status in (0, 1, 2) and (said.status == 0 or (said.err != "" and said.out == "") or words[0] in ("quote", "diff", "post", "salvage"))
-        changed = words[0] in ("open", "close") and said.status == 0 or "\nchanged: " in said.out
+        changed = words[0] in ("open", "close", "buy") and said.status == 0 or "\nchanged: " in said.out
         return right and "panicked" not in said.err and (changed or room.get(name) == data), words, said.all
     for right, words, said in tool.all_of(one, range(HOSTILE)):
         check(right, "%s: %s" % (words, said))

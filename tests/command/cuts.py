@@ -197,6 +197,7 @@ def test(room):
     cases = [Case(room, "open", "a.book", old, "open", "a.book", "200", "0", "63", "100"),
              Case(room, "close", "a.book", room.get("site.book"), "close", "a.book", "64"),
              Case(room, "post", "a.book", tool.work_out.Book.read(room.get("site.book")).without(63).image(), "post", "a.book", "month.list"),
+             Case(room, "buy", "a.book", tool.work_out.Book.read(room.get("site.book")).but(accounts=[(0, 10000), (3, 5)]).image(), "buy", "a.book", "3", "500"),
              Case(room, "new", "n.book", None, "new", "n.book", "kiln.plan"),
              Case(room, "replan", "n.book", None, "replan", "kiln.book", "yard.plan", "n.book"),
              Case(room, "salvage", "n.book", None, "salvage", "kiln.book", "n.book"),
@@ -208,7 +209,8 @@ def test(room):
         named(case, trace)
     replaced(cases[1], trace, lambda book: book.without(64))
     replaced(cases[2], trace, lambda book: tool.work_out.posted(book, month)[1])
-    for case in cases[:3]:
+    replaced(cases[3], trace, lambda book: book.bought(3, 500))
+    for case in cases[:4]:
         left(case, trace)
     for case in cases:
         killed(case, trace)

@@ -19,8 +19,9 @@ def twice(room):
         room.put("copy.book", room.get(name + ".book"))
         for other in [name + ".book", "copy.book", "./" + name + ".book"] + ["link.book"] * (name == "kiln"):
             room.says(0, SAME, "diff", name + ".book", other)
-            room.says(0, '{"same":true,"version":null,"plan":null,"nodes":null,"links":null,"heard":null,"streams":[],"air":null}\n', "diff", other, name + ".book", "--json")
-    versions = {"old.book": 1, "older.book": 2, "elder.book": 3, "kiln.book": 4}
+            kept = ',"accounts":null' * (name == "mill")
+            room.says(0, '{"same":true,"version":null,"plan":null,"nodes":null,"links":null,"heard":null,"streams":[],"air":null%s}\n' % kept, "diff", other, name + ".book", "--json")
+    versions = {"old.book": 1, "older.book": 2, "elder.book": 3, "former.book": 4, "kiln.book": 5}
     for one, other in itertools.product(versions, versions):
         same = "the same book in versions %d and %d: the air is the same\n" % (versions[one], versions[other])
         room.says(0, SAME if one == other else same, "diff", one, other)
@@ -28,8 +29,9 @@ def twice(room):
 
 def turned(said):
     """What is said of two books, of the second and the first."""
-    for name in ["version", "plan", "nodes", "links", "heard"]:
-        said[name] = said[name] and said[name][::-1]
+    for name in ["version", "plan", "nodes", "links", "heard", "accounts"]:
+        if name in said:
+            said[name] = said[name] and said[name][::-1]
     for stream in said["streams"]:
         stream["books"].reverse()
     if said["air"]:
@@ -56,8 +58,8 @@ def refused(room):
     """An image that is refused is a file that failed, as the first book and as the second; the first is named where both are."""
     good = room.get("kiln.book")
     row = good.index(bytes([0, 1, 1, 0, 10, 7]))
-    cases = [(b"", 14), (good[:-1], 14), (b"X" + good[1:], 13), (good[:5] + b"\x21" + good[6:], 10), (good[:16] + bytes(7) + b"\x03" + good[24:], 11),
-             (good[:80] + bytes(8) + good[88:], 11), (good[:row + 4] + b"\x03" + good[row + 5:], 15), (good[:-1] + b"\x02", 16)]
+    cases = [(b"", 14), (good[:-1], 14), (b"X" + good[1:], 13), (good[:5] + b"\x21" + good[6:], 10), (good[:23] + bytes(7) + b"\x03" + good[31:], 11),
+             (good[:87] + bytes(8) + good[95:], 11), (good[:row + 4] + b"\x03" + good[row + 5:], 15), (good[:-3] + b"\x02" + good[-2:], 16)]
     for data, number in cases:
         room.put("bad.book", data)
         room.put("worse.book", data)
@@ -111,7 +113,7 @@ def moved(dice, book):
     place = dice.randrange(len(book.ways))
     way, tiles = book.ways[place], len(book.kinds) * dice.randint(1, 40)
     offsets = [o + tiles * book.s for o in way.offsets]
-    later = work_out.Way(way.id, way.period, way.nodes, offsets, way.number)
+    later = work_out.Way(way.id, way.period, way.nodes, offsets, way.number, way.account)
     return book.but(ways=book.ways[:place] + [later] + book.ways[place + 1:])
 
 
@@ -119,12 +121,12 @@ def later(dice, book):
     """The book with a hop more, once in the cycle, in a data slot; it may meet another."""
     slots = [slot for slot in range(work_out.CYCLE * book.s) if not book.control(slot)]
     links = work_out.pairs(book)
-    return book.with_ways([work_out.Way(dice.randint(10, 65535), work_out.CYCLE, list(dice.choice(links)), [dice.choice(slots)])]) if slots and links else book
+    return book.with_ways([work_out.Way(dice.randint(10, 65535), work_out.CYCLE, list(dice.choice(links)), [dice.choice(slots)], account=book.usual())]) if slots and links else book
 
 
 def renamed(dice, book):
     id, new = dice.choice(book.ways).id, dice.randint(10, 65535)
-    own = [work_out.Way(new, w.period, w.nodes, w.offsets, w.number) for w in book.stream(id)]
+    own = [work_out.Way(new, w.period, w.nodes, w.offsets, w.number, w.account) for w in book.stream(id)]
     return book.without(id).with_ways(own)
 
 
@@ -142,6 +144,17 @@ def heard(dice, book):
     return book.but(heard=set(book.heard) ^ {pair}, version=work_out.NEWEST)
 
 
+def paid(dice, book):
+    """The book with an account more, with one that has bought more, or with another in the place of its own."""
+    if book.version < work_out.NEWEST:
+        book = book.in_version(work_out.NEWEST)
+    (number, has), *rest = book.accounts
+    new = dice.choice([n for n in range(1, 50) if n not in dict(book.accounts)])
+    ways = [work_out.Way(w.id, w.period, w.nodes, w.offsets, w.number, new) for w in book.ways]
+    more = book.bought(number, dice.randint(1, 900))
+    return dice.choice([book.but(accounts=[*book.accounts, (new, dice.randint(0, 900))]), book if isinstance(more, int) else more, book.but(accounts=[*book.accounts, (new, 10 ** 6)], ways=ways)])
+
+
 def planned(dice, book):
     """The book with another plan."""
     kinds = [dice.random() < 0.5 for _ in range(dice.choice([1, 2, 4, 5, 10]))]
@@ -151,10 +164,10 @@ def planned(dice, book):
 def other(dice, book):
     """A book that differs from this one somehow, or not at all."""
     second = [w for w in book.ways if w.number == 2]
-    changes = [lambda: grown(dice, book, dice.randint(1, 3)), lambda: linked(dice, book), lambda: heard(dice, book), lambda: planned(dice, book), lambda: book.but(rows=book.rows + [0]),
+    changes = [lambda: grown(dice, book, dice.randint(1, 3)), lambda: linked(dice, book), lambda: heard(dice, book), lambda: paid(dice, book), lambda: planned(dice, book), lambda: book.but(rows=book.rows + [0]),
                lambda: later(dice, book), lambda: grown(dice, chance.plan(dice)[1], 6)]
     changes += [lambda: moved(dice, book), lambda: renamed(dice, book)] * bool(book.ways)
-    changes.append((lambda: book.but(ways=[w for w in book.ways if w is not second[0]])) if second else (lambda: book.but(heard=[]).older(dice.choice([1, 2, 3]))))
+    changes.append((lambda: book.but(ways=[w for w in book.ways if w is not second[0]])) if second else (lambda: book.but(heard=[]).older(dice.choice([1, 2, 3, 4]))))
     return dice.choice(changes)()
 
 

@@ -37,12 +37,11 @@ def completion(usages):
             os.path.join(tool.ROOT, "cli/lindurask.bash"), name)
         got = subprocess.run(["bash", "-c", words], capture_output=True, text=True).stdout.split()
         check(name == "help" or got == want, "the completion of %s: %s" % (name, got))
-    words = "source '%s'; COMP_WORDS=(lindurask open a 1 2 3 5 s); COMP_CWORD=7; _lindurask; echo \"${COMPREPLY[*]}\"" % os.path.join(tool.ROOT, "cli/lindurask.bash")
-    check(subprocess.run(["bash", "-c", words], capture_output=True, text=True).stdout == "second\n", "the completion of open's last word")
-    words = "source '%s'; COMP_WORDS=(lindurask open a 1 2 3 1); COMP_CWORD=6; _lindurask; echo \"${COMPREPLY[*]}\"" % os.path.join(tool.ROOT, "cli/lindurask.bash")
-    check(subprocess.run(["bash", "-c", words], capture_output=True, text=True).stdout == "1 10 100 1000\n", "the completion of open's period")
-    words = "source '%s'; COMP_WORDS=(lindurask ch); COMP_CWORD=1; _lindurask; echo \"${COMPREPLY[*]}\"" % os.path.join(tool.ROOT, "cli/lindurask.bash")
-    check(subprocess.run(["bash", "-c", words], capture_output=True, text=True).stdout == "check\n", "the completion of ch")
+    for typed, want in [("open a 1 2 3 5 s", "second"), ("open a 1 2 3 5 a", "account"), ("open a 1 2 3 5 ''", "second account --mains --help"), ("open a 1 2 3 5 second ''", "account --mains --help"),
+                        ("open a 1 2 3 5 account ''", ""), ("open a 1 2 3 5 account 4 ''", "second --mains --help"), ("open a 1 2 3 5 second account ''", ""), ("open a 1 2 3 1", "1 10 100 1000"),
+                        ("quote a 1 2 ''", "account --mains --json --help"), ("quote a 1 2 account ''", ""), ("ch", "check"), ("b", "buy balance"), ("ac", "accounts")]:
+        words = "source '%s'; COMP_WORDS=(lindurask %s); COMP_CWORD=$((${#COMP_WORDS[@]} - 1)); _lindurask; echo \"${COMPREPLY[*]}\"" % (os.path.join(tool.ROOT, "cli/lindurask.bash"), typed)
+        check(subprocess.run(["bash", "-c", words], capture_output=True, text=True).stdout == want + "\n", "the completion of %s" % typed)
 
 
 def fields(value):
@@ -56,6 +55,9 @@ def json_fields(room):
     document = text("docs/json.md").split("| Field |")[1]
     room.put("a.list", b"open 9 6 4 50\nclose 9\nclose 9\n")
     used = set()
+    kept = [["show"], ["check"], ["accounts"], ["quote", "7", "3", "account", "1"], ["diff", "kiln.book"], ["post", "a.list"], ["salvage", "kept.book"]]
+    for words in kept:
+        used |= fields(json.loads(room.run(words[0], "mill.book", *words[1:], "--json").out))
     for words in [["check"], ["show"], ["table"], ["balance"], ["quote", "3", "0"], ["quote", "3", "9"], ["routes", "3", "0"], ["diff", "pond.book"], ["balance", "99"], ["post", "a.list"], ["check", "--mains", "0"], ["salvage", "new.book"]]:
         out = room.run(words[0], "kiln.book", *words[1:], "--json").out
         check(out.count("\n") == 1 and out.endswith("\n"), "%s --json is not one line" % words)
@@ -77,12 +79,13 @@ def documents(room, usages, refusals):
     room.put("month.list", re.search(r"```\n(close 1\n.*?)```", readme, re.S).group(1).encode())
     room.put("my.book", room.get("pond.book"))
     room.put("shed.book", room.get("pins.book"))
+    room.put("firm.book", room.get("mill.book"))
     pins = room.get("pins.book")
     second = pins.index(bytes([0, 2, 1, 0, 20, 3]))
-    room.put("laptop.book", pins[:second + 6] + b"\x01" + pins[second + 7:-20])
+    room.put("laptop.book", pins[:second + 6] + b"\x01" + pins[second + 7:-22])
     os.symlink(".", room.at("books"))
     dialogues = re.findall(r"```\n(\$ ./lindurask .*?)```", readme, re.S)
-    check(len(dialogues) == 9, "README.md has %d dialogues" % len(dialogues))
+    check(len(dialogues) == 10, "README.md has %d dialogues" % len(dialogues))
     for part in "".join(dialogues).split("$ ./lindurask ")[1:]:
         words, said = part.split("\n", 1)
         got = room.run(*words.split()).all
@@ -133,7 +136,7 @@ def test(room):
     names = [words.split()[1] for words in everything.split("\n") if words.startswith("  lindurask ")]
     usages = {name: room.run(name, "--help").out.split("\n")[0].replace("lindurask ", "", 1) for name in names}
     refusals = re.findall(r"^ +(\d+)  (.*)$", everything, re.M)
-    check(len(usages) == 16 and len(refusals) == 21, "help lists %d commands and %d refusals" % (len(usages), len(refusals)))
+    check(len(usages) == 18 and len(refusals) == 24, "help lists %d commands and %d refusals" % (len(usages), len(refusals)))
     check(all(len(line) <= 80 for line in everything.split("\n")), "help is wider than 80 columns")
     man_page(room, usages, refusals)
     completion(usages)

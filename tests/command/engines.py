@@ -7,8 +7,8 @@ import tool
 from tool import check
 
 # Answers each call with what the mode says; a call's room stands in bytes 16 and 17, its bytes in 14 and 15, those of its
-# hearing in 38 and 39, those of its records, which have 11 each, in 40 and 41, and the words of its index in 42 and 43. The
-# index is that of the book which a call leaves, out of a file beside new.image or beside the engine.
+# hearing in 38 and 39, those of its records, which have 11 each, or of the accounts of a new book in 40 and 41, and the words
+# of its index in 42 and 43. The index is that of the book which a call leaves, out of a file beside new.image or beside the engine.
 FAKE = r'''#!/usr/bin/env python3
 import os, sys
 INDEXES = ("indexnone", "indexkept", "indexturned", "indexbefore", "indexonce", "indexbit", "indexwithout", "indexrefused", "indexagain")
@@ -20,7 +20,8 @@ while True:
         break
     data = read(int.from_bytes(head[14:16], "big"))
     hearing = read(int.from_bytes(head[38:40], "big"))
-    records = read(int.from_bytes(head[40:42], "big"))
+    further = read(int.from_bytes(head[40:42], "big"))
+    records = further if head[0] else b""
     room, words = int.from_bytes(head[16:18], "big"), int.from_bytes(head[42:44], "big")
     number, counts, out = 0, [0, 0, 0], bytes([head[18]]) * room
     sent = records
@@ -86,7 +87,7 @@ WRONG = {"number": "says what is no answer", "length": "says what is no answer",
          "half": "ended before it answered", "more": "says more than it was asked, or does not end", "badly": "ended badly: exit status: 3"}
 COMMANDS = [["check", "kiln.book"], ["show", "kiln.book"], ["open", "kiln.book", "8", "1", "2", "5"], ["close", "kiln.book", "5"], ["table", "kiln.book"],
             ["balance", "kiln.book"], ["quote", "kiln.book", "3", "0"], ["new", "n.book", "kiln.plan"], ["replan", "kiln.book", "yard.plan", "n.book"],
-            ["page", "kiln.book"], ["routes", "kiln.book", "3", "0"], ["diff", "kiln.book", "yard.book"], ["post", "kiln.book", "a.list"]]
+            ["page", "kiln.book"], ["routes", "kiln.book", "3", "0"], ["diff", "kiln.book", "yard.book"], ["post", "kiln.book", "a.list"], ["buy", "kiln.book", "0", "1"]]
 
 
 def hold(room, engine, words, said):
@@ -111,7 +112,7 @@ def no_engines(room, engines):
     """What is missing, is no program, or ends before it has answered."""
     nowhere, ends = engines.at("nowhere"), program(engines, "ends", b"#!/bin/sh\nexit 0\n")
     loud = program(engines, "loud", b"#!/bin/sh\nexec head -c 300000 /dev/zero | tr '\\0' 'Z'\n")
-    for words in COMMANDS:
+    for words in COMMANDS + [["accounts", "kiln.book"]]:
         hold(room, nowhere, words, "could not be started: %s: No such file or directory" % os.fsdecode(nowhere))
         hold(room, ends, words, "ended before it answered")
         hold(room, loud, words, "says what is no answer")
@@ -143,6 +144,7 @@ def nonsense(room, engines):
         hold(room, program(engines, "engine-" + mode, FAKE.encode()), COMMANDS[10], "says what is no answer")
     links(room, engines)
     mains(room, engines)
+    accounts(room, engines)
     # Tables that are not those of the streams in the book make no page, and are not compared.
     for words in [COMMANDS[9], COMMANDS[11]]:
         hold(room, fake["sleepy"], words, "says what is no answer")
@@ -170,7 +172,7 @@ def mains(room, engines):
     for mode, nodes in [("keepsyes", "1-6"), ("keepsno", "1-5")]:
         got = room.run("check", "kiln.book", "--mains", nodes, env={"LINDURASK_ENGINE": os.fsdecode(engines.at("engine-" + mode))})
         check((got.status, got.all) == (int(mode == "keepsno"), tool.work_out.checked(old.but(mains=set(range(1, int(nodes[-1]) + 1))))), "check with engine %s: %s" % (mode, got.all))
-    for words in COMMANDS[6:7] + COMMANDS[10:11] + COMMANDS[12:] + [COMMANDS[2]]:
+    for words in COMMANDS[6:7] + COMMANDS[10:11] + COMMANDS[12:13] + [COMMANDS[2]]:
         for more in [[], ["--mains", "1-7"]]:
             if more or words[0] in ("routes", "post"):
                 hold(room, program(engines, "engine-stranger", FAKE.encode()), [*words, *more], wrong)
@@ -182,6 +184,37 @@ def mains(room, engines):
     hold(room, program(engines, "engine-listfar", FAKE.encode()), ["routes", "kiln.book", "3", "0", "--mains", "0,1,3"], wrong)
     got = room.run("routes", "kiln.book", "3", "0", "--mains", "1,2", env={"LINDURASK_ENGINE": os.fsdecode(engines.at("engine-listfar"))})
     check(got.status == 0 and "\n   3 3 2 1 0\n" in got.out, "routes with the right list: %s" % got.all)
+    put_new(engines, right)
+
+
+def accounts(room, engines):
+    """A purchase for the neighbour, of another amount, beside something else, or none; and a stream of another account than was asked for."""
+    right, mill = tool.work_out.Book.read(engines.get("new.image")), tool.work_out.sample("mill")
+    engine, bought = program(engines, "engine-good", FAKE.encode()), mill.bought(4, 600)
+
+    def holds(book, status, said, *words, data=b""):
+        put_new(engines, book)
+        got = room.run(*words, data=data, env={"LINDURASK_ENGINE": os.fsdecode(engine)})
+        check((got.status, got.all) == (status, said), "%s with an engine that gives another book: %d %s" % (words, got.status, got.all))
+    wrong = "lindurask: the engine made another purchase\n"
+    of_another = [tool.work_out.Way(w.id, w.period, w.nodes, w.offsets, w.number, 1 if w.id == 6 else w.account) for w in mill.ways]
+    for book in [mill, mill.bought(1, 600), mill.bought(4, 601), mill.bought(4, 599), bought.bought(20, 1), bought.without(6), bought.but(ways=of_another), bought.but(heard=[]),
+                 bought.but(accounts=bought.accounts[:2], ways=[w for w in mill.ways if w.account != 20]), bought.but(accounts=[*bought.accounts, (21, 5)])]:
+        holds(book, 2, wrong, "buy", "mill.book", "4", "600")
+    holds(bought, 2, wrong, "buy", "mill.book", "5", "600")
+    check(room.get("mill.book") == mill.image(), "a wrong purchase changed the book")
+    other = "lindurask: the engine opened another stream\n"
+    opened = mill.with_ways(mill.opened(9, 7, 3, 100, False, 1))
+    for account, said in [("20", other), ("1", None)]:
+        text = "open 9 7 3 100 account %s\n" % account
+        holds(opened, *((2, said) if said else (0, tool.work_out.post(mill, text, True)[0])), "post", "mill.book", "-", "--dry-run", data=text.encode())
+    holds(opened, 2, other, "open", "mill.book", "9", "7", "3", "100", "account", "20")
+    # The stream is right, and an account has another amount, or another stream another account.
+    no_answer = "lindurask: the engine says what is no answer; nothing is changed\n"
+    for book in [opened.bought(20, 1), opened.but(ways=[*of_another, *opened.stream(9)])]:
+        holds(book, 2, no_answer, "post", "mill.book", "-", data=b"open 9 7 3 100 account 1\n")
+    check(room.get("mill.book") == mill.image(), "a wrong account changed the book")
+    engines.put("old.index", tool.work_out.sample("kiln").index())
     put_new(engines, right)
 
 
@@ -259,9 +292,14 @@ def called_lawful(room, engines):
     older = tool.work_out.Book.read(book).in_version(3).image()
     row = older.index(bytes([0, 1, 1, 10, 7]))
     cases["a period of 200 in version 3"] = older[:row + 3] + b"\xc8" + older[row + 4:]
-    # The last are without a row of streams, and end behind the links or inside the hearing.
-    rows = [book[:12] + bytes(4) + book[16:end] for end in (16 + 8 * 8, 16 + 16 * 8 - 1)]
-    others = [b"", b"SLB", book[:40], b"SLB\0\1" + bytes(11), b"SLB\0\2" + b"\xff" * 4000, b"SLB\0\3" + b"\xff" * 4001, b"SLB\0\4" + b"\xff" * 4002, bytes(4096), book[:12] + b"\x40" + book[13:], *rows]
+    mill = tool.work_out.sample("mill")
+    bare = mill.but(ways=[]).image()
+    cases.update({"no account": mill.but(accounts=[], ways=[]).image(), "33 accounts": mill.but(accounts=[(n, 5000) for n in range(33)]).image(), "an account overdrawn": mill.but(accounts=[(1, 5000), (4, 1099), (20, 800)]).image(),
+                  "a row of no account": mill.but(accounts=[(1, 5000), (4, 1100)]).image(), "accounts that fall": bare[:17] + b"\0\5" + bare[19:], "an account twice": bare[:23] + b"\0\1" + bare[25:],
+                  "a second route of another account": mill.but(ways=[tool.work_out.Way(w.id, w.period, w.nodes, w.offsets, w.number, 1 if w.number == 2 else w.account) for w in mill.ways]).image()})
+    # The last are without a row of streams, and end inside the accounts, behind the links or inside the hearing.
+    rows = [book[:12] + bytes(4) + book[16:end] for end in (16, 20, 23 + 8 * 8, 23 + 16 * 8 - 1)]
+    others = [b"", b"SLB", book[:40], b"SLB\0\1" + bytes(11), b"SLB\0\2" + b"\xff" * 4000, b"SLB\0\3" + b"\xff" * 4001, b"SLB\0\4" + b"\xff" * 4002, b"SLB\0\5" + b"\xff" * 4003, bytes(4096), book[:12] + b"\x40" + book[13:], *rows]
     cases.update(("%d bytes" % len(data), data) for data in others)
     for what, data in cases.items():
         room.put("odd.book", data)

@@ -50,7 +50,7 @@ def shown(room):
     for name in [*tool.SAMPLES, "deaf", "heard"]:
         book, said = work_out.Book.read(room.get(name + ".book")), room.run("show", name + ".book").out
         listed = json.loads(room.run("show", name + ".book", "--json").out)
-        check(said.count("\nHeard without a link\n") == bool(book.heard) == (name in ("ridge", "heard")), "show %s: %s" % (name, said))
+        check(said.count("\nHeard without a link\n") == bool(book.heard) == (name in ("ridge", "mill", "heard")), "show %s: %s" % (name, said))
         check(listed["heard"] == [list(pair) for pair in book.heard] and listed["links"] == [list(pair) for pair in work_out.pairs(book)], "show --json of %s" % name)
         for node in range(book.n if book.n < 10 else 0):
             line = "  heard without a link %s\n" % " ".join(map(str, book.heard_by(node)))
@@ -74,7 +74,7 @@ def learnt(room):
 def kept(room):
     """Opens, closes and lists leave the hearing as it is, and a book of version 2 gets its links for one."""
     before = room.get("ridge.book")
-    rows = slice(16 + 8 * 9, 16 + 16 * 9)
+    rows = slice(23 + 8 * 9, 23 + 16 * 9)
     for words in [["open", "ridge.book", "9", "0", "8", "50"], ["close", "ridge.book", "9"], ["post", "ridge.book", "turns.list"]]:
         room.run(*words)
         check(room.get("ridge.book") != before or words[0] == "close", "%s does not change the book" % words)
@@ -82,8 +82,7 @@ def kept(room):
     room.put("ridge.book", before)
     deaf = room.get("deaf.book")
     check(deaf[4] == 2 and room.run("close", "deaf.book", "1").status == 0, "a close of a book of version 2")
-    links = slice(16, 16 + 8 * 9)
-    check(room.get("deaf.book")[links] == room.get("deaf.book")[rows] == deaf[links], "the hearing of a book of version 2")
+    check(room.get("deaf.book")[23:23 + 8 * 9] == room.get("deaf.book")[rows] == deaf[16:16 + 8 * 9], "the hearing of a book of version 2")
 
 
 def test(room):

@@ -26,7 +26,7 @@ def hold(room, name, shown, words):
     check(said.status == 1 and said.all == "refused 14: the book is cut short, or not as long as its head says (%s)\n" % shown, "check %s: %s" % (shown, said.all))
     check(room.run("salvage", *words, name, b"saved.book").all == said.all, "salvage %s" % shown)
     os.rename(room.at(name), room.at("away"))
-    for command in [[b"check"], [b"open", b"7", b"3", b"0", b"2"], [b"close", b"7"]]:
+    for command in [[b"check"], [b"open", b"7", b"3", b"0", b"2"], [b"close", b"7"], [b"buy", b"0", b"5"], [b"accounts"]]:
         said = room.run(command[0], *words, name, *command[1:])
         check(said.status == 2 and said.all == "lindurask: %s: No such file or directory\n" % shown, "%s %s: %s" % (command[0], shown, said.all))
 

@@ -193,10 +193,12 @@ def hold(what, text, book, title):
     page = Page(text)
     check(page.wrong == [], "%s: the page is not well made: %s" % (what, page.wrong[:5]))
     check(page.heading == title and page.titles[0] == title + " – Lindurask", "%s is headed %s" % (what, page.heading))
-    streams = [[name(way), str(way.period), "\u00a0→ ".join(map(str, way.nodes)), " ".join(map(str, way.offsets)), str(way.latency)] for way in book.ways]
+    streams = [[name(way), str(way.period), "\u00a0→ ".join(map(str, way.nodes)), " ".join(map(str, way.offsets)), str(way.latency), *([str(way.account), str(work_out.draws([way]))] if book.keeps_accounts() else [])] for way in book.ways]
     check(page.rows.get("streams", [None])[1:] == streams, "%s: the table of streams: %s" % (what, page.rows.get("streams")))
     balances = [[str(node), *map(str, book.balance(node)), ""] for node in range(book.n)]
     check(page.rows["balances"][1:] == balances, "%s: the balances: %s" % (what, page.rows["balances"]))
+    kept = [list(map(str, one)) for one in work_out.standings(book)] if book.keeps_accounts() else []
+    check(page.rows.get("accounts", [None])[1:] == kept and ("Account" in text) == ("#accounts" in text) == book.keeps_accounts(), "%s: the accounts: %s" % (what, page.rows.get("accounts")))
     bars = ["%s used, %d free" % (work_out.many(used, "slot"), free) for _, used, free in map(book.balance, range(book.n))]
     check([label for label in page.labels if label.endswith(" free")] == bars, "%s: the bars" % what)
     want = sorted(list(nodes(book)) + list(arcs(book)) + list(arrows(book)) + list(hops(book)))

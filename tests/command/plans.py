@@ -2,7 +2,7 @@
 from tool import check, work_out
 
 GOOD = ["slots 4", "tiles up", "control 0 1", "nodes 4", "link 0 1", "link 1 2", "link 2 3"]
-STARTS = "a line starts with slots, tiles, control, nodes, link or hear"
+STARTS = "a line starts with slots, tiles, control, nodes, link, hear or account"
 MADE = "made: %d nodes, 0 streams of at most 64, 0 hops of at most 512\n"
 
 
@@ -36,6 +36,9 @@ def judged(room):
     refused(11, "no node links to itself (node 0)", 5, *GOOD[:4], "link 0 0")
     refused(11, "the site has no node 64; they count from 0 to 63", 5, *GOOD[:3], "nodes 64", "hear 3 64")
     refused(11, "no node hears itself (node 2)", 8, *GOOD, "hear 2 2")
+    refused(10, "a book has at most 32 accounts", 37, *GOOD[:4], *("account %d 5" % number for number in range(100, 133)))
+    refused(10, "a book has at most 32 accounts", 33, *("account %d 5" % (7000 - turn) for turn in range(4000)), *GOOD)
+    refused(10, "a site has 2 to 64 nodes", 4, *GOOD[:3], "nodes 65", *("account %d 5" % number for number in range(33)))
     # Of two lines that are wrong the first is named, be it a link or not.
     refused(11, "no node hears itself (node 1)", 8, *GOOD, "hear 1 1", "link 2 2")
     refused(11, "no node links to itself (node 2)", 8, *GOOD, "link 2 2", "hear 1 1")
@@ -57,6 +60,14 @@ def not_understood(room):
     for line in ["hear", "hear 0", "hear 0 1 2", "hear 0 -2", "hear 0 two"]:
         wrong("write hear and two nodes, as in: hear 0 2", 8, *GOOD, line)
     wrong(STARTS, 8, *GOOD, "hears 0 2")
+    for line in ["account", "account 3", "account 3 1000 5", "account 3 -1", "account x 5", "account 3 five", "account 3 1e3", "account +3 5", "account 0x3 5", "account 3 \u0663"]:
+        wrong("write account, its number and the hop uses that it has bought, as in: account 3 1000", 8, *GOOD, line)
+    for number in ["65536", "99999999999999999999999"]:
+        wrong("an account is a number from 0 to 65535", 8, *GOOD, "account %s 5" % number)
+    for bought in ["4294967296", "99999999999999999999999"]:
+        wrong("an amount of hop uses is a number from 0 to 4294967295", 8, *GOOD, "account 5 " + bought)
+    wrong("account 5 was said in line 8 before", 10, *GOOD, "account 5 1", "account 6 1", "account 05 1")
+    wrong(STARTS, 8, *GOOD, "accounts 3 1000")
     for line in GOOD[:4]:
         wrong("this was said in line %d before" % (GOOD.index(line) + 1), 8, *GOOD, line)
     for place, name in enumerate(["slots", "tiles", "control", "nodes"]):
@@ -108,7 +119,22 @@ def heard(room, plan):
             check(room.get(name) == want.image(), "a plan with %r" % lines)
 
 
+def accounts(room, plan):
+    """In whatever order accounts are said, the book has them by their numbers; 32 are the most, and without one it has account 0."""
+    kiln = work_out.plan_book("kiln")
+    cases = {b"account 3 1000\n": [(3, 1000)], b"account 7 0\naccount 3 4294967295 # all\naccount 65535 1\n": [(3, 2 ** 32 - 1), (7, 0), (65535, 1)],
+             b"account 0 4294967295\n": work_out.ENDLESS, b"account 0 4294967294\n": [(0, 2 ** 32 - 2)], b"": work_out.ENDLESS,
+             b"".join(b"account %d %d\n" % (900 - number, number) for number in range(32)): [(900 - number, number) for number in range(32)]}
+    for place, (lines, said) in enumerate(cases.items()):
+        want = kiln.but(accounts=said)
+        for at, text in enumerate([plan + lines, lines + plan]):
+            name = "paid%d%d.book" % (place, at)
+            room.says(0, "made: " + work_out.counts(want), "new", name, "-", data=text)
+            check(room.get(name) == want.image(), "a plan with %r" % lines)
+
+
 def test(room):
     judged(room)
     not_understood(room)
     understood(room)
+    accounts(room, room.get("kiln.plan"))

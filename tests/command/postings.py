@@ -9,14 +9,19 @@ import tool
 from tool import check, refusal, work_out
 
 STARTS = "a line starts with open or close"
-OPEN = "write open, an id, two nodes and a period, as in: open 7 3 0 10, or open 7 3 0 10 second"
+OPEN = "write open, an id, two nodes and a period, as in: open 7 3 0 10, or open 7 3 0 10 second, or open 7 3 0 10 account 3"
 CLOSE = "write close and one id, as in: close 12"
 NO_ID = "an id is a number from 1 to 65535"
+NO_ACCOUNT = "an account is a number from 0 to 65535"
 UNREADABLE = {
     STARTS: [b"Open 7 1 5 50", b"opened 7 1 5 50", b"shut 3", b"7 1 5 50", b"\0", b"second", b"-", b"open\xc2\xa07 1 5 50", b"\xef\xbb\xbfclose 2", b"\xff\xfeo\0p\0", b"close: 2", b"open7 1 5 50"],
     OPEN: [b"open", b"open 7", b"open 7 1 5", b"open 7 1 5 50 60", b"open 7 1 5 50 Second", b"open 7 1 5 50 second second", b"open second", b"open 7 1 5 second", b"open 7 1 5 second 50",
-           b"open x 1 5 50", b"open -7 1 5 50", b"open 7 one 5 50", b"open 7 1 5 5.0", b"open +7 1 5 50", b"open 0x7 1 5 50", b"open 7, 1, 5, 50", b"open 7 1 5 50\rclose 2", b"open 7 1 5 50 second\0"],
-    CLOSE: [b"close", b"close 2 3", b"close two", b"close -1", b"close 2 second", b"close +2", b"close 2\0"],
+           b"open x 1 5 50", b"open -7 1 5 50", b"open 7 one 5 50", b"open 7 1 5 5.0", b"open +7 1 5 50", b"open 0x7 1 5 50", b"open 7, 1, 5, 50", b"open 7 1 5 50\rclose 2", b"open 7 1 5 50 second\0",
+           b"open 7 1 5 50 account", b"open 7 1 5 50 Account 3", b"open 7 1 5 50 account 3 3", b"open 7 1 5 50 account 3 account 3", b"open 7 1 5 50 second account 3 second", b"open 7 1 5 account 3 50",
+           b"open account 3 7 1 5 50", b"open 7 1 5 50 account 3 second second", b"open 7 1 5 50 3"],
+    NO_ACCOUNT: [b"open 7 1 5 50 account 65536", b"open 7 1 5 50 account x", b"open 7 1 5 50 account -1", b"open 7 1 5 50 account second", b"open 7 1 5 50 account second second", b"open 7 1 5 50 second account +3",
+                 b"open 7 1 5 50 account 3\0", b"open 7 1 5 50 account 99999999999999999999999"],
+    CLOSE: [b"close", b"close 2 3", b"close two", b"close -1", b"close 2 second", b"close 2 account 3", b"close +2", b"close 2\0"],
     NO_ID: [b"open 65536 1 5 50", b"open 65543 1 5 50 second", b"close 65536", b"close 99999999999999999999999"],
 }
 SITES, REQUESTS, SPOILT = 10, 14, 80
@@ -180,8 +185,8 @@ def refused(room):
         room.says(1, work_out.post(book, text)[0], "post", "own.book", "refused.list")
         check(look(room, "own.book") == before, "a list of which none was done changed the book")
     good = room.get("kiln.book")
-    for data, number in [(b"", 14), (b"X" + good[1:], 13), (good[:5] + b"\x21" + good[6:], 10), (good[:16] + bytes(7) + b"\x03" + good[24:], 11),
-                         (good[:80] + bytes(8) + good[88:], 11), (good[:-1] + b"\x02", 16), (good + bytes(5000), 14)]:
+    for data, number in [(b"", 14), (b"X" + good[1:], 13), (good[:5] + b"\x21" + good[6:], 10), (good[:23] + bytes(7) + b"\x03" + good[31:], 11),
+                         (good[:87] + bytes(8) + good[95:], 11), (good[:-3] + b"\x02" + good[-2:], 16), (good + bytes(5000), 14)]:
         room.put("bad.book", data)
         for listed in ["refused.list", "-"]:
             room.says(1, "refused %s (bad.book)\n" % refusal(number), "post", "bad.book", listed)
@@ -232,7 +237,8 @@ def some(dice, book, count):
             return "close %d" % id
         ends = [dice.randrange(book.n + 2) for _ in range(2)] if odd else dice.sample(range(book.n), 2)
         period = dice.randint(0, 300) if odd else dice.choice(work_out.PERIODS)
-        return "open %d %d %d %d%s" % (id, *ends, period, dice.choice(["", " second"]))
+        paying = " account %d" % (dice.randint(0, 9) if odd else dice.choice(book.accounts)[0])
+        return "open %d %d %d %d%s" % (id, *ends, period, dice.choice(["", " second"]) + dice.choice(["", paying]))
     lines = [line() for _ in range(count)]
     for _ in range(dice.randint(0, 4)):
         lines.insert(dice.randint(0, len(lines)), dice.choice(["", "# a comment", "   "]))
@@ -256,7 +262,7 @@ def site(turn):
         book = chance.plan(dice)[1]
         for count in [0, 1, REQUESTS, 64]:
             if turn % 2:
-                book = book.but(heard=[]).older(1 + turn // 2 % 3)
+                book = book.but(heard=[]).older(1 + turn // 2 % 4)
             text = some(dice, book, count)
             for name in ["own.book", "single.book"]:
                 room.put(name, book.image())
@@ -268,7 +274,7 @@ def site(turn):
             check(room.get("own.book") == last.image(), "a list by chance left another book:\n%s" % text)
             if count < 64:
                 singles = one_by_one(room, text)
-                check(said.startswith(singles) and said[len(singles):].count("\n") == 2, "a list says\n%s\nand its requests alone\n%s" % (said, singles))
+                check(said.startswith(singles) and said[len(singles):].count("\n") == 2 + last.keeps_accounts(), "a list says\n%s\nand its requests alone\n%s" % (said, singles))
                 check(room.get("single.book") == room.get("own.book"), "a list and its requests alone left two books:\n%s" % text)
             numbers |= {got if isinstance(got, int) else 0 for got in work_out.posted(book, text)[0]}
             book = last

@@ -6,8 +6,8 @@ import subprocess
 import tool
 from tool import check
 
-READERS = [["check"], ["show"], ["table"], ["balance"], ["quote", "1", "2"], ["page"], ["routes", "1", "2"], ["diff", "kiln.book"], ["statement", "kiln.book"]]
-CHANGERS = [["open", "8", "1", "2", "5"], ["close", "1"], ["post", "a.list"]]
+READERS = [["check"], ["show"], ["table"], ["balance"], ["quote", "1", "2"], ["page"], ["routes", "1", "2"], ["diff", "kiln.book"], ["statement", "kiln.book"], ["accounts"]]
+CHANGERS = [["open", "8", "1", "2", "5"], ["close", "1"], ["post", "a.list"], ["buy", "0", "0"]]
 
 
 def asked(words, file):

@@ -37,11 +37,12 @@ def hold(room, what, image):
 def grown(dice):
     """A book by chance, in any version."""
     book = chance.plan(dice)[1]
+    book = dice.choice([book, book.but(accounts=work_out.ENDLESS)])
     slow = dice.random() < 0.5
     for id in sorted(dice.sample(range(1, 400), 12)):
         got = book.opened(id, *dice.sample(range(book.n), 2), dice.choice(work_out.PERIODS[:10 if slow else 7]), dice.random() < 0.4)
         book = book if isinstance(got, int) else book.with_ways(got)
-    return book.but(heard=dice.choice([[], book.heard])).older(dice.choice([1, 2, 3, 4]))
+    return book.but(heard=dice.choice([[], book.heard])).older(dice.choice([1, 2, 3, 4, 5]))
 
 
 def damaged(dice, one, other):

@@ -15,8 +15,9 @@ VARIABLE = "LINDURASK_STATEMENT"
 
 
 def every_pair(room):
-    """Every two of the books, both ways round, in one statement."""
-    books = dict(work_out.others(), **{name + ".book": work_out.sample(name) for name in ["kiln", "pond", "ridge", "pins"]})
+    """Every two of the books, both ways round, in one statement; of those that are one book on the air, one."""
+    books = dict(work_out.others(), **{name + ".book": work_out.sample(name) for name in ["kiln", "pond", "ridge", "pins", "mill"]})
+    books = {name: book for name, book in books.items() if name not in ("older.book", "elder.book", "former.book", "only.book", "raised.book")}
     pairs = list(itertools.product(books, books))
     words = [name for pair in pairs for name in pair]
     sites = [(this.removesuffix(".book"), books[last], books[this]) for last, this in pairs]
@@ -30,7 +31,7 @@ def refused(room):
     good, kiln, pond = room.get("kiln.book"), work_out.sample("kiln"), work_out.sample("pond")
     row = good.index(bytes([0, 1, 1, 0, 10, 7]))
     cases = [(b"", 14), (good[:-1], 14), (good + b"x", 14), (good + bytes(65535 - len(good)), 14), (b"X" + good[1:], 13), (good[:5] + b"\x21" + good[6:], 10),
-             (good[:16] + bytes(7) + b"\x03" + good[24:], 11), (good[:80] + bytes(8) + good[88:], 11), (good[:row + 4] + b"\x03" + good[row + 5:], 15), (good[:-1] + b"\x02", 16)]
+             (good[:23] + bytes(7) + b"\x03" + good[31:], 11), (good[:87] + bytes(8) + good[95:], 11), (good[:row + 4] + b"\x03" + good[row + 5:], 15), (good[:-3] + b"\x02" + good[-2:], 16)]
     for data, number in cases:
         room.put("bad.book", data)
         for names, books in [(["bad.book", "kiln.book"], (number, kiln)), (["kiln.book", "bad.book"], (kiln, number)), (["bad.book", "bad.book"], (number, number))]:

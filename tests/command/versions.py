@@ -3,9 +3,9 @@ import tool
 from tool import check, work_out
 
 # The sample books that each older version can hold.
-OLDER = {1: ["kiln", "yard", "site"], 2: ["kiln", "yard", "site", "pond"], 3: ["kiln", "pond", "ridge"]}
+OLDER = {1: ["kiln", "yard", "site"], 2: ["kiln", "yard", "site", "pond"], 3: ["kiln", "pond", "ridge"], 4: ["kiln", "site", "pond", "ridge", "pins"]}
 NEWEST = work_out.NEWEST
-READERS = [["check"], ["show"], ["show", "7"], ["show", "--stream"], ["table", "1"], ["balance"], ["quote", "3", "0"], ["routes", "3", "0"], ["page"]]
+READERS = [["check"], ["show"], ["show", "7"], ["show", "--stream"], ["table", "1"], ["balance"], ["quote", "3", "0"], ["routes", "3", "0"], ["page"], ["accounts"]]
 
 
 def same(room, name):
@@ -32,6 +32,9 @@ def changed(room, name):
     room.put("old.book", before)
     if name == "site":
         room.says(1, "refused 8: %s (from node 1 to node 2, period 100)\n" % work_out.WORDS[8], "open", "old.book", "900", "1", "2", "100")
+        room.says(0, work_out.bought(old, 0), "buy", "old.book", "0", "0")
+        check(room.get("old.book") == old.in_version(NEWEST).image(), "a purchase of nothing in a book of version %d" % old.version)
+        room.put("old.book", before)
     else:
         got = old.opened(900, 1, 2, 100)
         room.says(0, work_out.stream("opened ", got), "open", "old.book", "900", "1", "2", "100")
@@ -65,13 +68,14 @@ def longest(room):
     """The longest book of each version is read, and changed into the newest: 64 nodes, 64 routes and 512 hops, each in a slot of its own."""
     links = [(1 << a - 1 if a else 0) | (1 << a + 1 if a < 63 else 0) for a in range(64)]
     ways = [work_out.Way(id, 100, list(range(id % 55, id % 55 + 9)), list(range(8 * id, 8 * id + 8))) for id in range(1, 65)]
-    for version, length in {1: 2384, 2: 2448, 3: 2960, 4: 3024}.items():
-        book = work_out.Book(32, [True], 0, 0, links, ways, version, [(0, 63)] if version >= 3 else [])
+    for version, length in {1: 2384, 2: 2448, 3: 2960, 4: 3024, 5: 3345}.items():
+        paid = [(number, 10 ** 5) for number in range(31)] + [(65535, work_out.MOST_BOUGHT)] if version >= 5 else work_out.ENDLESS
+        book = work_out.Book(32, [True], 0, 0, links, ways, version, [(0, 63)] if version >= 3 else [], accounts=paid)
         room.put("long.book", book.image())
         check(len(book.image()) == length, "the longest book of version %d has %d bytes" % (version, len(book.image())))
         room.says(0, "lawful: %s" % work_out.counts(book), "check", "long.book")
         room.says(1, "refused 8: %s (from node 0 to node 1, period 100)\n" % work_out.WORDS[8], "open", "long.book", "900", "0", "1", "100")
-        room.says(0, work_out.closed(book.stream(64)), "close", "long.book", "64")
+        room.says(0, work_out.closed(book.stream(64), after=book.without(64)), "close", "long.book", "64")
         check(room.get("long.book") == book.without(64).image(), "a close of the longest book of version %d" % version)
 
 

@@ -1,6 +1,7 @@
 //! Closes a stream.
 
 use super::{Command, Report};
+use crate::account::Standing;
 use crate::book::{Stream, Way};
 use crate::describe::{self, INDENT};
 use crate::engine::Engine;
@@ -19,8 +20,8 @@ pub const CLOSE: Command = Command {
     choices: &[],
     summary: "close a stream",
     explains: "\
-Closes the stream with both its routes, and says what each gives back. No other
-stream changes.",
+Closes the stream with both its routes, and says what each gives back, and what
+its account gets back where the book has accounts. No other stream changes.",
     example: "lindurask close kiln.book 7",
     run,
 };
@@ -34,9 +35,10 @@ fn closed_route(before: &str, way: &Way) -> String {
         + &format!("{INDENT}gives back {slots} in a cycle for each of {hops}\n")
 }
 
-/// A stream that was closed, in its line, with what its routes give back.
-pub fn closed(before: &str, stream: Stream) -> String {
-    stream.ways.iter().map(|way| closed_route(before, way)).collect()
+/// A stream that was closed, in its line, with what its routes give back, and what its account gets, which is kept.
+pub fn closed(before: &str, stream: Stream, account: Option<Standing>) -> String {
+    let routes: String = stream.ways.iter().map(|way| closed_route(before, way)).collect();
+    routes + &describe::gives_back(account, stream)
 }
 
 fn run(words: &Words) -> Result<Report, Trouble> {
@@ -50,7 +52,7 @@ fn run(words: &Words) -> Result<Report, Trouble> {
     engine.finish()?;
     let stream = before.stream(id).filter(|_| after.stream(id).is_none());
     let text = stream
-        .map(|stream| closed("closed ", stream))
+        .map(|stream| closed("closed ", stream, after.kept(stream.account())))
         .ok_or_else(|| Trouble::Failed("the engine closed another stream".into()))?;
     held.replace(&bytes)?;
     Ok(Report { text, changed: true, ..Report::default() })

@@ -23,19 +23,22 @@ pub const DIFF: Command = Command {
     summary: "say where two books differ",
     explains: "\
 Says what differs between two books: version, plan, nodes, links, pairs that
-hear each other without a link, and streams, and the first slot and node where
-the air would show it, with what the node does there by each book. What the
-first book has stands behind <, what the second has behind >; tiles, slots and
-nodes are counted from 0. The nodes that both books have are compared, slot by
-slot in each tile. Two books that differ in nothing but their version are the
-same. The exit status is 0 where the books are the same, 1 where they differ,
-and 2 where one is no lawful book or cannot be read.",
+hear each other without a link, what accounts have bought, and streams, and the
+first slot and node where the air would show it, with what the node does there
+by each book. What the first book has stands behind <, what the second has
+behind >; tiles, slots and nodes are counted from 0. The nodes that both books
+have are compared, slot by slot in each tile. Two books that differ in nothing
+but their version are the same. The exit status is 0 where the books are the
+same, 1 where they differ, and 2 where one is no lawful book or cannot be read.",
     example: "lindurask diff sold.book kiln.book",
     run,
 };
 
 /// What stands before what each book has.
 const MARKS: Pair<&str> = ["<", ">"];
+
+/// What stands above the accounts that differ.
+const BOUGHT: &str = "Accounts that have not bought the same";
 
 /// Lines under a title; nothing where there are none.
 fn section(title: &str, lines: &str) -> String {
@@ -71,11 +74,14 @@ fn pairs(title: &str, pairs: &Pair<Vec<(usize, usize)>>) -> String {
 }
 
 /// The streams that one book has alone, then those of both that differ.
-fn streams(streams: &[Pair<Option<Stream>>]) -> String {
+fn streams(difference: &Difference) -> String {
+    let streams = &difference.streams;
     let alone = |own: usize| {
         let own_pairs = streams.iter().filter(|pair| pair[1 - own].is_none());
-        let own_streams = own_pairs.filter_map(|pair| pair[own]);
-        let lines: String = own_streams.map(|stream| describe::stream("  ", stream)).collect();
+        let said = |stream| {
+            describe::stream("  ", stream) + &describe::account(difference.books[own], stream)
+        };
+        let lines: String = own_pairs.filter_map(|pair| pair[own]).map(said).collect();
         section(&format!("Streams in {} alone", MARKS[own]), &lines)
     };
     let shared = streams.iter().map(|pair| match *pair {
@@ -138,7 +144,8 @@ fn text(difference: &Difference, paths: Pair<&Path>) -> String {
         + &number("Nodes", difference.unequal(|book| book.nodes().into()))
         + &pairs("Links", &difference.links)
         + &pairs(HEARD, &difference.heard)
-        + &streams(&difference.streams)
+        + &section(BOUGHT, &difference.accounts.iter().map(both).collect::<String>())
+        + &streams(difference)
         + &air(difference)
 }
 
@@ -154,17 +161,18 @@ fn pairs_in_json(pairs: &Pair<Vec<(usize, usize)>>) -> String {
 }
 
 /// A stream that is not the same in both, in JSON.
-fn stream_in_json(streams: &Pair<Option<Stream>>) -> String {
+fn stream_in_json(books: Pair<&Book>, streams: &Pair<Option<Stream>>) -> String {
     let differs = match *streams {
         [Some(one), Some(other)] => in_stream([one, other]),
         _ => vec![],
     };
     let differs = differs.iter().map(|(name, _)| json::string(name));
     let id = streams.iter().flatten().next().map_or(0, |stream| stream.first().id);
+    let own = |at: usize| streams[at].map_or("null".into(), |own| json::stream(books[at], own));
     json::object([
         ("id", id.to_string()),
         ("differs", json::array(differs)),
-        ("books", json::array(streams.map(|one| one.map_or("null".into(), json::stream)))),
+        ("books", json::array([0, 1].map(own))),
     ])
 }
 
@@ -180,17 +188,25 @@ fn air_in_json(seen: &Seen) -> String {
 }
 
 fn in_json(difference: &Difference) -> String {
-    let plan = Some(difference.books).filter(|_| !difference.plan.is_empty());
-    json::answer([
+    let books = difference.books;
+    let plan = Some(books).filter(|_| !difference.plan.is_empty());
+    let accounts = Some(books).filter(|_| !difference.accounts.is_empty());
+    let accounts = books
+        .iter()
+        .any(|book| book.keeps_accounts())
+        .then(|| ("accounts", pair(accounts, |book| json::accounts(&book.standings()))));
+    let streams = difference.streams.iter().map(|pair| stream_in_json(books, pair));
+    let fields = [
         ("same", difference.is_none().to_string()),
         ("version", pair(difference.unequal(|book| book.version), |version| version.to_string())),
         ("plan", pair(plan, json::plan)),
         ("nodes", pair(difference.unequal(Book::nodes), |nodes| nodes.to_string())),
         ("links", pairs_in_json(&difference.links)),
         ("heard", pairs_in_json(&difference.heard)),
-        ("streams", json::array(difference.streams.iter().map(stream_in_json))),
+        ("streams", json::array(streams)),
         ("air", difference.seen.as_ref().map_or("null".into(), air_in_json)),
-    ])
+    ];
+    json::answer(fields.into_iter().chain(accounts))
 }
 
 /// These tiles of the tables of a book, which the engine says and the rows of the book bear out.

@@ -36,8 +36,8 @@ pub fn everything() -> String {
     let commands = COMMANDS.iter().map(line);
     format!(
         "\
-Lindurask keeps the book of a site: its tile plan, its links, who hears whom,
-and its streams.
+Lindurask keeps the book of a site: its tile plan, its accounts, its links, who
+hears whom, and its streams.
 
 {}
 lindurask COMMAND --help explains a command and its options.

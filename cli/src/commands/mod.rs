@@ -1,6 +1,8 @@
 //! The commands: how each is written, what it says of itself, and what it does.
 
+mod accounts;
 mod balance;
+mod buy;
 mod check;
 mod close;
 mod diff;
@@ -50,17 +52,19 @@ pub struct Command {
 }
 
 /// All commands, in the order in which help lists them.
-pub const COMMANDS: [Command; 16] = [
+pub const COMMANDS: [Command; 18] = [
     new::NEW,
     check::CHECK,
     show::SHOW,
     open::OPEN,
     close::CLOSE,
     post::POST,
+    buy::BUY,
     quote::QUOTE,
     routes::ROUTES,
     table::TABLE,
     balance::BALANCE,
+    accounts::ACCOUNTS,
     diff::DIFF,
     statement::STATEMENT,
     replan::REPLAN,

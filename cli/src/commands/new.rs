@@ -28,9 +28,11 @@ The plan has a line for each of these; # starts a comment:
   nodes 4          nodes of the site, 2 to 64, numbered from 0
   link 0 1         a link; one line for each
   hear 0 2         nodes that hear each other without a link; one line for each
+  account 3 1000   an account and the hop uses in a cycle that it has bought
 
 Linked nodes hear each other without a line. A node that receives hears no other
-sender in that slot; streams go over links alone.",
+sender in that slot; streams go over links alone. A plan has a line for each of
+at most 32 accounts; without one the book has account 0 with 4294967295.",
     example: "lindurask new kiln.book kiln.plan",
     run,
 };

@@ -17,10 +17,10 @@ pub const PAGE: Command = Command {
     summary: "draw a book as a page for a browser",
     explains: "\
 Draws the book as one HTML page: the site and its routes, the slots of the
-cycle, the streams, and what each node has left. Of the slots it draws the tiles
-up to where they repeat, at most 100, and names the streams with later hops. The
-page goes to FILE, or to standard output. A file that is there already is never
-replaced.",
+cycle, the streams, what each node has left, and the accounts where the book has
+any. Of the slots it draws the tiles up to where they repeat, at most 100, and
+names the streams with later hops. The page goes to FILE, or to standard output.
+A file that is there already is never replaced.",
     example: "lindurask page kiln.book kiln.html",
     run,
 };

@@ -2,6 +2,7 @@
 
 use super::close::closed;
 use super::{Command, Report};
+use crate::account::Standing;
 use crate::book::{Book, Stream, Way};
 use crate::describe;
 use crate::engine::Engine;
@@ -9,7 +10,7 @@ use crate::files::{self, Held};
 use crate::frame::{self, Record, Wish};
 use crate::json;
 use crate::list::{self, Line};
-use crate::loaded::{accepted, decode, is_of_book, opened, unreadable};
+use crate::loaded::{accepted, decode, is_of_book, opened, unreadable, usual_account};
 use crate::mains::Mains;
 use crate::request::Request;
 use crate::text::{count, plain};
@@ -27,9 +28,10 @@ pub const POST: Command = Command {
 Does a list of at most 64 requests in one change of the book. FILE has a line
 for each, or is - for standard input; # starts a comment:
 
-  open 7 3 0 10           as open does: id, source, destination, period
-  open 8 3 0 10 second    the same with a second route
-  close 12                as close does: id
+  open 7 3 0 10              as open does: id, source, destination, period
+  open 8 3 0 10 second       the same with a second route
+  open 9 3 0 10 account 3    the same of an account
+  close 12                   as close does: id
 
 They are done in turn, each on the book as those above it left it; one that is
 refused leaves the book as it was, and the others are done all the same. Prints
@@ -43,8 +45,16 @@ and 1 where one is refused.",
     run,
 };
 
-/// The routes that a request opened or closed, or the number of its refusal.
-type Got = Result<Vec<Way>, u8>;
+/// What a request that was done changed.
+struct Done {
+    /// The routes that it opened or closed.
+    ways: Vec<Way>,
+    /// Their account after it, where the clerk keeps accounts.
+    account: Option<Standing>,
+}
+
+/// What a request got, or why it was refused.
+type Got = Result<Done, Refusal>;
 
 /// A list that the engine worked through.
 struct Posting<'a> {
@@ -52,6 +62,7 @@ struct Posting<'a> {
     /// The book before.
     image: &'a [u8],
     mains: Mains,
+    lines: &'a [Line],
     records: &'a [Record],
     /// The answer to each.
     answers: Vec<u8>,
@@ -89,24 +100,28 @@ impl Posting<'_> {
         let mut book = Book { version: after.version, ..before.clone() };
         let mut all = Vec::new();
         for (place, &record) in self.records.iter().enumerate() {
-            all.push(match (self.answers[place], record) {
+            let ways = match (self.answers[place], record) {
                 (0, Record::Open(wish)) => {
                     let ways = self.opened(place, wish, after)?;
                     book.ways.extend_from_slice(&ways);
-                    Ok(ways)
+                    ways
                 }
                 (0, Record::Close(id)) => {
                     let ways = mem::take(&mut book.ways).into_iter();
                     let (closed, kept) = ways.partition(|way| way.id == id);
                     book.ways = kept;
-                    Ok(closed)
+                    closed
                 }
-                (number, _) => Err(number),
-            });
+                (number, _) => {
+                    all.push(Err(self.lines[place].request.refusal(number, &book, self.mains)));
+                    continue;
+                }
+            };
+            let account = ways.first().ok_or_else(unreadable)?.account;
+            all.push(Ok(Done { ways, account: book.kept(account) }));
         }
         book.ways.sort_by_key(|way| (way.id, way.number));
-        let is_told = book == *after && !all.contains(&Ok(vec![]));
-        is_told.then_some(all).ok_or_else(unreadable)
+        (book == *after).then_some(all).ok_or_else(unreadable)
     }
 }
 
@@ -116,7 +131,6 @@ struct Told<'a> {
     got: Vec<Got>,
     /// The book after it.
     book: Book,
-    mains: Mains,
     /// The book's file is left as it is.
     dry: bool,
 }
@@ -130,26 +144,20 @@ impl Told<'_> {
         self.done() != 0 && !self.dry
     }
 
-    /// Why a request was refused.
-    fn refusal(&self, request: &Request, number: u8) -> Refusal {
-        let about = request.about(number, self.book.nodes(), self.mains);
-        Refusal { number, about, words: None }
-    }
-
     /// What a line got.
     fn line(&self, line: &Line, got: &Got) -> String {
         let head = format!("line {}: ", line.number);
         let before = |done, tried| format!("{head}{}", if self.dry { tried } else { done });
         match (got, &line.request) {
-            (Ok(ways), Request::Open(_)) => {
-                describe::stream(&before("opened ", "would open "), Stream { place: 0, ways })
+            (Ok(Done { ways, account }), Request::Open(_)) => {
+                let stream = Stream { place: 0, ways };
+                let draws = describe::draws(*account, stream);
+                describe::stream(&before("opened ", "would open "), stream) + &draws
             }
-            (Ok(ways), Request::Close(_)) => {
-                closed(&before("closed ", "would close "), Stream { place: 0, ways })
+            (Ok(Done { ways, account }), Request::Close(_)) => {
+                closed(&before("closed ", "would close "), Stream { place: 0, ways }, *account)
             }
-            (Err(number), request) => {
-                format!("{head}{}\n", self.refusal(request, *number).line())
-            }
+            (Err(refusal), _) => format!("{head}{}\n", refusal.line()),
         }
     }
 
@@ -187,8 +195,10 @@ impl Told<'_> {
             ("id", line.request.id().to_string()),
         ];
         let rest = match got {
-            Ok(ways) => vec![("stream", json::stream(Stream { place: 0, ways }))],
-            Err(number) => json::refused(&self.refusal(&line.request, *number)),
+            Ok(Done { ways, .. }) => {
+                vec![("stream", json::stream(&self.book, Stream { place: 0, ways }))]
+            }
+            Err(refusal) => json::refused(refusal),
         };
         json::object(head.into_iter().chain(rest))
     }
@@ -216,7 +226,6 @@ fn about(number: u8, words: &Words, requests: usize) -> String {
 fn run(words: &Words) -> Result<Report, Trouble> {
     let list = list::read(&files::read_text(words.path(1), "list")?);
     let lines = list.map_err(|fault| Trouble::Misused(fault.said_of(words.path(1))))?;
-    let records: Vec<_> = lines.iter().map(|line| line.request.record()).collect();
     let (dry, mains) = (words.has(&DRY_RUN), words.mains()?);
     let mut engine = Engine::start()?;
     let held = if dry { None } else { Some(Held::open(&words.operands[0])?) };
@@ -224,17 +233,19 @@ fn run(words: &Words) -> Result<Report, Trouble> {
         Some(held) => held.bytes.clone(),
         None => files::read_book(words.path(0))?,
     };
+    let usual = usual_account(&image);
+    let records: Vec<_> = lines.iter().map(|line| line.request.record(usual)).collect();
     let answer = mains.taken(engine.ask(posting(&image, mains, &records))?, &image)?;
     let about = about(answer.number, words, lines.len());
     let answer = accepted(answer, about)?;
     let before = decode(&image)?;
     let book = if answer.bytes.is_empty() { before.clone() } else { decode(&answer.bytes)? };
     let answers = answer.answers;
-    let records = &records;
-    let mut posting = Posting { engine: &mut engine, image: &image, mains, records, answers };
+    let (image, lines, records) = (&image, &lines, &records);
+    let mut posting = Posting { engine: &mut engine, image, mains, lines, records, answers };
     let got = posting.got(&before, &book)?;
     engine.finish()?;
-    let told = Told { lines: &lines, got, book, mains, dry };
+    let told = Told { lines, got, book, dry };
     let text = if words.has(&JSON) { told.in_json() } else { told.text() };
     if let Some(held) = held.filter(|_| told.changed()) {
         held.replace(&answer.bytes)?;

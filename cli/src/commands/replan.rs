@@ -9,6 +9,7 @@ use crate::files;
 use crate::frame::{self, Wish};
 use crate::loaded::{decode, opened, Loaded};
 use crate::mains::Mains;
+use crate::request::about_account;
 use crate::text::count;
 use crate::trouble::{meaning, Trouble};
 use crate::words::Words;
@@ -25,7 +26,8 @@ the order of their ids, those with a second route with one again. Prints what
 each got, and which no longer has a place. The exit status is 0 where all have a
 place, and 1 where one has none; NEW is made all the same. BOOK is not changed.
 PLAN is a file, or - for standard input. A yard that learns later who hears whom
-adds the hear lines to its plan, and opens its streams anew by it.",
+adds the hear lines to its plan, and opens its streams anew by it. The accounts
+are those of the plan, and each stream stays with the number of its account.",
     example: "lindurask replan kiln.book wider.plan wider.book",
     run,
 };
@@ -36,16 +38,21 @@ fn wish(stream: Stream) -> Wish {
     let ends = (first.nodes.first(), first.nodes.last());
     let (Some(&source), Some(&destination)) = ends else { unreachable!("a route has nodes") };
     let second = stream.second().is_some();
-    Wish { id: first.id, source, destination, period: first.period, second }
+    let (id, period, account) = (first.id, first.period, stream.account());
+    Wish { id, source, destination, period, second, account }
 }
 
 /// A stream of the old book that the new one has no place for.
-fn placeless(wish: Wish, number: u8) -> String {
-    let Wish { id, source, destination, period, second } = wish;
+fn placeless(wish: Wish, number: u8, book: &Book) -> String {
+    let Wish { id, source, destination, period, second, account } = wish;
     let period = count(period, "tile");
     let with = if second { ", two routes" } else { "" };
+    let about = match number {
+        22 | 23 => format!(" ({})", about_account(account, book)),
+        _ => String::new(),
+    };
     format!(
-        "no place for stream {id}: period {period}, from node {source} to node {destination}{with}\n{INDENT}refused {number}: {}\n",
+        "no place for stream {id}: period {period}, from node {source} to node {destination}{with}\n{INDENT}refused {number}: {}{about}\n",
         meaning(number),
     )
 }
@@ -61,12 +68,14 @@ fn reopen(
         let wish = wish(stream);
         let answer = engine.ask(frame::open(&bytes, wish))?;
         if answer.number != 0 {
-            said += &placeless(wish, answer.number);
+            said += &placeless(wish, answer.number, &decode(&bytes)?);
             continue;
         }
         bytes = answer.bytes;
         let book = decode(&bytes)?;
-        said += &describe::stream("opened ", opened(&book, Mains::All, wish)?);
+        let stream = opened(&book, Mains::All, wish)?;
+        said += &describe::stream("opened ", stream);
+        said += &describe::draws(book.kept(wish.account), stream);
     }
     Ok((bytes, said))
 }

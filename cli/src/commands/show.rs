@@ -25,11 +25,12 @@ Draws the book: its plan, its links, the pairs of nodes that hear each other
 without a link, its streams with period, routes, offsets and latency, and for
 each node that carries a stream a row of slots. Beside each node stands its
 number of links. Of each stream it says whether it survives the loss of any one
-relay, a node in the middle of a route. The picture starts at tile 0, or at
-TILE, and stops where it repeats or is full; each route has a letter of its own.
-With --stream only that stream and the nodes of its routes are shown, with
---node only that node and the streams through it, with --no-lists only the
-picture.",
+relay, a node in the middle of a route. Where the book has accounts it says what
+each has bought, drawn and left, and what each stream draws from which. The
+picture starts at tile 0, or at TILE, and stops where it repeats or is full;
+each route has a letter of its own. With --stream only that stream and the nodes
+of its routes are shown, with --node only that node and the streams through it,
+with --no-lists only the picture.",
     example: "lindurask show kiln.book --stream 7",
     run,
 };
@@ -111,7 +112,16 @@ fn heard(book: &Book, colour: Colour) -> String {
     }
 }
 
-/// The routes of a stream under their letters, and what the loss of a relay is to it.
+/// What each account has bought, drawn and left, where the clerk keeps accounts.
+fn accounts(book: &Book, colour: Colour) -> String {
+    if !book.keeps_accounts() {
+        return String::new();
+    }
+    let title = colour.title("Accounts: hop uses in a cycle");
+    format!("\n{title}\n{}", describe::accounts("  ", &book.standings()))
+}
+
+/// The routes of a stream under their letters, what the loss of a relay is to it, and its account.
 fn stream(book: &Book, order: usize, stream: Stream, colour: Colour) -> String {
     let before = |place: usize| {
         let letters = format!("{:<3}", label(book, place));
@@ -119,7 +129,7 @@ fn stream(book: &Book, order: usize, stream: Stream, colour: Colour) -> String {
     };
     let routes = stream.ways.iter().zip(stream.place..);
     let routes: String = routes.map(|(way, place)| describe::route(&before(place), way)).collect();
-    format!("{routes}{INDENT}{}\n", describe::loss(stream))
+    format!("{routes}{INDENT}{}\n{}", describe::loss(stream), describe::account(book, stream))
 }
 
 fn streams(book: &Book, part: &Part, colour: Colour) -> String {
@@ -168,7 +178,10 @@ fn node(book: &Book, node: u8, nodes: &Nodes, colour: Colour) -> String {
 /// The lists above the picture.
 fn lists(book: &Book, part: &Part, nodes: &Nodes, colour: Colour) -> String {
     let head = match part {
-        Part::All => plan(book, colour) + &links(book, colour) + &heard(book, colour),
+        Part::All => {
+            let site = plan(book, colour) + &links(book, colour) + &heard(book, colour);
+            site + &accounts(book, colour)
+        }
         Part::Stream(_) => String::new(),
         Part::Node(own) => node(book, *own, nodes, colour),
     };
@@ -190,8 +203,9 @@ fn idle(part: &Part, nodes: &Nodes) -> String {
 }
 
 fn in_json(book: &Book, part: &Part, nodes: &Nodes) -> String {
-    let streams = part.streams(book).map(|(_, stream)| json::stream(stream));
-    json::answer([
+    let streams = part.streams(book).map(|(_, stream)| json::stream(book, stream));
+    let accounts = book.keeps_accounts().then(|| ("accounts", json::accounts(&book.standings())));
+    let fields = [
         ("version", book.version.to_string()),
         ("plan", json::plan(book)),
         ("nodes", book.nodes().to_string()),
@@ -199,7 +213,8 @@ fn in_json(book: &Book, part: &Part, nodes: &Nodes) -> String {
         ("heard", json::pairs(&book.heard_pairs())),
         ("linked", json::array(&nodes.links)),
         ("streams", json::array(streams)),
-    ])
+    ];
+    json::answer(fields.into_iter().chain(accounts))
 }
 
 fn run(words: &Words) -> Result<Report, Trouble> {

@@ -1,5 +1,6 @@
 //! Books for the tests of the page.
 
+use crate::account::ENDLESS;
 use crate::book::{Balance, Book, Way, NEWEST};
 
 /// Links from pairs of nodes.
@@ -25,7 +26,7 @@ pub fn square_links(side: usize) -> Vec<u64> {
 }
 
 pub fn stream(id: u16, period: u16, nodes: &[u8], offsets: &[u16]) -> Way {
-    Way { id, number: 1, period, nodes: nodes.to_vec(), offsets: offsets.to_vec() }
+    Way { id, number: 1, period, nodes: nodes.to_vec(), offsets: offsets.to_vec(), account: 0 }
 }
 
 /// A line under plan A of document 01, with eight slots a tile.
@@ -37,6 +38,7 @@ pub fn line_book(nodes: usize, streams: Vec<Way>) -> Book {
         kinds: 1,
         down: 2,
         up: 1,
+        accounts: vec![ENDLESS],
         links: line_links(nodes),
         hearing: line_links(nodes),
         ways: streams,
@@ -96,6 +98,7 @@ pub fn full_site() -> Book {
         kinds: 0x21,
         down: 3,
         up: 1,
+        accounts: vec![ENDLESS],
         links: square_links(8),
         hearing: square_links(8),
         ways: streams,
@@ -111,6 +114,7 @@ pub fn bare() -> Book {
         kinds: 1,
         down: 1,
         up: 0,
+        accounts: vec![ENDLESS],
         links: vec![0; 2],
         hearing: vec![0; 2],
         ways: Vec::new(),

@@ -9,10 +9,11 @@ use lib.Seq.{length-take-le}
 use Rattle.rules.specs.Words.{_∈_, Reordered}
 use Rattle.rules.specs.Words.Reordered.{put}
 use Rattle.rules.specs.Book.{Row, Book, key, RisingByKey, hopsInAll, mostStreams, mostHops, Plus}
-use Rattle.rules.specs.Image.{newest, headerLength, linksStart, rowsStart, rowLength, longestImage, versionOf, nodesOf, streamsOf, hopsOf, rowsPlace, inTurn, encodeRow, encode}
+use Rattle.rules.specs.Image.{newest, headerLength, linksStart, linksPlace, rowsStart, rowLength, longestImage, versionOf, nodesOf, streamsOf, hopsOf, accountCountOf, accountsOf, rowsPlace, inTurn, encodeRow, encode}
 use Rattle.rules.proofs.Written.{length-sets-at}
 use Rattle.rules.proofs.Lists.{reordered-same, in-left, in-right, in-append}
 use Rattle.rules.proofs.Reading.{rowsIn, bookIn, NewestImage, withRows, newest-bytes}
+use Rattle.image.proofs.Places.{links-counted}
 use Rattle.image.proofs.Stands.{stored-rows, stored-length}
 use Rattle.writer.specs.Over.{over, headed}
 use Rattle.writer.proofs.Laws.{then, length-over, length-headed, laid}
@@ -62,10 +63,13 @@ module _ {s : List ℕ} {id at : ℕ} (h : NewestImage s) (v : Vacant s id at) w
 pub put-fits : {s : List ℕ} (size rows hops : ℕ) → NewestImage s → size ≡ rowLength newest * rows + 3 * hops → streamsOf s + rows ≤ mostStreams → hopsOf s + hops ≤ mostHops
     → length s + size ≤ longestImage newest
 put-fits {s} size rows hops h e l m =
-    let long : length s ≡ rowsStart newest (nodesOf s) + rowLength newest * length (rowsIn s) + 3 * hopsInAll (rowsIn s) =
-    stored-length (h .lawful) ∙ ap (λ (v : ℕ). rowsStart v (nodesOf s) + rowLength v * length (rowsIn s) + 3 * hopsInAll (rowsIn s)) (h .version) in
-    let few : nodesOf s ≤ 64 = omega (arith, length-sets-at s (linksStart (versionOf s)) (nodesOf s), h .lawful .lawful .site .nodes .1) in
-    omega (arith, long, few, stored-rows (h .lawful) .count, stored-rows (h .lawful) .hops)
+    let A : ℕ = accountCountOf s in
+    let long : length s ≡ rowsStart newest A (nodesOf s) + rowLength newest * length (rowsIn s) + 3 * hopsInAll (rowsIn s) =
+    stored-length (h .lawful) ∙ ap (λ (v : ℕ). rowsStart v A (nodesOf s) + rowLength v * length (rowsIn s) + 3 * hopsInAll (rowsIn s)) (h .version) in
+    let counted : linksStart newest (length (accountsOf s)) ≡ linksStart newest A =
+    subst (λ (v : ℕ). linksStart v (length (accountsOf s)) ≡ linksStart v A) (h .version) (links-counted s) in
+    let few : nodesOf s ≤ 64 = omega (arith, length-sets-at s (linksPlace s) (nodesOf s), h .lawful .lawful .site .nodes .1) in
+    omega (arith, long, counted, h .lawful .lawful .site .accounts .most, few, stored-rows (h .lawful) .count, stored-rows (h .lawful) .hops)
 
 module _ {s : List ℕ} {id at : ℕ} {bytes : List ℕ} {new : List Row} (h : NewestImage s) (f : Fresh s id at bytes new) where
   abbrev pub more : Book

@@ -26,7 +26,7 @@ pub record Fresh (s : List ℕ) (id at : ℕ) (bytes : List ℕ) (new : List Row
   pub sized : AllSized newest new
   pub bytes-are : bytes ≡ inTurn (encodeRow newest) new
 
--- the image of the book with the rows in it is laid out but for the topologies
+-- the image of the book with the rows in it is laid out but for the accounts and the topologies
 pub record PutIn (s : List ℕ) (new : List Row) (len : ℕ) (out : List ℕ) : Type 0 where
   pub after : Book
   pub plus : Plus (bookIn s) new after
@@ -38,7 +38,7 @@ PutsRows s at bytes rows hops len out = (id : ℕ) (new : List Row) → Fresh s 
 
 -- the row of a way
 abbrev pub rowOn : Asked → ℕ → List ℕ → List ℕ → Row
-rowOn q way route offsets = record { id = q .id; way = way; period = q .period; route = route; offsets = offsets }
+rowOn q way route offsets = record { id = q .id; way = way; period = q .period; route = route; offsets = offsets; account = q .account }
 
 -- an offset for each hop of a route
 pub record Parts (route offsets : List ℕ) : Type 0 where

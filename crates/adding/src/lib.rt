@@ -1,4 +1,4 @@
-// Lays out the image of a book in the newest version with the rows of a stream more, but for its topologies, which stay.
+// Lays out the image of a book in the newest version with the rows of a stream more, but for its accounts and topologies, which stay.
 ghost use mathlib.Core.Path.{_≡_};
 ghost use mathlib.Core.List.{[], _∷_};
 ghost use Prim.Native.Nat.{_+_, _*_, _≤_};
@@ -13,10 +13,10 @@ use image::Book;
 use rules::Asked;
 
 // The bytes of the longest row,
-const LONGEST_ROW: usize = 52;
+const LONGEST_ROW: usize = 54;
 
 // and of the two rows of a stream.
-const LONGEST_ROWS: usize = 104;
+const LONGEST_ROWS: usize = 108;
 
 // The ways of a stream: its first route,
 const FIRST: u8 = 1;
@@ -24,7 +24,7 @@ const FIRST: u8 = 1;
 // and its second.
 const SECOND: u8 = 2;
 
-// Lays out the image with rows more at the place: so many, of so many hops. The topologies are left out.
+// Lays out the image with rows more at the place: so many, of so many hops. The accounts and the topologies are left out.
 fn put_in(
     image: &[u8],
     at: usize,
@@ -56,7 +56,7 @@ fn put_in(
 // The bytes of a row of so many hops.
 fn row_size(hops: usize) -> usize
     requires { ⌜ hops ≤ mostRouteHops ⌝ }
-    ensures { λ r. ⌜ (r ≡ rowLength newest + 3 * hops) × (r ≤ 52) ⌝ }
+    ensures { λ r. ⌜ (r ≡ rowLength newest + 3 * hops) × (r ≤ 54) ⌝ }
 {
     image::row_length(image::NEWEST) + image::HOP * hops
 }
@@ -76,7 +76,16 @@ pub fn put_one(
     let hops = offsets.len();
     let size = row_size(hops);
     let mut new = [0u8; LONGEST_ROW];
-    writer::put_row(&mut new, 0, q.id, FIRST, q.period, route, offsets);
+    writer::put_row(
+        &mut new,
+        0,
+        q.id,
+        FIRST,
+        q.period,
+        route,
+        offsets,
+        q.account,
+    );
     put_in(image, at, &new[..size], 1, hops, out)
 }
 
@@ -97,7 +106,25 @@ pub fn put_two(
     let size = row_size(offsets.len());
     let all = size + row_size(others.len());
     let mut new = [0u8; LONGEST_ROWS];
-    writer::put_row(&mut new, 0, q.id, FIRST, q.period, first, offsets);
-    writer::put_row(&mut new, size, q.id, SECOND, q.period, second, others);
+    writer::put_row(
+        &mut new,
+        0,
+        q.id,
+        FIRST,
+        q.period,
+        first,
+        offsets,
+        q.account,
+    );
+    writer::put_row(
+        &mut new,
+        size,
+        q.id,
+        SECOND,
+        q.period,
+        second,
+        others,
+        q.account,
+    );
     put_in(image, at, &new[..all], 2, offsets.len() + others.len(), out)
 }

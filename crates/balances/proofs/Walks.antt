@@ -18,7 +18,7 @@ pub record Sums (s : List ℕ) (node sum at left : ℕ) : Type 0 where
   pub all : sum + total (rowUsed node) (rowsFrom s left at) ≡ used (bookIn s) node
 
 module _ {s : List ℕ} {node : ℕ} where
-  pub sums-first : {b : Book} {at left : ℕ} → HeaderOf s b → at ≡ rowsStart (b .version) (b .nodes) → left ≡ b .streams → Sums s node 0 at left
+  pub sums-first : {b : Book} {at left : ℕ} → HeaderOf s b → at ≡ rowsStart (b .version) (b .accounts) (b .nodes) → left ≡ b .streams → Sums s node 0 at left
   sums-first h e l = record { all = omega (arith, ap (total (rowUsed node)) (first-rows s h e l)) }
 
   module _ {at left sum x : ℕ} (l : 0 < left) (w : Stands s at left) (f : Sums s node sum at left) (r : x ≡ rowUsed node (rowAt s at)) where

@@ -12,6 +12,9 @@ use rules::Tile;
 // The call that says whether a book keeps to a set,
 const KEEPS: u8 = frames::KEEPS;
 
+// the one that buys hop uses for an account,
+const PURCHASE: u8 = frames::PURCHASE;
+
 // and the one that gives a node's links.
 const LINKS: u8 = frames::LINKS;
 
@@ -30,7 +33,9 @@ fn new_book(frame: &[u8], links: &[u8], out: &mut [u8]) -> Reply
         down: Slot(wide(frame[11])),
         up: Slot(wide(frame[12])),
     };
-    frames::answered(planner::new_book(plan, frame[13], links, frames::hearing(frame), out))
+    let hearing = frames::hearing(frame);
+    let accounts = frames::further(frame);
+    frames::answered(planner::new_book(plan, frame[13], links, hearing, accounts, out))
 }
 
 // Opens a stream.
@@ -43,8 +48,17 @@ fn open_stream(frame: &[u8], book: &[u8], out: &mut [u8]) -> Reply
         destination: Node(frame[4]),
         period: Tile(image::word_at(frame, 5)),
         second: frame[19] != 0,
+        account: frames::account(frame),
     };
     frames::answered(planner::open_stream(book, asked, out))
+}
+
+// Buys hop uses for an account.
+fn purchase(frame: &[u8], book: &[u8], out: &mut [u8]) -> Reply
+    requires { ⌜ headLength ≤ length (now frame) ⌝ }
+{
+    let account = frames::account(frame);
+    frames::answered(planner::purchase(book, account, frames::amount(frame), out))
 }
 
 // Writes a part of a node's slot table.
@@ -167,6 +181,7 @@ pub fn call(frame: &[u8], book: &[u8], out: &mut [u8]) -> Reply
         5 => expand(frame, book, out),
         7 => routes_between(frame, book, out),
         KEEPS => keeps_to(frame, book),
+        PURCHASE => purchase(frame, book, out),
         LINKS => links(frame, book),
         _ => balance(frame, book),
     }

@@ -9,13 +9,14 @@ use lib.ListN.{length, take}
 use Rattle.rules.specs.Says.{Refusal, _when_}
 use Rattle.rules.specs.Words.{NoBitFrom}
 use Rattle.rules.specs.Topology.{Topology, nodes}
-use Rattle.rules.specs.Image.{linksStart, versionOf, nodesOf, setsAt, linksOf}
+use Rattle.rules.specs.Image.{linksStart, linksPlace, nodesOf, setsAt, linksOf}
 use Rattle.rules.proofs.Written.{length-sets-at}
 use Rattle.rules.proofs.Reading.{LawfulImage}
 use Rattle.image.specs.Header.{HeaderOf}
 use Rattle.image.specs.Places.{Sets}
 use Rattle.image.specs.declared.Book as head
 use Rattle.image.proofs.Stands.{stored-length}
+use Rattle.image.proofs.Topologies.{links-there}
 use Rattle.bitset.specs.Rows.{topology}
 use Rattle.routes.specs.Planner.{Asked}
 use Rattle.choices.specs.declared.Choices.{Choices}
@@ -40,7 +41,7 @@ module _ {T : Topology} {middle source destination : ℕ} {out : List ℕ} {r : 
 -- THE BOOK OF A LAWFUL IMAGE
 module _ {s : List ℕ} (h : LawfulImage s) {book : head.Book} (read : HeaderOf s book) where
   known : nodes (linksOf s) ≡ book .nodes
-  known = length-sets-at s (linksStart (versionOf s)) (nodesOf s) ∙ sym (read .nodes)
+  known = length-sets-at s (linksPlace s) (nodesOf s) ∙ sym (read .nodes)
 
   few : nodes (linksOf s) ≤ 64
   few = h .lawful .site .nodes .1
@@ -48,8 +49,10 @@ module _ {s : List ℕ} (h : LawfulImage s) {book : head.Book} (read : HeaderOf 
   pub nodes-most : book .nodes ≤ 64
   nodes-most = omega (arith, known, few)
 
-  pub links-inside : linksStart (versionOf s) + 8 * book .nodes ≤ length s
-  links-inside = omega (arith, read .nodes, stored-length h)
+  -- the links stand where their place says
+  module _ {at : ℕ} (place : at ≡ linksStart (book .version) (book .accounts)) where
+    pub links-inside : at + 8 * book .nodes ≤ length s
+    links-inside = omega (arith, read .nodes, stored-length h, links-there read place)
 
   module _ (mains source destination : ℕ) where
     -- what is within the nodes that were read has no bit from N up
@@ -75,9 +78,9 @@ module _ {s : List ℕ} (h : LawfulImage s) {book : head.Book} (read : HeaderOf 
         pub one-node : {out : List ℕ} {r : Choices} → source ≡ destination → r .number ≡ 5 → r .length ≡ 0 → r .more ≡ false → BookSays s mains source destination out r out
         one-node e n l m = lists-next (λ f. f (below low)) (lists-next both-known (lists-refused e (λ z. omega arith) n l m))
 
-        module _ (apart : source ≡ destination → ⊥) {rows : List ℕ} (l : Sets s (linksStart (versionOf s)) (book .nodes) rows) where
+        module _ (apart : source ≡ destination → ⊥) {rows : List ℕ} (l : Sets s (linksPlace s) (book .nodes) rows) where
           same : topology (take (book .nodes) rows) ≡ linksOf s
-          same = ap topology (l .rows ∙ ap (setsAt s (linksStart (versionOf s))) (read .nodes))
+          same = ap topology (l .rows ∙ ap (setsAt s (linksPlace s)) (read .nodes))
 
           pub asked : Asked (topology (take (book .nodes) rows)) source destination
           asked =

@@ -24,6 +24,6 @@ pub fn list_on(image: &[u8], mains: u64, source: Node, destination: Node, out: &
     if source.0 == destination.0 {
         return crate::refused(5);
     }
-    let links = topologies::sets(image, image::HEADER, n);
+    let links = topologies::sets(image, book.links_place(), n);
     crate::list(&links[..n], mains, source, destination, out)
 }

@@ -8,9 +8,9 @@ use lib.ListN.{length, getD, take, drop, length-append, length-drop}
 use lib.Seq.{getD-drop, take-at}
 use Rattle.rules.specs.Book.{Row, hops}
 use Rattle.rules.specs.Topology.{mostRouteHops}
-use Rattle.rules.specs.Image.{hasWays, hopsPlace, rowLength, encodeRow, versionOf}
+use Rattle.rules.specs.Image.{hasWays, hasAccounts, hopsPlace, rowLength, encodeRow, wordAt, versionOf}
 use Rattle.rules.specs.Salvage.{Cuttable, Cut, CutAll}
-use Rattle.rules.proofs.Encoding.{length-row}
+use Rattle.rules.proofs.Encoding.{hopsIn, length-row}
 use Rattle.rules.proofs.Written.{Bytes}
 use Rattle.image.specs.Places.{rowAt, nextAt, Whole}
 use Rattle.image.proofs.Places.{row-hops, whole-sized, next-hops}
@@ -21,6 +21,11 @@ use Rattle.cutting.specs.Cutting.{CutSo}
 row-way : (s : List ℕ) (at : ℕ) → hasWays (versionOf s) ≡ false → rowAt s at .way ≡ 1
 unfolding rowAt
 row-way s at e = ap (λ (t : Bool). cond t (getD (drop at s) 2 0) 1) e
+
+-- and without accounts it is of account 0
+row-account : (s : List ℕ) (at : ℕ) → hasAccounts (versionOf s) ≡ false → rowAt s at .account ≡ 0
+unfolding rowAt
+row-account s at e = ap (λ (t : Bool). cond t (wordAt (drop at s) (hopsPlace (versionOf s) + 2 + 3 * hopsIn (versionOf s) (drop at s))) 0) e
 
 module _ (s : List ℕ) (at : ℕ) where
   stated : getD (drop at s) (hopsPlace (versionOf s)) 0 ≡ getD s (at + hopsPlace (versionOf s)) 0
@@ -61,6 +66,7 @@ module _ (s : List ℕ) (at : ℕ) where
         nodes = whole-sized s at w .nodes;
         offsets = whole-sized s at w .offsets;
         one-way = row-way s at;
+        old-account = row-account s at;
       }
 
       -- and these are its bytes

@@ -43,7 +43,7 @@ fn answer_list(frame: &[u8], index: &mut [u64], answers: &mut [u8], held: usize)
     ensures { λ r. ⌜ r ≤ length (now (answers .entry)) ⌝ }
 {
     let room = frames::room(frame);
-    let list = frames::list(frame);
+    let list = frames::further(frame);
     let start = streams::make_room(answers, held, frames::REPLY + room + list.len());
     let at = start + frames::REPLY;
     let end = at + room;

@@ -21,7 +21,7 @@ use Rattle.reader.specs.Seeks.{Passed, Reached}
 use Rattle.finding.specs.Spot.{Vacant, Taken}
 
 -- a search starts at the first row
-pub passed-start : {s : List ℕ} {b : head.Book} {id at left : ℕ} → LawfulImage s → HeaderOf s b → at ≡ rowsStart (b .version) (b .nodes) → left ≡ b .streams → Passed s id at left
+pub passed-start : {s : List ℕ} {b : head.Book} {id at left : ℕ} → LawfulImage s → HeaderOf s b → at ≡ rowsStart (b .version) (b .accounts) (b .nodes) → left ≡ b .streams → Passed s id at left
 passed-start {s} {id = id} {at} {left} w h e f =
     subst (λ (n : ℕ). Passed s id at n) (sym (f ∙ h .streams))
     (subst (λ (n : ℕ). Passed s id n (streamsOf s)) (sym (rows-start h e)) record { stands = stands-start w; lower = λ r m. absurd m })

@@ -13,12 +13,12 @@ replyLength = 13
 abbrev pub mostRoom : ℕ
 mostRoom = 16384
 
--- bytes of a record of a list, and of the longest list
+-- bytes of a record of a list, and of the longest further bytes
 abbrev pub recordLength : ℕ
 recordLength = 11
 
-abbrev pub mostRecords : ℕ
-mostRecords = 1100
+abbrev pub mostFurther : ℕ
+mostFurther = 1100
 
 -- words of the longest index, bytes of a word, and those of the index, which is the longest part of an answer
 abbrev pub mostWords : ℕ

@@ -1,7 +1,7 @@
 // A framed call and its answer: where their parts stand.
 ghost use Prim.Native.Nat.{_+_, _*_, _≤_};
 ghost use lib.ListN.{length};
-ghost use Rattle.frames.specs.Lengths.{headLength, replyLength, mostRoom, mostRecords, mostWords, wordLength, mostReport};
+ghost use Rattle.frames.specs.Lengths.{headLength, replyLength, mostRoom, mostFurther, mostWords, wordLength, mostReport};
 use answers::Answer;
 
 // Bytes of a call before its book or topology.
@@ -16,10 +16,13 @@ pub const POST: u8 = 8;
 // the one that says whether a book keeps to a set,
 pub const KEEPS: u8 = 9;
 
+// the one that buys hop uses for an account,
+pub const PURCHASE: u8 = 10;
+
 // the one that salvages a damaged book,
 pub const SALVAGE: u8 = 11;
 
-// and the one that gives a node's links; the numbers between are for later calls.
+// and the one that gives a node's links; the number between is for a later call.
 pub const LINKS: u8 = 13;
 
 // The longest book.
@@ -31,8 +34,8 @@ const MOST_ROOM: usize = 16384;
 // Bytes of a record of a list,
 pub const RECORD: usize = 11;
 
-// and of the longest list, a hundred records.
-const MOST_RECORDS: usize = 1100;
+// and of the longest further bytes, a hundred records.
+const MOST_FURTHER: usize = 1100;
 
 // Words of the longest index: some more than 100 tiles of 32 slots take,
 const MOST_WORDS: usize = 6500;
@@ -108,7 +111,15 @@ pub fn report_room(frame: &[u8]) -> usize
 
 // Whether a number is that of a call; any other ends the stream.
 fn is_call(number: u8) -> bool {
-    number <= KEEPS || number == SALVAGE || number == LINKS
+    number <= SALVAGE || number == LINKS
+}
+
+// Whether a call may have so many further bytes: those of a posting are whole records.
+fn is_further(call: u8, further: usize) -> bool {
+    if MOST_FURTHER < further {
+        return false;
+    }
+    call != POST || further % RECORD == 0
 }
 
 // The length of the frame, 0 if it ends the stream.
@@ -126,14 +137,11 @@ pub fn size(frame: &[u8]) -> usize
     if MOST_BYTES < heard {
         return 0;
     }
-    let list = long(image::word_at(frame, 40));
-    if MOST_RECORDS < list {
+    let further = long(image::word_at(frame, 40));
+    if !is_further(frame[0], further) {
         return 0;
     }
-    if list % RECORD != 0 {
-        return 0;
-    }
-    HEAD + bytes + heard + list
+    HEAD + bytes + heard + further
 }
 
 // Where the book or the topology of a call ends.
@@ -174,17 +182,31 @@ pub fn book(frame: &[u8]) -> &[u8]
     &frame[HEAD..end]
 }
 
-// The records of a posting, which stand at the end.
-pub fn list(frame: &[u8]) -> &[u8]
+// The further bytes, which stand at the end: the accounts of a new book, or the records of a posting.
+pub fn further(frame: &[u8]) -> &[u8]
     requires { ⌜ headLength ≤ length (now frame) ⌝ }
-    ensures { λ r. ⌜ length (now r) ≤ mostRecords ⌝ }
+    ensures { λ r. ⌜ length (now r) ≤ mostFurther ⌝ }
 {
     let start = hearing_end(frame);
-    let end = start + MOST_RECORDS;
+    let end = start + MOST_FURTHER;
     if frame.len() < end {
         return &frame[start..];
     }
     &frame[start..end]
+}
+
+// The number of the account.
+pub fn account(frame: &[u8]) -> u16
+    requires { ⌜ headLength ≤ length (now frame) ⌝ }
+{
+    image::word_at(frame, 20)
+}
+
+// How many hop uses a purchase buys.
+pub fn amount(frame: &[u8]) -> u32
+    requires { ⌜ headLength ≤ length (now frame) ⌝ }
+{
+    image::word_at(frame, 34) as u32 * 65536 + image::word_at(frame, 36) as u32
 }
 
 // The set of nodes that may stand in the middle of a route.

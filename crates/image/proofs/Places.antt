@@ -9,12 +9,13 @@ use lib.Dec.{leb}
 use lib.ListN.{length, getD, drop}
 use lib.Seq.{getD-drop, drop-drop}
 use Rattle.rules.specs.Book.{Row, hops, rowOffset}
-use Rattle.rules.specs.Image.{hasWays, hasHearing, hasWide, headerLength, linksStart, hearingStart, rowsStart, periodPlace, hopsPlace, rowLength}
-use Rattle.rules.specs.Image.{wordAt, word64At, topologyAt, versionOf, nodesOf, hearingOf, rowsPlace, streamsOf}
+use Rattle.rules.specs.Image.{hasWays, hasHearing, hasWide, hasAccounts, oldAccounts, headerLength, linksStart, hearingStart, rowsStart, periodPlace, hopsPlace, rowLength}
+use Rattle.rules.specs.Image.{wordAt, topologyAt, accountsAt, versionOf, nodesOf, accountCountOf, accountsOf, linksPlace, hearingOf, rowsPlace, streamsOf}
 use Rattle.rules.specs.Words.{Tests}
 use Rattle.rules.proofs.Tests.{never, alike, tests-le}
 use Rattle.rules.proofs.Encoding.{hopsIn, Sized}
-use Rattle.rules.proofs.Fronts.{front-id, front-way, front-period, front-hops, front-node, front-offset, front-sized}
+use Rattle.rules.proofs.Fronts.{front-id, front-way, front-period, front-account, front-hops, front-node, front-offset, front-sized}
+use Rattle.rules.proofs.Written.{length-accounts-at}
 use Rattle.rules.proofs.Reading.{readRows, rowsIn}
 use Rattle.image.specs.Places.{hearingPlace, rowAt, nextAt, rowsFrom, Whole}
 
@@ -32,37 +33,67 @@ hops-narrow v p l e = let f = ap (λ (t : Bool). cond {A = ℕ} t 1 0) (lt-leb 4
 pub hops-wide : (v p : ℕ) → 4 ≤ v → p ≡ periodPlace v → p + 2 ≡ hopsPlace v
 hops-wide v p l e = let f = ap (λ (t : Bool). cond {A = ℕ} t 1 0) (le-leb 4 v l) in omega arith
 
--- in the versions before 3 the hearing stands where the links do
-pub hearing-without : (v N : ℕ) → v < 3 → hearingPlace v N ≡ headerLength
-hearing-without v N l = ap (λ (t : Bool). cond t (hearingStart v N) (linksStart v)) (lt-leb 3 v l)
+-- in those before 5 it has no account
+pub row-without : (v p : ℕ) → v < 5 → p ≡ hopsPlace v → p + 2 ≡ rowLength v
+row-without v p l e = let f = ap (λ (t : Bool). cond {A = ℕ} t 2 0) (lt-leb 5 v l) in omega arith
 
-pub hearing-with : (v N : ℕ) → 3 ≤ v → hearingPlace v N ≡ headerLength + 8 * N
-hearing-with v N l = ap (λ (t : Bool). cond t (hearingStart v N) (linksStart v)) (le-leb 3 v l)
+pub row-with : (v p : ℕ) → 5 ≤ v → p ≡ hopsPlace v → p + 4 ≡ rowLength v
+row-with v p l e = let f = ap (λ (t : Bool). cond {A = ℕ} t 2 0) (le-leb 5 v l) in omega arith
 
-pub hearing-most : (v N : ℕ) → hearingPlace v N ≤ headerLength + 8 * N
-hearing-most v N = most (hasHearing v)
+-- and the links stand right behind the header
+pub links-without : (v A : ℕ) → v < 5 → linksStart v A ≡ headerLength
+links-without v A l = ap (λ (t : Bool). headerLength + cond t (1 + 6 * A) 0) (lt-leb 5 v l)
+
+pub links-with : (v A : ℕ) → 5 ≤ v → linksStart v A ≡ headerLength + 1 + 6 * A
+links-with v A l = let f = ap (λ (t : Bool). headerLength + cond t (1 + 6 * A) 0) (le-leb 5 v l) in omega arith
+
+pub links-most : (v A : ℕ) → linksStart v A ≤ headerLength + 1 + 6 * A
+links-most v A = most (hasAccounts v)
   where
-    most : (t : Bool) → cond t (headerLength + 8 * N) headerLength ≤ headerLength + 8 * N
+    most : (t : Bool) → headerLength + cond t (1 + 6 * A) 0 ≤ headerLength + 1 + 6 * A
+    most true = omega arith
+    most false = omega arith
+
+-- where the links of the image stand, by the accounts that it holds
+pub links-counted : (s : List ℕ) → linksStart (versionOf s) (length (accountsOf s)) ≡ linksPlace s
+links-counted s = counted (hasAccounts (versionOf s))
+  where
+    counted : (t : Bool)
+        → headerLength + cond t (1 + 6 * length (cond t (accountsAt s (headerLength + 1) (accountCountOf s)) oldAccounts)) 0 ≡ headerLength + cond t (1 + 6 * accountCountOf s) 0
+    counted true = ap (λ (k : ℕ). headerLength + (1 + 6 * k)) (length-accounts-at s (headerLength + 1) (accountCountOf s))
+    counted false = refl
+
+-- in the versions before 3 the hearing stands where the links do
+pub hearing-without : (v A N : ℕ) → v < 3 → hearingPlace v A N ≡ linksStart v A
+hearing-without v A N l = ap (λ (t : Bool). cond t (hearingStart v A N) (linksStart v A)) (lt-leb 3 v l)
+
+pub hearing-with : (v A N : ℕ) → 3 ≤ v → hearingPlace v A N ≡ linksStart v A + 8 * N
+hearing-with v A N l = ap (λ (t : Bool). cond t (hearingStart v A N) (linksStart v A)) (le-leb 3 v l)
+
+pub hearing-most : (v A N : ℕ) → hearingPlace v A N ≤ linksStart v A + 8 * N
+hearing-most v A N = most (hasHearing v)
+  where
+    most : (t : Bool) → cond t (linksStart v A + 8 * N) (linksStart v A) ≤ linksStart v A + 8 * N
     most true = omega arith
     most false = omega arith
 
 -- and in every version the rows start behind it
-pub rows-behind : (v N : ℕ) → hearingPlace v N + 8 * N ≡ rowsStart v N
-rows-behind v N = behind (hasHearing v)
+pub rows-behind : (v A N : ℕ) → hearingPlace v A N + 8 * N ≡ rowsStart v A N
+rows-behind v A N = behind (hasHearing v)
   where
-    behind : (t : Bool) → cond t (headerLength + 8 * N) headerLength + 8 * N ≡ headerLength + 8 * N + cond t (8 * N) 0
+    behind : (t : Bool) → cond t (linksStart v A + 8 * N) (linksStart v A) + 8 * N ≡ linksStart v A + 8 * N + cond t (8 * N) 0
     behind true = refl
     behind false = omega arith
 
-pub rows-most : (v N : ℕ) → rowsStart v N ≤ headerLength + 16 * N
-rows-most v N = omega (arith, rows-behind v N, hearing-most v N)
+pub rows-most : (v A N : ℕ) → rowsStart v A N ≤ headerLength + 1 + 6 * A + 16 * N
+rows-most v A N = omega (arith, rows-behind v A N, hearing-most v A N, links-most v A)
 
 -- what is read there is the hearing
-pub hearing-there : (s : List ℕ) → topologyAt s (hearingPlace (versionOf s) (nodesOf s)) (nodesOf s) ≡ hearingOf s
+pub hearing-there : (s : List ℕ) → topologyAt s (hearingPlace (versionOf s) (accountCountOf s) (nodesOf s)) (nodesOf s) ≡ hearingOf s
 hearing-there s = there (hasHearing (versionOf s))
   where
-    there : (t : Bool) → topologyAt s (cond t (headerLength + 8 * nodesOf s) headerLength) (nodesOf s)
-        ≡ cond t (topologyAt s (headerLength + 8 * nodesOf s) (nodesOf s)) (topologyAt s headerLength (nodesOf s))
+    there : (t : Bool) → topologyAt s (cond t (linksPlace s + 8 * nodesOf s) (linksPlace s)) (nodesOf s)
+        ≡ cond t (topologyAt s (linksPlace s + 8 * nodesOf s) (nodesOf s)) (topologyAt s (linksPlace s) (nodesOf s))
     there true = refl
     there false = refl
 
@@ -96,10 +127,22 @@ module _ (s : List ℕ) (at : ℕ) where
   unfolding period
   period-narrow p e t = ap (λ (n : ℕ). getD s (at + n) 0) e ∙ sym (row-period ∙ ap period t)
 
-  pub next-stated : (p h : ℕ) → p ≡ hopsPlace (versionOf s) → h ≡ getD s (at + p) 0 → at + (p + 2 + 3 * h) ≡ nextAt s at
+  row-account : rowAt s at .account ≡ cond (hasAccounts (versionOf s)) (wordAt s (at + (hopsPlace (versionOf s) + 2 + 3 * getD s (at + hopsPlace (versionOf s)) 0))) 0
+  unfolding rowAt
+  row-account = front-account (versionOf s) s at
+
+  pub account-without : versionOf s < 5 → rowAt s at .account ≡ 0
+  account-without l =
+      row-account ∙ ap (λ (t : Bool). cond t (wordAt s (at + (hopsPlace (versionOf s) + 2 + 3 * getD s (at + hopsPlace (versionOf s)) 0))) 0) (lt-leb 5 (versionOf s) l)
+
+  account-with : 5 ≤ versionOf s → rowAt s at .account ≡ wordAt s (at + (hopsPlace (versionOf s) + 2 + 3 * getD s (at + hopsPlace (versionOf s)) 0))
+  account-with l =
+      row-account ∙ ap (λ (t : Bool). cond t (wordAt s (at + (hopsPlace (versionOf s) + 2 + 3 * getD s (at + hopsPlace (versionOf s)) 0))) 0) (le-leb 5 (versionOf s) l)
+
+  pub next-stated : (k p h : ℕ) → k ≡ rowLength (versionOf s) → p ≡ hopsPlace (versionOf s) → h ≡ getD s (at + p) 0 → at + (k + 3 * h) ≡ nextAt s at
   unfolding nextAt
-  next-stated p h e f =
-      ap₂ (λ (x y : ℕ). at + (x + 2 + 3 * y)) e (f ∙ ap (λ (n : ℕ). getD s (at + n) 0) e)
+  next-stated k p h g e f =
+      ap₂ (λ (x y : ℕ). at + (x + 3 * y)) g (f ∙ ap (λ (n : ℕ). getD s (at + n) 0) e)
 
   module _ (w : Whole s at) where
     enough : at + (rowLength (versionOf s) + 3 * getD s (at + hopsPlace (versionOf s)) 0) ≤ length s
@@ -114,9 +157,16 @@ module _ (s : List ℕ) (at : ℕ) where
     unfolding rowAt
     row-node = front-node (versionOf s) s at enough
 
-    pub row-offset : (i : ℕ) → i < hops (rowAt s at) → rowOffset (rowAt s at) i ≡ wordAt s (at + rowLength (versionOf s) + hops (rowAt s at) + 2 * i)
+    pub row-offset : (i : ℕ) → i < hops (rowAt s at) → rowOffset (rowAt s at) i ≡ wordAt s (at + (hopsPlace (versionOf s) + 2) + hops (rowAt s at) + 2 * i)
     unfolding rowAt
     row-offset = front-offset (versionOf s) s at enough
+
+    -- its account stands behind its offsets
+    pub account-there : 5 ≤ versionOf s → (p h : ℕ) → p ≡ hopsPlace (versionOf s) → h ≡ hops (rowAt s at) → wordAt s (at + (p + 2 + 3 * h)) ≡ rowAt s at .account
+    account-there l p h e f = ap₂ (λ (x y : ℕ). wordAt s (at + (x + 2 + 3 * y))) e (f ∙ row-hops) ∙ sym (account-with l)
+
+    pub account-inside : 5 ≤ versionOf s → at + (hopsPlace (versionOf s) + 2 + 3 * hops (rowAt s at)) + 2 ≤ length s
+    account-inside l = let g = row-with (versionOf s) (hopsPlace (versionOf s)) l refl in omega (arith, g, enough, row-hops)
 
     pub next-hops : nextAt s at ≡ at + (rowLength (versionOf s) + 3 * hops (rowAt s at))
     unfolding nextAt
@@ -149,9 +199,9 @@ module _ (s : List ℕ) (at : ℕ) (inside : at ≤ length s) where
   pub no-front : length s - at < rowLength (versionOf s) → Tests false (Whole s at)
   no-front l = record { yes = λ e. never e; back = λ w. absurd (omega (arith, w .front)) }
 
-  pub tests-whole : (p h : ℕ) → p ≡ hopsPlace (versionOf s) → h ≡ getD s (at + p) 0 → p + 2 ≤ length s - at
-      → Tests (leb (p + 2 + 3 * h) (length s - at)) (Whole s at)
+  pub tests-whole : (k p h : ℕ) → k ≡ rowLength (versionOf s) → p ≡ hopsPlace (versionOf s) → h ≡ getD s (at + p) 0 → k ≤ length s - at
+      → Tests (leb (k + 3 * h) (length s - at)) (Whole s at)
   unfolding nextAt
-  tests-whole p h g e l =
+  tests-whole k p h i g e l =
       let f : h ≡ getD s (at + hopsPlace (versionOf s)) 0 = e ∙ ap (λ (n : ℕ). getD s (at + n) 0) g in
-      alike (tests-le (p + 2 + 3 * h) (length s - at)) (λ k. record { front = omega arith; fits = omega arith }) (λ w. omega (arith, w .fits))
+      alike (tests-le (k + 3 * h) (length s - at)) (λ m. record { front = omega arith; fits = omega arith }) (λ w. omega (arith, w .fits))

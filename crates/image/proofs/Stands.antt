@@ -1,6 +1,7 @@
 -- A walk over the rows of an image, from row to row.
 use mathlib.Core.Path.{_≡_, refl, sym, ap, ap₂, _∙_, subst}
 use mathlib.Core.Logic.{inl, inr}
+use mathlib.Core.Bool.{cond}
 use mathlib.Core.List.{List, [], _∷_, _++_, append-assoc}
 use Prim.Native.Nat.{ℕ, zero, suc, _+_, _*_, _<_, _≤_, _-_}
 use native.Mathlib.Numerals.{unary-clauses}
@@ -9,23 +10,26 @@ use lib.ListN.{length, getD, drop, length-append, length-drop}
 use lib.Seq.{getD-drop, drop-drop}
 use Rattle.rules.specs.Words.{_∈_}
 use Rattle.rules.specs.Book.{Row, hops, hopsInAll}
-use Rattle.rules.specs.Image.{RowFits, linksStart, hopsPlace, rowLength, imageLength, inTurn, encodeRow, versionOf, nodesOf, streamsOf, rowsPlace, RowsOf}
+use Rattle.rules.specs.Image.{hasHearing, RowFits, linksStart, hopsPlace, rowLength, imageLength, inTurn, encodeRow, versionOf, nodesOf, streamsOf, accountCountOf, accountsOf, linksPlace, rowsPlace}
+use Rattle.rules.specs.Image.{RowsOf}
 use Rattle.rules.proofs.Encoding.{hopsIn, frontRow, Sized, AllSized, AllFit, row-back, hops-in, length-row, left-over, lawful-sized, rows-of, length-encode}
 use Rattle.rules.proofs.Lists.{in-right}
 use Rattle.rules.proofs.Written.{length-sets-at}
 use Rattle.rules.proofs.Reading.{rowsIn, bookIn, LawfulImage}
 use Rattle.image.specs.Places.{rowAt, nextAt, rowsFrom, Whole, Stands, RowHere}
-use Rattle.image.proofs.Places.{length-rows-from}
+use Rattle.image.proofs.Places.{links-counted, length-rows-from}
 
 -- what is read of a stored image are its rows
 pub stored-rows : {s : List ℕ} → LawfulImage s → RowsOf s (rowsIn s)
 stored-rows {s} h = subst (λ (t : List ℕ). RowsOf t (rowsIn s)) (sym (h .bytes)) (rows-of (versionOf s) (h .version) (bookIn s) (h .lawful) (h .fits))
 
 -- its length is the one that its rows have
-pub stored-length : {s : List ℕ} → LawfulImage s → length s ≡ imageLength (versionOf s) (nodesOf s) (length (rowsIn s)) (hopsInAll (rowsIn s))
+pub stored-length : {s : List ℕ} → LawfulImage s → length s ≡ imageLength (versionOf s) (accountCountOf s) (nodesOf s) (length (rowsIn s)) (hopsInAll (rowsIn s))
 stored-length {s} h =
-    ap length (h .bytes) ∙ length-encode (versionOf s) (bookIn s) (h .lawful)
-    ∙ ap (λ (N : ℕ). imageLength (versionOf s) N (length (rowsIn s)) (hopsInAll (rowsIn s))) (length-sets-at s (linksStart (versionOf s)) (nodesOf s))
+    let v : ℕ = versionOf s in
+    ap length (h .bytes) ∙ length-encode v (bookIn s) (h .lawful)
+    ∙ ap₂ (λ (k N : ℕ). k + 8 * N + cond (hasHearing v) (8 * N) 0 + rowLength v * length (rowsIn s) + 3 * hopsInAll (rowsIn s)) (links-counted s)
+    (length-sets-at s (linksPlace s) (nodesOf s))
 
 -- A ROW WHERE IT WAS WRITTEN
 module _ (s : List ℕ) (at : ℕ) (r : Row) (t : List ℕ) (w : Sized (versionOf s) r) (f : RowFits (versionOf s) r) (e : drop at s ≡ encodeRow (versionOf s) r ++ t) where

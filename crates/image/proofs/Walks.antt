@@ -13,10 +13,10 @@ use Rattle.image.proofs.Stands.{stands-start, stands-rest, stands-split
 
 module _ {s : List ℕ} where
   -- where the header that was read says that the rows start, they start
-  pub rows-start : {b : Book} {at : ℕ} → HeaderOf s b → at ≡ rowsStart (b .version) (b .nodes) → at ≡ rowsPlace s
-  rows-start h e = e ∙ ap₂ rowsStart (h .version) (h .nodes)
+  pub rows-start : {b : Book} {at : ℕ} → HeaderOf s b → at ≡ rowsStart (b .version) (b .accounts) (b .nodes) → at ≡ rowsPlace s
+  rows-start h e = e ∙ λ i. rowsStart (h .version i) (h .accounts i) (h .nodes i)
 
-  pub stands-first : {b : Book} {at left : ℕ} → LawfulImage s → HeaderOf s b → at ≡ rowsStart (b .version) (b .nodes) → left ≡ b .streams → Stands s at left
+  pub stands-first : {b : Book} {at left : ℕ} → LawfulImage s → HeaderOf s b → at ≡ rowsStart (b .version) (b .accounts) (b .nodes) → left ≡ b .streams → Stands s at left
   stands-first w h e l = subst₂ (Stands s) (sym (rows-start h e)) (sym (l ∙ h .streams)) (stands-start w)
 
   pub stands-on : {at at′ left : ℕ} → 0 < left → at′ ≡ nextAt s at → Stands s at left → Stands s at′ (left - 1)
@@ -26,7 +26,7 @@ module _ {s : List ℕ} where
   rows-split l w = sym (stands-rest w) ∙ stands-split l w
 
 module _ (s : List ℕ) where
-  pub first-rows : {b : Book} {at left : ℕ} → HeaderOf s b → at ≡ rowsStart (b .version) (b .nodes) → left ≡ b .streams → rowsFrom s left at ≡ rowsIn s
+  pub first-rows : {b : Book} {at left : ℕ} → HeaderOf s b → at ≡ rowsStart (b .version) (b .accounts) (b .nodes) → left ≡ b .streams → rowsFrom s left at ≡ rowsIn s
   first-rows h e l = ap₂ (rowsFrom s) (l ∙ h .streams) (rows-start h e) ∙ sym (rows-in s)
 
   pub no-rows : (left at : ℕ) → left ≤ 0 → rowsFrom s left at ≡ []

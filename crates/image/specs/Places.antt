@@ -11,8 +11,8 @@ use Rattle.rules.proofs.Encoding.{frontRow}
 use Rattle.rules.proofs.Reading.{rowsIn, LawfulImage}
 
 -- where the hearing stands: in a version that holds none, where the links do
-abbrev pub hearingPlace : ℕ → ℕ → ℕ
-hearingPlace v N = cond (hasHearing v) (hearingStart v N) (linksStart v)
+abbrev pub hearingPlace : ℕ → ℕ → ℕ → ℕ
+hearingPlace v A N = cond (hasHearing v) (hearingStart v A N) (linksStart v A)
 
 -- the row at the place
 unfoldable pub rowAt : List ℕ → ℕ → Row
@@ -53,7 +53,7 @@ pub record RowHere (s : List ℕ) (at : ℕ) : Type 0 where
   pub lawful : LawfulRow (siteOf s) (rowAt s at)
   pub whole : Whole s at
 
--- an image of the site of s, laid out but for the topologies: its header, and its rows from where those of s stand on
+-- an image of the site of s, laid out but for the accounts and the topologies: its header, and its rows from where those of s stand on
 pub record Laid (s image : List ℕ) (len : ℕ) (out : List ℕ) : Type 0 where
   pub long : len ≡ length image
   pub fits : len ≤ length out

@@ -1,10 +1,11 @@
-// An image's bytes: its header, its topology rows, and the rows of its streams, read where they stand.
+// An image's bytes: its header, how many accounts follow it, its topology rows, and the rows of its streams, read where they stand.
 ghost use mathlib.Core.Path.{_≡_};
 ghost use Prim.Native.Nat.{_+_, _*_, _<_, _≤_};
 ghost use lib.ListN.{length, getD, take};
 ghost use Rattle.rules.specs.Words.{Tests, TwoBytes};
 ghost use Rattle.rules.specs.Book.{hops, rowOffset};
-ghost use Rattle.rules.specs.Image.{headerLength, rowsStart, hasWide, periodPlace, hopsPlace, rowLength, imageLength, mark, Version, versionOf, wordAt, word64At};
+ghost use Rattle.rules.specs.Image.{headerLength, linksStart, rowsStart, hasWide, periodPlace, hopsPlace, rowLength, imageLength, mark, Version, versionOf, accountCountOf};
+ghost use Rattle.rules.specs.Image.{wordAt, word64At};
 ghost use Rattle.image.specs.Places.{hearingPlace, rowAt, nextAt, Whole};
 ghost use Rattle.image.specs.Header.{HeaderOf};
 use rules::Node;
@@ -19,7 +20,7 @@ pub const HEADER: usize = 16;
 pub const MARK: [u8; 3] = *b"SLB";
 
 // The newest version, in which new and changed books are written.
-pub const NEWEST: u16 = 4;
+pub const NEWEST: u16 = 5;
 
 // The first version whose rows hold their ways.
 const WAYS: u16 = 2;
@@ -30,6 +31,12 @@ const HEARING: u16 = 3;
 // The first version that holds periods in two bytes.
 const WIDE: u16 = 4;
 
+// The first version that holds accounts.
+const ACCOUNTS: u16 = 5;
+
+// The bytes of an account: its number in 2, and what it has bought in 4.
+pub const ACCOUNT: usize = 6;
+
 // The bytes of a topology row,
 pub const SET: usize = 8;
 
@@ -39,13 +46,14 @@ pub const HOP: usize = 3;
 // and of the least row beside its hops.
 const LEAST_ROW: usize = 5;
 
-// What an image's header says of its book.
+// What an image's header says of its book, and the count behind it of its accounts, in a version that holds them.
 pub struct Book {
     pub version: u16,
     pub plan: Plan,
     pub nodes: usize,
     pub streams: usize,
     pub hops: usize,
+    pub accounts: u8,
 }
 
 fn wide16(x: u8) -> u16
@@ -114,9 +122,14 @@ fn hops_place(version: u16) -> usize
 
 // The bytes of a row of a version beside its hops.
 pub fn row_length(version: u16) -> usize
-    ensures { λ r. ⌜ (r ≡ rowLength version) × (r ≤ 7) ⌝ }
+    ensures { λ r. ⌜ (r ≡ rowLength version) × (r ≤ 9) ⌝ }
 {
-    hops_place(version) + 2
+    let place = hops_place(version);
+    if version < ACCOUNTS {
+        place + 2
+    } else {
+        place + 4
+    }
 }
 
 // In a row of the image, the bytes before the period.
@@ -135,12 +148,31 @@ pub fn hops_place_in(image: &[u8]) -> usize
     hops_place(word_at(image, 3))
 }
 
+// The bytes of a row of the image beside its hops.
+fn row_length_in(image: &[u8]) -> usize
+    requires { ⌜ 5 ≤ length (now image) ⌝ }
+    ensures { λ r. ⌜ (r ≡ rowLength (versionOf (now (image .entry)))) × (r ≤ 9) ⌝ }
+{
+    row_length(word_at(image, 3))
+}
+
 // Whether the image holds its periods in two bytes.
 pub fn is_wide(image: &[u8]) -> bool
     requires { ⌜ 5 ≤ length (now image) ⌝ }
     ensures { λ r. ⌜ r ≡ hasWide (versionOf (now (image .entry))) ⌝ }
 {
     WIDE <= word_at(image, 3)
+}
+
+// How many accounts the image says right behind its header, and 0 where it ends there.
+fn account_count(image: &[u8]) -> u8
+    ensures { λ r. ⌜ r ≡ accountCountOf (now (image .entry)) ⌝ }
+{
+    if image.len() <= HEADER {
+        0
+    } else {
+        image[HEADER]
+    }
 }
 
 impl Book {
@@ -150,13 +182,16 @@ impl Book {
     // 512 hops,
     pub const HOPS: usize = 512;
 
-    // and 15 hops a route.
+    // 15 hops a route,
     pub const ROUTE_HOPS: usize = 15;
 
-    // Its longest image in the newest version.
-    pub const LONGEST: usize = 3024;
+    // and 32 accounts.
+    pub const ACCOUNTS: usize = 32;
 
-    // What the header of an image says.
+    // Its longest image in the newest version.
+    pub const LONGEST: usize = 3345;
+
+    // What the header of an image says, and the count behind it.
     pub fn read(image: &[u8]) -> Book
         requires { ⌜ headerLength ≤ length (now image) ⌝ }
         ensures { λ r. ⌜ HeaderOf (now (image .entry)) r ⌝ }
@@ -175,25 +210,38 @@ impl Book {
             nodes: count(image[11]),
             streams: count(image[12]),
             hops: long(word_at(image, 13)),
+            accounts: account_count(image),
+        }
+    }
+
+    // Where its links stand: behind the accounts, in a version that holds them.
+    pub fn links_place(self) -> usize
+        ensures { λ r. ⌜ r ≡ linksStart (self .version) (self .accounts) ⌝ }
+    {
+        if self.version < ACCOUNTS {
+            HEADER
+        } else {
+            HEADER + 1 + ACCOUNT * count(self.accounts)
         }
     }
 
     // Where its hearing stands: in a version that holds none, where the links do.
     pub fn hearing_place(self) -> usize
         requires { ⌜ self .nodes < 256 ⌝ }
-        ensures { λ r. ⌜ r ≡ hearingPlace (self .version) (self .nodes) ⌝ }
+        ensures { λ r. ⌜ r ≡ hearingPlace (self .version) (self .accounts) (self .nodes) ⌝ }
     {
+        let links = self.links_place();
         if self.version < HEARING {
-            HEADER
+            links
         } else {
-            HEADER + SET * self.nodes
+            links + SET * self.nodes
         }
     }
 
     // Where the rows of its streams start: behind the hearing.
     pub fn rows_start(self) -> usize
         requires { ⌜ self .nodes < 256 ⌝ }
-        ensures { λ r. ⌜ r ≡ rowsStart (self .version) (self .nodes) ⌝ }
+        ensures { λ r. ⌜ r ≡ rowsStart (self .version) (self .accounts) (self .nodes) ⌝ }
     {
         self.hearing_place() + SET * self.nodes
     }
@@ -201,7 +249,7 @@ impl Book {
     // The length of its image.
     pub fn image_length(self) -> usize
         requires { ⌜ (self .nodes < 256) × (self .streams < 256) × TwoBytes (self .hops) ⌝ }
-        ensures { λ r. ⌜ r ≡ imageLength (self .version) (self .nodes) (self .streams) (self .hops) ⌝ }
+        ensures { λ r. ⌜ r ≡ imageLength (self .version) (self .accounts) (self .nodes) (self .streams) (self .hops) ⌝ }
     {
         self.rows_start() + row_length(self.version) * self.streams + HOP * self.hops
     }
@@ -240,11 +288,11 @@ pub fn is_whole(image: &[u8], at: usize) -> bool
     if left < LEAST_ROW {
         return false;
     }
-    let place = hops_place_in(image);
-    if left < place + 2 {
+    let beside = row_length_in(image);
+    if left < beside {
         return false;
     }
-    place + 2 + HOP * count(image[at + place]) <= left
+    beside + HOP * count(image[at + hops_place_in(image)]) <= left
 }
 
 // The row's id.
@@ -312,6 +360,19 @@ pub fn next(image: &[u8], at: usize) -> usize
     requires { ⌜ Whole (now image) at ⌝ }
     ensures { λ r. ⌜ (r ≡ nextAt (now (image .entry)) at) × (r ≤ length (now (image .entry))) ⌝ }
 {
-    let place = hops_place_in(image);
-    at + (place + 2 + HOP * count(image[at + place]))
+    let beside = row_length_in(image);
+    at + (beside + HOP * count(image[at + hops_place_in(image)]))
+}
+
+// The account that it belongs to: in a version that holds none it is account 0.
+pub fn account_at(image: &[u8], at: usize) -> u16
+    requires { ⌜ Whole (now image) at ⌝ }
+    ensures { λ r. ⌜ (r ≡ rowAt (now (image .entry)) at .account) × TwoBytes r ⌝ }
+{
+    if word_at(image, 3) < ACCOUNTS {
+        return 0;
+    }
+    let h = hops_at(image, at);
+    let behind = hops_place_in(image) + 2;
+    word_at(image, at + (behind + HOP * h))
 }

@@ -10,10 +10,11 @@ use lib.ListN.{length, getD, set, length-append, length-set}
 use lib.Seq.{getD-set-same, getD-set-other}
 use Rattle.rules.specs.Words.{_∈_}
 use Rattle.rules.specs.Says.{Says}
-use Rattle.rules.specs.Book.{Row, key, hops, hopsInAll, LawfulRow, Pair}
+use Rattle.rules.specs.Book.{Row, key, hops, hopsInAll, mostAccounts, LawfulRow, Pair, Paid}
 use Rattle.rules.specs.Placing.{Full}
-use Rattle.rules.specs.Image.{RowFits, versionOf, planOf, FieldsInRange, siteOf, bookOf}
+use Rattle.rules.specs.Image.{RowFits, versionOf, planOf, FieldsInRange, accountsOf, siteOf, bookOf}
 use Rattle.rules.specs.Salvage.{LawfulBeside, MeetsKept, dropReasons}
+use Rattle.rules.proofs.Tests.{fails}
 use Rattle.rules.proofs.Says.{None, says-none}
 use Rattle.rules.proofs.Lists.{rising-one, total-append, in-left, in-right, in-append}
 use Rattle.rules.proofs.Saved.{Held, last-or, keep-held}
@@ -21,6 +22,7 @@ use Rattle.index.specs.Index.{IndexOf}
 use Rattle.index.specs.Marks.{Adds, Notes, HopsTake}
 use Rattle.index.proofs.Rows.{index-more, index-alike}
 use Rattle.image.specs.Places.{rowAt}
+use Rattle.accounts.specs.Lists.{LeftBy, MayDraw, DrawsMore, CanDraw}
 use Rattle.plain.specs.Plain.{RowThere}
 use Rattle.rows.specs.Walk.{RowStands}
 use Rattle.rows.specs.Pairs.{Follows}
@@ -31,14 +33,19 @@ use Rattle.judging.specs.Placed.{placed, RowMeets, RowBeside}
 use Rattle.judging.specs.Keeping.{Beside, SomeBeside, Room, StandsBeside, ReasonFor, KeptMore, Judges}
 use Rattle.judging.proofs.Holding.{each-set, found-row, row-found}
 
-module _ {s : List ℕ} (at : ℕ) {kept : Kept} {places words : List ℕ} {rows : List Row} (w : Beside s kept places words rows) where
+-- with the row behind them the rows overdraw no account, whatever rows left so much
+abbrev pub PaidWith : List ℕ → ℕ → List ℕ → Type 0
+PaidWith s at left = (rows : List Row) → LeftBy (accountsOf s) rows left → Paid (accountsOf s) (rows ++ (rowAt s at ∷ []))
+
+module _ {s : List ℕ} (at : ℕ) {kept : Kept} {places left words : List ℕ} {rows : List Row} (w : Beside s kept places left words rows) where
   -- BEHIND THE OTHERS
-  follows-beside : RowStands s at → Follows s (kept .before) (kept .last) at → LawfulBeside (versionOf s) (bookOf s rows) (rowAt s at)
-  follows-beside r f = record {
+  follows-beside : RowStands s at → Follows s (kept .before) (kept .last) at → PaidWith s at left → LawfulBeside (versionOf s) (bookOf s rows) (rowAt s at)
+  follows-beside r f p = record {
     lawful = r .lawful;
     fits = r .fits;
     above = λ x m. omega (arith, w .top x m, f .higher);
     paired = λ two. let k = f .second two in (rowAt s (kept .before), w .there (k .0), k .1);
+    paid = p rows (w .purses);
   }
 
   beside-follows : LawfulBeside (versionOf s) (bookOf s rows) (rowAt s at) → Follows s (kept .before) (kept .last) at
@@ -81,47 +88,54 @@ module _ {s : List ℕ} (at : ℕ) {kept : Kept} {places words : List ℕ} {rows
     missed n (x, m, k) = n (row-found fields r (w .placed-there) (w .known) (w .nth) (w .index) x m k)
 
 -- the row is held against those kept
-pub beside-row : {s : List ℕ} {at : ℕ} {kept : Kept} {places words : List ℕ} → FieldsInRange s → RowStands s at → SomeBeside s kept places words
+pub beside-row : {s : List ℕ} {at : ℕ} {kept : Kept} {places left words : List ℕ} → FieldsInRange s → RowStands s at → SomeBeside s kept places left words
     → RowBeside s places (kept .rows) at words
 beside-row {s} {places = places} fields row (rows, w) =
     record { fields = fields; row = row; there = w .placed-there; none-slow = λ z i k. w .index .none-slow z (placed s places i) (w .known i k) }
 
 -- no more rows are kept than a book has, and no more hops
-pub kept-small : {s : List ℕ} {kept : Kept} {places words : List ℕ} → SomeBeside s kept places words → (kept .rows ≤ 64) × (kept .hops ≤ 512)
+pub kept-small : {s : List ℕ} {kept : Kept} {places left words : List ℕ} → SomeBeside s kept places left words → (kept .rows ≤ 64) × (kept .hops ≤ 512)
 kept-small (rows, w) = (omega (arith, w .count, w .held .0 .streams), omega (arith, w .hops, w .held .0 .hops))
 
 -- THE REASONS
-module _ {s : List ℕ} {at : ℕ} {kept : Kept} {places words : List ℕ} where
-  pub not-lawful : (LawfulRow (siteOf s) (rowAt s at) → RowFits (versionOf s) (rowAt s at) → ⊥) → ReasonFor s at kept places words 15
+module _ {s : List ℕ} {at : ℕ} {kept : Kept} {places left words : List ℕ} where
+  pub not-lawful : (LawfulRow (siteOf s) (rowAt s at) → RowFits (versionOf s) (rowAt s at) → ⊥) → ReasonFor s at kept places left words 15
   not-lawful n = record { says = λ rows w. inl (λ l. n (l .lawful) (l .fits), refl); stays = λ e. absurd (omega arith) }
 
-  pub not-behind : (Follows s (kept .before) (kept .last) at → ⊥) → ReasonFor s at kept places words 15
+  pub not-behind : (Follows s (kept .before) (kept .last) at → ⊥) → ReasonFor s at kept places left words 15
   not-behind n = record { says = λ rows w. inl (λ l. n (beside-follows at w l), refl); stays = λ e. absurd (omega arith) }
 
-  module _ (r : RowStands s at) (f : Follows s (kept .before) (kept .last) at) where
-    pub no-room : (Room kept (hops (rowAt s at)) → ⊥) → ReasonFor s at kept places words 8
-    no-room n = record { says = λ rows w. inr (λ g. g (follows-beside at w r f), inl (full at w n, refl)); stays = λ e. absurd (omega arith) }
+  pub not-paid : {t : Bool} → MayDraw s at left t → t ≡ false → ReasonFor s at kept places left words 15
+  not-paid m e = record { says = λ rows w. inl (λ l. fails (m rows (w .purses)) e (l .paid), refl); stays = λ e. absurd (omega arith) }
+
+  module _ (r : RowStands s at) (f : Follows s (kept .before) (kept .last) at) (paid : PaidWith s at left) where
+    pub no-room : (Room kept (hops (rowAt s at)) → ⊥) → ReasonFor s at kept places left words 8
+    no-room n = record { says = λ rows w. inr (λ g. g (follows-beside at w r f paid), inl (full at w n, refl)); stays = λ e. absurd (omega arith) }
 
     module _ (room : Room kept (hops (rowAt s at))) (fields : FieldsInRange s) where
-      pub meets : RowMeets words s places (kept .rows) at → ReasonFor s at kept places words 16
+      pub meets : RowMeets words s places (kept .rows) at → ReasonFor s at kept places left words 16
       meets m = record {
-        says = λ rows w. inr (λ g. g (follows-beside at w r f), inr (not-full at w room, inl (found at w fields r m, refl)));
+        says = λ rows w. inr (λ g. g (follows-beside at w r f paid), inr (not-full at w room, inl (found at w fields r m, refl)));
         stays = λ e. absurd (omega arith);
       }
 
-      pub stays : (RowMeets words s places (kept .rows) at → ⊥) → ReasonFor s at kept places words 0
+      pub stays : (RowMeets words s places (kept .rows) at → ⊥) → ReasonFor s at kept places left words 0
       stays n = record {
-        says = λ rows w. inr (λ g. g (follows-beside at w r f), inr (not-full at w room, inr (missed at w fields r n, refl)));
-        stays = λ e rows w. record { row = r; lawful = follows-beside at w r f };
+        says = λ rows w. inr (λ g. g (follows-beside at w r f paid), inr (not-full at w room, inr (missed at w fields r n, refl)));
+        stays = λ e rows w. record { row = r; lawful = follows-beside at w r f paid };
       }
 
 -- ONE MORE
-module _ {s : List ℕ} {at : ℕ} {kept : Kept} {places words : List ℕ} (reason : ReasonFor s at kept places words 0) where
-  pub row-stands : SomeBeside s kept places words → RowStands s at
+module _ {s : List ℕ} {at : ℕ} {kept : Kept} {places left words : List ℕ} (reason : ReasonFor s at kept places left words 0) where
+  pub row-stands : SomeBeside s kept places left words → RowStands s at
   row-stands (rows, w) = reason .stays refl rows w .row
 
+  -- its account pays for it
+  pub can-draw : SomeBeside s kept places left words → CanDraw s at left
+  can-draw (rows, w) = (rows, w .purses, reason .stays refl rows w .lawful .paid)
+
   -- there is a place for it
-  pub place-left : SomeBeside s kept places words → kept .rows < 64
+  pub place-left : SomeBeside s kept places left words → kept .rows < 64
   place-left (rows, w) = room (decLt (kept .rows) 64)
     where
       room : Dec (kept .rows < 64) → kept .rows < 64
@@ -129,24 +143,25 @@ module _ {s : List ℕ} {at : ℕ} {kept : Kept} {places words : List ℕ} (reas
       room (no f) = absurd (says-none (dropReasons (versionOf s) (bookOf s rows) (rowAt s at)) (omega arith) (reason .says rows w) .1 .0 (inl (omega (arith, w .count))))
 
   -- it meets none of the rows kept, by the index
-  pub meets-none : FieldsInRange s → SomeBeside s kept places words → RowMeets words s places (kept .rows) at → ⊥
+  pub meets-none : FieldsInRange s → SomeBeside s kept places left words → RowMeets words s places (kept .rows) at → ⊥
   meets-none fields (rows, w) m =
       let said = says-none (dropReasons (versionOf s) (bookOf s rows) (rowAt s at)) (omega arith) (reason .says rows w) in
       said .1 .1 .0 (found at w fields (reason .stays refl rows w .row) m)
 
   -- so that its hops are all marked
-  pub marked-all : FieldsInRange s → SomeBeside s kept places words → {start : ℕ} {moduli words′ : List ℕ} {t : Bool} → RowMarked s start 0 moduli at words words′ t
+  pub marked-all : FieldsInRange s → SomeBeside s kept places left words → {start : ℕ} {moduli words′ : List ℕ} {t : Bool} → RowMarked s start 0 moduli at words words′ t
       → Adds (HopsTake (planOf s .slots) (rowAt s at) (hops (rowAt s at))) words words′
   marked-all fields some {t = true} m =
       let h = m .met .yes refl in
       absurd (meets-none fields some (h .0, h .1, ⊎-elim (λ k. inl k) (λ k. absurd (omega (arith, k .there))) (h .2)))
   marked-all fields some {t = false} m = m .adds refl
 
-  pub kept-more : FieldsInRange s → {kept′ : Kept} {places′ words′ words″ : List ℕ} {K : ℕ} → kept′ .rows ≡ kept .rows + 1 → kept′ .hops ≡ kept .hops + hops (rowAt s at)
+  pub kept-more : FieldsInRange s → {kept′ : Kept} {places′ left′ words′ words″ : List ℕ} {K : ℕ} → kept′ .rows ≡ kept .rows + 1 → kept′ .hops ≡ kept .hops + hops (rowAt s at)
       → kept′ .before ≡ at → kept′ .last ≡ key (rowAt s at) → places′ ≡ set places (kept .rows) at
       → Adds (HopsTake (planOf s .slots) (rowAt s at) (hops (rowAt s at))) words words′ → K ≡ rowAt s at .period → Notes K words′ words″
-      → KeptMore s at kept places words kept′ places′ words″
-  kept-more fields {kept′} {places′} {words′} {words″} count total here last set-there adds K-is notes rows w = record {
+      → DrawsMore s at left left′ → length left′ ≡ mostAccounts
+      → KeptMore s at kept places left words kept′ places′ left′ words″
+  kept-more fields {kept′} {places′} {words′} {words″} count total here last set-there adds K-is notes more all rows w = record {
     held = keep-held (versionOf s) (bookOf s rows) r (w .held) l (said .1 .0) (said .1 .1 .0);
     count = omega (arith, count, w .count, length-append rows (r ∷ []));
     hops = omega (arith, total, w .hops, total-append hops rows (r ∷ []));
@@ -154,9 +169,11 @@ module _ {s : List ℕ} {at : ℕ} {kept : Kept} {places words : List ℕ} (reas
     stands = λ k. subst (RowStands s) (sym here) (reason .stays refl rows w .row);
     there = λ k. subst (λ (p : ℕ). rowAt s p ∈ (rows ++ (r ∷ []))) (sym here) (in-right r rows (r ∷ []) (inl refl));
     last-key = λ k. ap (λ (p : ℕ). key (rowAt s p)) here ∙ sym last;
-    placed-there = record { each = λ i k. each i (omega (arith, k, count)); few = omega (arith, count, left, w .placed-there .room); room = size };
+    placed-there = record { each = λ i k. each i (omega (arith, k, count)); few = omega (arith, count, free, w .placed-there .room); room = size };
     known = λ i k. known i (omega (arith, k, count));
     nth = λ x m. nth x (last-or x r rows m);
+    purses = more rows (w .purses);
+    all-purses = all;
     index = index-alike turned back
         (index-more (fields .plan .most) (w .index) (l .lawful .period) adds (subst (λ (K : ℕ). Notes K words′ words″) K-is notes));
   }
@@ -170,26 +187,26 @@ module _ {s : List ℕ} {at : ℕ} {kept : Kept} {places words : List ℕ} (reas
       said : None (dropReasons (versionOf s) (bookOf s rows) r)
       said = says-none (dropReasons (versionOf s) (bookOf s rows) r) (omega arith) (reason .says rows w)
 
-      left : kept .rows < length places
-      left = omega (arith, place-left (rows, w), w .placed-there .room)
+      free : kept .rows < length places
+      free = omega (arith, place-left (rows, w), w .placed-there .room)
 
       size : length places′ ≡ 64
       size = ap length set-there ∙ length-set places (kept .rows) at ∙ w .placed-there .room
 
       each : (i : ℕ) → i < kept .rows + 1 → RowThere s (getD places′ i 0)
       each i k = subst (λ (ps : List ℕ). RowThere s (getD ps i 0)) (sym set-there)
-          (each-set (λ (j p : ℕ). RowThere s p) places (kept .rows) at left (w .placed-there .each) (row-there fields (reason .stays refl rows w .row)) i k)
+          (each-set (λ (j p : ℕ). RowThere s p) places (kept .rows) at free (w .placed-there .each) (row-there fields (reason .stays refl rows w .row)) i k)
 
       known : (i : ℕ) → i < kept .rows + 1 → placed s places′ i ∈ (rows ++ (r ∷ []))
       known i k = subst (λ (ps : List ℕ). placed s ps i ∈ (rows ++ (r ∷ []))) (sym set-there)
-          (each-set (λ (j p : ℕ). rowAt s p ∈ (rows ++ (r ∷ []))) places (kept .rows) at left (λ j h. in-left (placed s places j) rows (r ∷ []) (w .known j h))
+          (each-set (λ (j p : ℕ). rowAt s p ∈ (rows ++ (r ∷ []))) places (kept .rows) at free (λ j h. in-left (placed s places j) rows (r ∷ []) (w .known j h))
           (in-right r rows (r ∷ []) (inl refl)) i k)
 
       nth : (x : Row) → x ∈ (r ∷ rows) → (i : ℕ) × (i < kept′ .rows) × (x ≡ placed s places′ i)
       nth x (inl e) = (
         kept .rows,
         omega (arith, count),
-        e ∙ ap (rowAt s) (sym (getD-set-same places (kept .rows) at 0 left)) ∙ ap (λ (ps : List ℕ). placed s ps (kept .rows)) (sym set-there),
+        e ∙ ap (rowAt s) (sym (getD-set-same places (kept .rows) at 0 free)) ∙ ap (λ (ps : List ℕ). placed s ps (kept .rows)) (sym set-there),
       )
       nth x (inr m) =
           let q = w .nth x m in (
@@ -206,16 +223,16 @@ module _ {s : List ℕ} {at : ℕ} {kept : Kept} {places words : List ℕ} (reas
       back x m = last-or x r rows m
 
 -- JUDGED
-module _ {s : List ℕ} {at : ℕ} {kept : Kept} {places words : List ℕ} {n : ℕ} (reason : ReasonFor s at kept places words n) where
-  pub dropped : (n ≡ 0 → ⊥) → Judges s at kept places words (record { reason = n; kept = kept }) places words
+module _ {s : List ℕ} {at : ℕ} {kept : Kept} {places left words : List ℕ} {n : ℕ} (reason : ReasonFor s at kept places left words n) where
+  pub dropped : (n ≡ 0 → ⊥) → Judges s at kept places left words (record { reason = n; kept = kept }) places left words
   dropped some rows w = record {
     after = rows;
     keep = record { says = reason .says rows w; refused = λ f. refl; done = λ e. absurd (some e) };
     beside = w;
   }
 
-  pub kept-behind : n ≡ 0 → {kept′ : Kept} {places′ words′ : List ℕ} → KeptMore s at kept places words kept′ places′ words′
-      → Judges s at kept places words (record { reason = n; kept = kept′ }) places′ words′
+  pub kept-behind : n ≡ 0 → {kept′ : Kept} {places′ left′ words′ : List ℕ} → KeptMore s at kept places left words kept′ places′ left′ words′
+      → Judges s at kept places left words (record { reason = n; kept = kept′ }) places′ left′ words′
   kept-behind none more rows w = record {
     after = rows ++ (rowAt s at ∷ []);
     keep = record { says = reason .says rows w; refused = λ f. absurd (f none); done = λ e. refl };

@@ -1,5 +1,6 @@
 // Whether a row that was cut out of an image is kept beside those kept before it: each is judged by itself, against the last row
-// kept, against the counts of a book, and against the index of the rows kept, or by the plain test where that leaves one out.
+// kept, against what is left of its account, against the counts of a book, and against the index of the rows kept, or by the
+// plain test where that leaves one out.
 ghost use mathlib.Core.Path.{_≡_};
 ghost use mathlib.Core.Bool.{false};
 ghost use Prim.Native.Nat.{ℕ, _<_, _≤_};
@@ -13,6 +14,7 @@ ghost use Rattle.image.specs.Places.{rowAt, Whole};
 ghost use Rattle.meeting.specs.Meeting.{RowPlaced, HearingRead};
 ghost use Rattle.judging.specs.Placed.{placed, RowsPlaced, WeighsPlaced, AgreesPlaced, HopAgrees, RowAgrees, RowMeets, RowBeside};
 ghost use Rattle.judging.specs.Keeping.{SiteRead, HeaderRead, SomeBeside, Room, ReasonFor, KeptMore, Judges};
+use accounts::purses;
 use clash::Reach;
 use image::Book;
 use index::Repeats;
@@ -191,15 +193,19 @@ fn reason_at(
     at: usize,
     kept: Kept,
     places: &[usize; plain::ROWS],
+    left: &[u32; Book::ACCOUNTS],
     index: &[u64; index::WORDS],
 ) -> u8
-    requires { ⌜ SiteRead (now image) book (now links) (now hearing) × Whole (now image) at × SomeBeside (now image) kept (now places) (now index) ⌝ }
-    ensures { λ r. ⌜ ReasonFor (now (image .entry)) at kept (now (places .entry)) (now (index .entry)) r ⌝ }
+    requires { ⌜ SiteRead (now image) book (now links) (now hearing) × Whole (now image) at × SomeBeside (now image) kept (now places) (now left) (now index) ⌝ }
+    ensures { λ r. ⌜ ReasonFor (now (image .entry)) at kept (now (places .entry)) (now (left .entry)) (now (index .entry)) r ⌝ }
 {
-    if !rows::row_holds(image, at, book.plan, links) {
+    if !rows::row_holds(image, at, book, links) {
         return 15;
     }
     if !rows::follows(image, kept.before, kept.last, at) {
+        return 15;
+    }
+    if !purses::may_draw(image, book, at, left) {
         return 15;
     }
     if !has_room(kept, image::hops_at(image, at)) {
@@ -219,7 +225,7 @@ fn reason_at(
     0
 }
 
-// Keeps a row that no reason is given against: it is counted, its place noted, and the row put into the index.
+// Keeps a row that no reason is given against: it is counted, its place noted, it draws from its account and is put into the index.
 fn keep(
     image: &[u8],
     book: Book,
@@ -227,10 +233,11 @@ fn keep(
     at: usize,
     kept: Kept,
     places: &mut [usize; plain::ROWS],
+    left: &mut [u32; Book::ACCOUNTS],
     index: &mut [u64; index::WORDS],
 ) -> Kept
-    requires { ⌜ HeaderRead (now image) book (now hearing) × SomeBeside (now image) kept (now places) (now index) × ReasonFor (now image) at kept (now places) (now index) 0 ⌝ }
-    ensures { λ r. ⌜ KeptMore (now (image .entry)) at kept (now (places .entry)) (now (index .entry)) r (now (places .exit)) (now (index .exit)) ⌝ }
+    requires { ⌜ HeaderRead (now image) book (now hearing) × SomeBeside (now image) kept (now places) (now left) (now index) × ReasonFor (now image) at kept (now places) (now left) (now index) 0 ⌝ }
+    ensures { λ r. ⌜ KeptMore (now (image .entry)) at kept (now (places .entry)) (now (left .entry)) (now (index .entry)) r (now (places .exit)) (now (left .exit)) (now (index .exit)) ⌝ }
 {
     let period = image::period_at(image, at);
     let Place::At(place) = rules::place_of(period) else {
@@ -240,6 +247,7 @@ fn keep(
     let none = [0u16; plain::ROWS];
     meeting::row_meets(image, hearing, at, repeats, at, 0, &none, index);
     index::note(index, period);
+    purses::draw(image, book, at, left);
     let n = kept.rows;
     places[n] = at;
     Kept {
@@ -259,17 +267,18 @@ pub fn judge(
     at: usize,
     kept: Kept,
     places: &mut [usize; plain::ROWS],
+    left: &mut [u32; Book::ACCOUNTS],
     index: &mut [u64; index::WORDS],
 ) -> Judged
-    requires { ⌜ SiteRead (now image) book (now links) (now hearing) × Whole (now image) at × SomeBeside (now image) kept (now places) (now index) ⌝ }
-    ensures { λ r. ⌜ Judges (now (image .entry)) at kept (now (places .entry)) (now (index .entry)) r (now (places .exit)) (now (index .exit)) ⌝ }
+    requires { ⌜ SiteRead (now image) book (now links) (now hearing) × Whole (now image) at × SomeBeside (now image) kept (now places) (now left) (now index) ⌝ }
+    ensures { λ r. ⌜ Judges (now (image .entry)) at kept (now (places .entry)) (now (left .entry)) (now (index .entry)) r (now (places .exit)) (now (left .exit)) (now (index .exit)) ⌝ }
 {
-    let reason = reason_at(image, book, links, hearing, at, kept, places, index);
+    let reason = reason_at(image, book, links, hearing, at, kept, places, left, index);
     if reason != 0 {
         return Judged { reason, kept };
     }
     Judged {
         reason,
-        kept: keep(image, book, hearing, at, kept, places, index),
+        kept: keep(image, book, hearing, at, kept, places, left, index),
     }
 }

@@ -40,7 +40,7 @@ pub record Left (s : List ℕ) (mains at left : ℕ) : Type 0 where
   pub back : AllKeep mains (rowsFrom s left at) → BookKeepsTo mains (bookIn s)
 
 module _ {s : List ℕ} {mains : ℕ} where
-  pub left-all : {b : Book} {at left : ℕ} → HeaderOf s b → at ≡ rowsStart (b .version) (b .nodes) → left ≡ b .streams → Left s mains at left
+  pub left-all : {b : Book} {at left : ℕ} → HeaderOf s b → at ≡ rowsStart (b .version) (b .accounts) (b .nodes) → left ≡ b .streams → Left s mains at left
   left-all h e l =
       let same = first-rows s h e l in
       record { on = λ k. subst (AllKeep mains) (sym same) k; back = λ k. subst (AllKeep mains) same k }

@@ -1,17 +1,17 @@
 // Whether an image is that of a lawful book, and if not, which refusal applies first.
 ghost use Rattle.image.proofs.Marks.{Marked};
-ghost use Rattle.image.specs.Header.{HeaderOf};
+ghost use Rattle.accounts.specs.Lists.{ListRead};
 ghost use Rattle.rows.specs.Frame.{Framed};
 ghost use Rattle.lawful.specs.Verdict.{Verdict};
 use image::Book;
 
 // The number of an image whose header is in order: 11, 15, 16 or 0.
 fn body_verdict(image: &[u8], book: Book, index: &mut [u64; index::WORDS]) -> u8
-    requires { ⌜ Marked (now image) × Framed (now image) × HeaderOf (now image) book ⌝ }
+    requires { ⌜ Marked (now image) × Framed (now image) × ListRead (now image) book ⌝ }
     ensures { λ r. ⌜ Verdict (now (image .entry)) r (now (index .exit)) ⌝ }
 {
     let n = book.nodes;
-    let linked = topologies::sets(image, image::HEADER, n);
+    let linked = topologies::sets(image, book.links_place(), n);
     let heard = topologies::sets(image, book.hearing_place(), n);
     let links = &linked[..n];
     let hearing = &heard[..n];
@@ -39,6 +39,12 @@ pub fn verdict(image: &[u8], index: &mut [u64; index::WORDS]) -> u8
     }
     let book = Book::read(image);
     if !fields::fields_in_range(image, book) {
+        return 10;
+    }
+    if image.len() < book.links_place() {
+        return 14;
+    }
+    if !accounts::list_holds(image, book) {
         return 10;
     }
     if image.len() != book.image_length() {

@@ -4,27 +4,28 @@ use mathlib.Core.Logic.{_⊎_, inl, inr, ⊎-elim}
 use mathlib.Core.Bool.{Bool, true, false, cond, _&&_}
 use mathlib.Core.List.{List, [], _∷_}
 use mathlib.Core.Option.{Option, some, none}
-use Prim.Native.Nat.{ℕ, zero, suc, _+_, _<_, _≤_}
+use Prim.Native.Nat.{ℕ, zero, suc, _+_, _*_, _<_, _≤_}
 use native.Mathlib.Omega.{arith}
+use lib.Dec.{eqb, ltb}
 use lib.ListN.{length}
 use Rattle.rules.specs.Words.{_∈_, Pairwise, total, Tests}
 use Rattle.rules.specs.Says.{Says}
-use Rattle.rules.specs.Tiles.{periods}
+use Rattle.rules.specs.Tiles.{periods, repeats}
 use Rattle.rules.specs.Topology.{Topology, nodes, SoundTopology, Route, NoRoute, TooFar, hopCount, SecondPath, SecondRoute}
-use Rattle.rules.specs.Book.{Site, Row, Book, key, RisingByKey, LawfulBook, Known, hopsInAll, mostStreams, mostHops}
-use Rattle.rules.specs.Placing.{FirstPlacing, NoPlacing, Asked, Planned, NoSecond, Full, beside, NewRows, NoPlacings}
+use Rattle.rules.specs.Book.{Account, Site, Row, Book, key, RisingByKey, LawfulBook, Known, hopsInAll, mostStreams, mostHops, drawn}
+use Rattle.rules.specs.Placing.{FirstPlacing, NoPlacing, Asked, Planned, NoSecond, Full, beside, NewRows, NoPlacings, NotPaid}
 use Rattle.rules.specs.Placing.Planned.{one, two}
 use Rattle.rules.specs.Calls.{OfRoutes, Opened, Closed, Request, Made, openRefusals, requestRefusals, Work, InOrder}
 use Rattle.rules.specs.Calls.Request.{Open, Close}
-use Rattle.rules.proofs.Tests.{never, alike, tests-and, tests-or, tests-not, tests-eq, tests-le, tests-lt}
+use Rattle.rules.proofs.Tests.{never, alike, tests-and, tests-or, tests-not, tests-eq, tests-le, tests-lt, tests-member}
 use Rattle.rules.proofs.Says.{None, says-none}
 use Rattle.rules.proofs.Lists.{reordered-in, reordered-back, in-append, in-right}
 use Rattle.rules.proofs.Choice.{best-unique, planned-unique, new-unique}
 use Rattle.rules.proofs.Reading.{withRows}
 use Rattle.model.specs.Search.{linksOf, routeOf, secondOf, placingOf, andThen}
-use Rattle.model.specs.Answer.{passes, isNone, orGiven, insertAll, remove, routesOf, noSecond, rowOn, newRows, isFull, made, requestTests, requestNumber, whenDone}
+use Rattle.model.specs.Answer.{passes, isNone, orGiven, insertAll, remove, routesOf, noSecond, rowOn, newRows, isFull, isShort, made, requestTests, requestNumber, whenDone}
 use Rattle.model.specs.Answer.{bookAfter, answersOf, lastBook}
-use Rattle.model.proofs.Tests.{tests-in, tests-known}
+use Rattle.model.proofs.Tests.{tests-in, tests-known, tests-known-account}
 use Rattle.model.proofs.Searches.{Found}
 use Rattle.model.proofs.Placings.{placing-found}
 use Rattle.model.proofs.Routes.{links-found, links-some, route-found, route-only}
@@ -111,8 +112,8 @@ module _ (q : Asked) where
 
       on : (os : List ℕ) → FirstPlacing b (q .period) p os → (o : Option (List Row)) → Placed (with os) (suc way) ps o
           → Placed b way (p ∷ ps) (andThen o (λ (rs : List Row). some (rowOn q way p os ∷ rs)))
-      on os f none g = inr (rowOn q way p os, record { named = refl; nth = refl; every = refl; on = refl; placed = f }, g)
-      on os f (some rs) g = (record { named = refl; nth = refl; every = refl; on = refl; placed = f }, g)
+      on os f none g = inr (rowOn q way p os, record { named = refl; nth = refl; every = refl; on = refl; placed = f; paid-by = refl }, g)
+      on os f (some rs) g = (record { named = refl; nth = refl; every = refl; on = refl; placed = f; paid-by = refl }, g)
 
       go : (o : Option (List ℕ)) → Found (FirstPlacing b (q .period) p) (NoPlacing b (q .period) p) o
           → ((os : List ℕ) → Placed (with os) (suc way) ps (newRows (with os) q (suc way) ps))
@@ -228,6 +229,12 @@ module _ (middle : ℕ) (b : Book) (w : Workable b) where
   full-tests : (ps : List (List ℕ)) → Tests (isFull b ps) (Full b ps)
   full-tests ps = tests-or (tests-lt mostStreams (length (b .rows) + length ps)) (tests-lt mostHops (hopsInAll (b .rows) + total hopCount ps))
 
+  short-tests : (q : Asked) (ps : List (List ℕ)) → Tests (isShort b q ps) (NotPaid b q ps)
+  short-tests q ps =
+      let cost : ℕ = drawn (q .account) (b .rows) + total hopCount ps * repeats (q .period) in
+      alike (tests-member (λ (a : Account). eqb (a .number) (q .account) && ltb (a .bought) cost) (λ a. tests-and (tests-eq (a .number) (q .account)) (tests-lt (a .bought) cost)) (b .site .accounts))
+      (λ p. record { account = p .0; there = p .1; named = p .2 .0; short = p .2 .1 }) (λ n. (n .account, n .there, (n .named, n .short)))
+
   request-agrees : (q : Request) → Agree (requestTests middle b q) (requestRefusals middle b q)
   request-agrees (Close id) = (refl, tests-eq id 0, λ n1. (refl, tests-not (tests-known b id), λ n3. tt))
   request-agrees (Open q) = (
@@ -244,25 +251,33 @@ module _ (middle : ℕ) (b : Book) (w : Workable b) where
           tests-not (tests-in (q .period) periods),
           λ n6. (
             refl,
-            tests-known b (q .id),
-            λ n2. (
+            tests-not (tests-known-account (b .site .accounts) (q .account)),
+            λ n22. (
               refl,
-              tests-no-route (b .site .links) middle (q .source) (q .destination),
-              λ n7. (
+              tests-known b (q .id),
+              λ n2. (
                 refl,
-                tests-too-far (b .site .links) middle (q .source) (q .destination) n7,
-                λ n17. (
+                tests-no-route (b .site .links) middle (q .source) (q .destination),
+                λ n7. (
                   refl,
-                  tests-no-second (b .site .links) middle q (w .links-sound),
-                  λ n18. (
+                  tests-too-far (b .site .links) middle (q .source) (q .destination) n7,
+                  λ n17. (
                     refl,
-                    routes-tests q (Full b) (isFull b) full-tests,
-                    λ n8. (
+                    tests-no-second (b .site .links) middle q (w .links-sound),
+                    λ n18. (
                       refl,
-                      routes-tests q (NoPlacings b q 1) (λ ps. isNone (newRows b q 1 ps))
-                          (λ ps. tests-none (λ rs g n. rows-or-none q b 1 ps rs g n) (newRows b q 1 ps) (rows-found q b 1 ps)),
-                      λ n9.
-                          tt,
+                      routes-tests q (Full b) (isFull b) full-tests,
+                      λ n8. (
+                        refl,
+                        routes-tests q (NoPlacings b q 1) (λ ps. isNone (newRows b q 1 ps))
+                            (λ ps. tests-none (λ rs g n. rows-or-none q b 1 ps rs g n) (newRows b q 1 ps) (rows-found q b 1 ps)),
+                        λ n9. (
+                          refl,
+                          routes-tests q (NotPaid b q) (isShort b q) (short-tests q),
+                          λ n23.
+                              tt,
+                        ),
+                      ),
                     ),
                   ),
                 ),
@@ -290,14 +305,14 @@ module _ (middle : ℕ) (b : Book) (w : Workable b) where
       n = says-none (openRefusals middle q b) (omega arith) (subst (Says (openRefusals middle q b)) e (request-says (Open q)))
 
       on : (ps : List (List ℕ)) → Planned (b .site .links) middle q ps → (o : Option (List Row)) → Found (NewRows b q 1 ps) (NoPlacings b q 1 ps) o → Done q o
-      on ps g none f = absurd (n .1 .1 .1 .1 .1 .1 .1 .1 .1 .0 (ps, g, f))
-      on ps g (some new) f = (_, refl, opened q new (n .1 .1 .1 .1 .0) (ps, g, f))
+      on ps g none f = absurd (n .1 .1 .1 .1 .1 .1 .1 .1 .1 .1 .0 (ps, g, f))
+      on ps g (some new) f = (_, refl, opened q new (n .1 .1 .1 .1 .1 .0) (ps, g, f))
 
       go : (o : Option (List (List ℕ))) → Found (Planned (b .site .links) middle q) (NotPlanned (b .site .links) middle q) o
           → Done q (andThen o (newRows b q 1))
-      go none (inl (inl g)) = absurd (n .1 .1 .1 .1 .1 .1 .0 g)
-      go none (inl (inr g)) = absurd (n .1 .1 .1 .1 .1 .0 g)
-      go none (inr g) = absurd (n .1 .1 .1 .1 .1 .1 .1 .0 g)
+      go none (inl (inl g)) = absurd (n .1 .1 .1 .1 .1 .1 .1 .0 g)
+      go none (inl (inr g)) = absurd (n .1 .1 .1 .1 .1 .1 .0 g)
+      go none (inr g) = absurd (n .1 .1 .1 .1 .1 .1 .1 .1 .0 g)
       go (some ps) g = on ps g (newRows b q 1 ps) (rows-found q b 1 ps)
 
   -- its answer, and the book after it

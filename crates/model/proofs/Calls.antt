@@ -1,25 +1,25 @@
 -- What is computed meets every call's contract: each contract has a result, on every input.
 use mathlib.Core.Path.{_≡_, refl, sym, subst}
 use mathlib.Core.Logic.{inl, inr, _↔_}
-use mathlib.Core.Bool.{Bool, true, false, cond, _&&_}
+use mathlib.Core.Bool.{Bool, true, false, not, cond, _&&_}
 use mathlib.Core.List.{List, [], _∷_}
-use Prim.Native.Nat.{ℕ, zero, suc, _+_, _*_, _^_}
+use Prim.Native.Nat.{ℕ, zero, suc, _+_, _*_, _/_, _^_}
 use native.Mathlib.Omega.{arith}
-use lib.Dec.{eqb}
+use lib.Dec.{eqb, ltb}
 use lib.ListN.{length, getD, length-replicate}
-use Rattle.rules.specs.Words.{_∈_, Tests}
+use Rattle.rules.specs.Words.{FourBytes, _∈_, Tests}
 use Rattle.rules.specs.Says.{Refusal, Says}
-use Rattle.rules.specs.Tiles.{Plan, PlanInRange, cycleTiles, shortTiles}
+use Rattle.rules.specs.Tiles.{Plan, PlanInRange, shortTiles, cycleTiles}
 use Rattle.rules.specs.Topology.{nodes, NodesInRange, middles, allNodes}
-use Rattle.rules.specs.Book.{Row, Book}
+use Rattle.rules.specs.Book.{Account, Row, Book}
 use Rattle.rules.specs.Image.{newest, longestImage, encode, topologyAt, versionOf, nodesOf, linksOf, imageRefusals, Stored}
 use Rattle.rules.specs.Table.{tableLength, used, BalanceOf}
 use Rattle.rules.specs.Index.{indexLength, IndexOf, Indexed}
-use Rattle.rules.specs.Calls.{Wrote, Unchanged, Reply, SaysOf, CallOf, ReplyOf, TopologiesGiven, newBook, newRefusals, checkRefusals, rewriteRefusals}
+use Rattle.rules.specs.Calls.{Wrote, Unchanged, Reply, SaysOf, CallOf, ReplyOf, AccountsGiven, TopologiesGiven, givenAccounts, newBook, newRefusals, checkRefusals, rewriteRefusals}
 use Rattle.rules.specs.Calls.{Request, Work, InOrder, mostRequests, Beyond, postRefusals, Posted, balanceRefusals, keepsRefusals, BookKeepsTo}
-use Rattle.rules.specs.Calls.{mostTiles, PartInRange, expandRefusals}
+use Rattle.rules.specs.Calls.{mostTiles, PartInRange, expandRefusals, PastBits, purchaseRefusals, purchased, Purchase}
 use Rattle.rules.specs.Calls.{New, Check, Rewrite, Post, Serve, Expand, Balance, LinksOf, Links, Keeps}
-use Rattle.rules.proofs.Tests.{never, alike, tests-and, tests-or, tests-not, tests-eq, tests-le, tests-lt, allOf, tests-every}
+use Rattle.rules.proofs.Tests.{never, alike, tests-and, tests-or, tests-not, tests-eq, tests-le, tests-lt, tests-member, allOf, tests-every}
 use Rattle.rules.proofs.Counts.{counted}
 use Rattle.rules.proofs.Says.{None, says-none, says-unique}
 use Rattle.rules.proofs.Encoding.{stored-says}
@@ -27,18 +27,18 @@ use Rattle.rules.proofs.Written.{Bytes, length-sets-at}
 use Rattle.rules.proofs.Reading.{bookIn, LawfulImage, lawful-stored}
 use Rattle.model.specs.Test.{has, joined}
 use Rattle.model.specs.Answer.{Tested, firstNumber, whenDone, answersOf, lastBook}
-use Rattle.model.specs.Table.{partOf, dataCount, freeCount}
+use Rattle.model.specs.Table.{dataCount, freeCount, partOf}
 use Rattle.model.specs.Index.{indexOf}
-use Rattle.model.specs.Reading.{areSound, imageNumber}
-use Rattle.model.specs.Calls.{Output, put, kept, writes, numberOf, replies, newTests, new, rewriteTests, rewrite, isPartInRange, expandTests, expand}
-use Rattle.model.specs.Calls.{isBeyond, postTests, postNumber, imageAfter, someDone, postOutput, indexAfter, post, ownIndex, postOne, serve}
-use Rattle.model.specs.Calls.{balanceTests, balanceNumber, balance, linkCount, links, keepsTests, bookKeeps, keepsNumber, keeps}
+use Rattle.model.specs.Reading.{planFits, nodesFit, areSound, imageNumber}
+use Rattle.model.specs.Calls.{Output, put, kept, writes, numberOf, replies, newTests, new, rewriteTests, rewrite, expandTests, expand, isBeyond, postTests, postNumber, imageAfter}
+use Rattle.model.specs.Calls.{someDone, postOutput, indexAfter, post, ownIndex, postOne, serve, balanceTests, balanceNumber, balance, linkCount, links, keepsTests, bookKeeps}
+use Rattle.model.specs.Calls.{keepsNumber, keeps, isPartInRange, isGiven, isPast, purchaseTests, purchase}
 use Rattle.model.proofs.Firsts.{Agree, first-says}
-use Rattle.model.proofs.Tests.{tests-in, tests-has, tests-joined}
+use Rattle.model.proofs.Tests.{tests-in, tests-has, tests-joined, tests-known-account}
 use Rattle.model.proofs.Answers.{workable, in-order-computed, last-workable}
-use Rattle.model.proofs.Tables.{part-computed, balance-computed}
+use Rattle.model.proofs.Tables.{balance-computed, part-computed}
 use Rattle.model.proofs.Index.{index-computed}
-use Rattle.model.proofs.Reading.{stable, tests-plan, tests-nodes, tests-topologies, image-says, stored-in}
+use Rattle.model.proofs.Reading.{stable, tests-plan, tests-nodes, tests-topologies, tests-accounts, image-says, stored-in}
 
 -- ONE SHAPE
 
@@ -98,39 +98,50 @@ tests-given N links hearing =
     (λ p. record { links-whole = p .0; hearing-whole = p .1 .0; sound = p .1 .1 })
     (λ r. (r .links-whole, (r .hearing-whole, r .sound)))
 
-pub new-computed : (plan : Plan) (N : ℕ) (links hearing out : List ℕ)
-    → New plan N links hearing out (new plan N links hearing out .number) (new plan N links hearing out .len) (new plan N links hearing out .out)
-new-computed plan N links hearing out =
-    reply (firstNumber (newTests plan N links hearing (length out))) (encode newest (newBook plan N links hearing)) out
-    (first-says (newTests plan N links hearing (length out)) (newRefusals plan N links hearing (length out)) (
+tests-whole : (accounts : List ℕ) → Tests (isGiven accounts) (AccountsGiven accounts)
+tests-whole accounts =
+    alike (tests-and (tests-eq (length accounts) (6 * (length accounts / 6))) (tests-accounts (givenAccounts accounts)))
+    (λ p. record { whole = p .0; range = p .1 }) (λ r. (r .whole, r .range))
+
+tests-arguments : (plan : Plan) (N : ℕ) (accounts : List ℕ) → Tests (planFits plan && (nodesFit N && isGiven accounts)) (PlanInRange plan × NodesInRange N × AccountsGiven accounts)
+tests-arguments plan N accounts =
+    alike (tests-and (tests-plan plan) (tests-and (tests-nodes N) (tests-whole accounts))) (λ p. (p .0, p .1 .0, p .1 .1)) (λ p. (p .0, (p .1, p .2)))
+
+pub new-computed : (plan : Plan) (N : ℕ) (links hearing accounts out : List ℕ) → let r = new plan N links hearing accounts out in
+    New plan N links hearing accounts out (r .number) (r .len) (r .out)
+new-computed plan N links hearing accounts out =
+    reply (firstNumber (newTests plan N links hearing accounts (length out))) (encode newest (newBook plan N links hearing accounts)) out
+    (first-says (newTests plan N links hearing accounts (length out)) (newRefusals plan N links hearing accounts (length out)) (
       refl,
-      tests-not (tests-and (tests-plan plan) (tests-nodes N)),
-      λ n10. (refl, tests-not (tests-given N links hearing), λ n11. (refl, tests-lt (length out) (length (encode newest (newBook plan N links hearing))), λ n12. tt)),
+      tests-not (tests-arguments plan N accounts),
+      λ n10. (refl, tests-not (tests-given N links hearing), λ n11. (refl, tests-lt (length out) (length (encode newest (newBook plan N links hearing accounts))), λ n12. tt)),
     ))
     (λ e. refl)
 
 -- a new book is lawful
-pub new-lawful : (plan : Plan) (N : ℕ) (links hearing : List ℕ) (room : ℕ) → Says (newRefusals plan N links hearing room) 0
-    → Stored (encode newest (newBook plan N links hearing)) newest (newBook plan N links hearing)
-new-lawful plan N links hearing room h = lawful-stored (newBook plan N links hearing) record {
+pub new-lawful : (plan : Plan) (N : ℕ) (links hearing accounts : List ℕ) (room : ℕ) → Says (newRefusals plan N links hearing accounts room) 0
+    → Stored (encode newest (newBook plan N links hearing accounts)) newest (newBook plan N links hearing accounts)
+new-lawful plan N links hearing accounts room h = lawful-stored (newBook plan N links hearing accounts) record {
   site = record {
     plan = fits .0;
     nodes = subst NodesInRange (sym (length-sets-at links 0 N)) (fits .1);
     topologies = stable (tests-given N links hearing) (n .1 .0) .sound;
+    accounts = fits .2 .range;
   };
   streams = omega arith;
   hops = omega arith;
   rows = λ r m. absurd m;
   rising = tt;
   paired = λ r m. absurd m;
+  paid = λ a m. omega arith;
   never-meet = λ m. m .one-there;
 }
   where
-    n : None (newRefusals plan N links hearing room)
-    n = says-none (newRefusals plan N links hearing room) (omega arith) h
+    n : None (newRefusals plan N links hearing accounts room)
+    n = says-none (newRefusals plan N links hearing accounts room) (omega arith) h
 
-    fits : PlanInRange plan × NodesInRange N
-    fits = stable (tests-and (tests-plan plan) (tests-nodes N)) (n .0)
+    fits : PlanInRange plan × NodesInRange N × AccountsGiven accounts
+    fits = stable (tests-arguments plan N accounts) (n .0)
 
 tests-beyond : (b : Book) (mains : ℕ) → Tests (isBeyond b mains) (Beyond b mains)
 tests-beyond b mains = tests-not (tests-lt mains (2 ^ nodes (b .site .links)))
@@ -231,6 +242,24 @@ module _ (image : List ℕ) (bytes : Bytes image) where
         done : (n answer : ℕ) → n ≡ 0 → whenDone n answer n ≡ answer
         done zero answer e = refl
         done (suc n) answer e = absurd (omega arith)
+
+  module _ (account amount : ℕ) where
+    tests-past : (accounts : List Account) → Tests (isPast accounts account amount) (PastBits accounts account amount)
+    tests-past accounts =
+        alike
+        (tests-member (λ (a : Account). eqb (a .number) account && not (ltb (a .bought + amount) 4294967296))
+        (λ a. tests-and (tests-eq (a .number) account) (tests-not (tests-lt (a .bought + amount) 4294967296))) accounts)
+        (λ p. record { account = p .0; there = p .1; named = p .2 .0; past = p .2 .1 }) (λ n. (n .account, n .there, (n .named, n .past)))
+
+    pub purchase-computed : (out : List ℕ) → let r = purchase image account amount out in Purchase image account amount out (r .number) (r .len) (r .out)
+    purchase-computed out =
+        reply-of image bytes (purchaseRefusals account amount (length out)) (purchaseTests account amount (length out))
+        (λ v b w. (
+          refl,
+          tests-not (tests-known-account (b .site .accounts) account),
+          λ n22. (refl, tests-past (b .site .accounts), λ n24. (refl, tests-lt (length out) (length (encode newest (purchased account amount b))), λ n12. tt)),
+        ))
+        (λ v b. encode newest (purchased account amount b)) (λ v b w e. refl) out
 
   module _ (node : ℕ) where
     module _ (first tiles : ℕ) (out : List ℕ) where

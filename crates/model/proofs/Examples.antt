@@ -10,7 +10,7 @@ use Rattle.rules.specs.Words.{Tests}
 use Rattle.rules.specs.Topology.{allNodes, Route}
 use Rattle.rules.specs.Book.{Row, Book}
 use Rattle.rules.specs.Placing.{Asked, Planned, NewRows}
-use Rattle.rules.specs.Image.{newest, encode, Stored}
+use Rattle.rules.specs.Image.{newest, oldAccounts, encode, Stored}
 use Rattle.rules.specs.Table.{Entry}
 use Rattle.rules.specs.Calls.{Request, Work}
 use Rattle.rules.specs.Calls.Request.{Open, Close}
@@ -23,7 +23,7 @@ use Rattle.model.specs.Answer.{passes, routesOf, newRows}
 use Rattle.model.specs.Table.{cellOf}
 use Rattle.model.specs.Reading.{rowFits, isLawfulBook}
 use Rattle.model.specs.Examples.{planA, lineA, heardA, square, pair, empty, asked, askedTwo, opening, openingTwo, numberOn, SaysOn, after, rowsOn, opensWith, isStored}
-use Rattle.model.specs.Examples.{anyMiddle, after2, after3, after7, hop, operationsP9, imageP10, imageP11, heardP10, heardP11, olderP10, olderP11, oldP10, oldP11, examples, Leaves, OpensWith, ExamplesHold}
+use Rattle.model.specs.Examples.{anyMiddle, after2, after3, after7, hop, operationsP9, imageP10, imageP11, wideP10, wideP11, heardP10, heardP11, olderP10, olderP11, oldP10, oldP11, examples, Leaves, OpensWith, ExamplesHold}
 use Rattle.model.proofs.Tests.{tests-same-by, tests-same, tests-same-row, tests-on-data, tests-meets, tests-clashes}
 use Rattle.model.proofs.Routes.{route-found, route-only}
 use Rattle.model.proofs.Firsts.{tests-passes}
@@ -88,11 +88,11 @@ module _ (b : Book) (h : T (isLawfulBook b)) where
           (sameBy sameRow (rowsOn q 1 routes offsets)) (λ rs g. tests-same-by sameRow tests-same-row (rowsOn q 1 routes offsets) rs)
           (newRows b q 1 routes) (rows-found q b 1 routes)
 
--- a book whose hearing is its links, and its image
-pub stored : (s : List ℕ) (v : ℕ) (b : Book) → b .site .hearing ≡ b .site .links → isStored s v b ≡ true → Stored s v b
-stored s v b hearing e =
+-- a book whose hearing is its links, with the account of older books, and its image
+pub stored : (s : List ℕ) (v : ℕ) (b : Book) → b .site .hearing ≡ b .site .links → b .site .accounts ≡ oldAccounts → isStored s v b ≡ true → Stored s v b
+stored s v b hearing accounts e =
     let t = tests-and (tests-version v) (tests-and (tests-book b) (tests-and (tests-every (rowFits v) (tests-fits v) (b .rows)) (tests-same s (encode v b)))) .yes e in
-    record { version = t .0; lawful = t .1 .0; fits = record { rows = t .1 .1 .0; hearing = λ older. hearing }; bytes = t .1 .1 .1 }
+    record { version = t .0; lawful = t .1 .0; fits = record { rows = t .1 .1 .0; hearing = λ older. hearing; accounts = λ older. accounts }; bytes = t .1 .1 .1 }
 
 -- the theorem
 pub examples-hold : ExamplesHold
@@ -122,15 +122,17 @@ examples-hold = record {
         (tests-all (λ (slot : ℕ). eqb (cellOf after2 2 slot (after2 .rows) .operation) (getD operationsP9 slot 0))
         (λ slot. tests-eq (cellOf after2 2 slot (after2 .rows) .operation) (getD operationsP9 slot 0)) 8 .yes (holds 15) slot l) (entry-computed after2 2 slot),
   );
-  p10 = stored imageP10 newest (empty pair) refl (holds 16);
+  p10 = stored imageP10 newest (empty pair) refl refl (holds 16);
   p11 = opens-with (empty pair) tt (asked 7 1 0 2) ((1 ∷ 0 ∷ []) ∷ []) ((2 ∷ []) ∷ []) (holds 17);
-  p11-image = stored imageP11 newest after7 refl (holds 18);
-  p10-old = stored oldP10 1 (empty pair) refl (holds 19);
-  p11-old = stored oldP11 1 after7 refl (holds 20);
-  p10-older = stored olderP10 2 (empty pair) refl (holds 24);
-  p11-older = stored olderP11 2 after7 refl (holds 25);
-  p10-heard = stored heardP10 3 (empty pair) refl (holds 26);
-  p11-heard = stored heardP11 3 after7 refl (holds 27);
+  p11-image = stored imageP11 newest after7 refl refl (holds 18);
+  p10-old = stored oldP10 1 (empty pair) refl refl (holds 19);
+  p11-old = stored oldP11 1 after7 refl refl (holds 20);
+  p10-older = stored olderP10 2 (empty pair) refl refl (holds 24);
+  p11-older = stored olderP11 2 after7 refl refl (holds 25);
+  p10-heard = stored heardP10 3 (empty pair) refl refl (holds 26);
+  p11-heard = stored heardP11 3 after7 refl refl (holds 27);
+  p10-wide = stored wideP10 4 (empty pair) refl refl (holds 28);
+  p11-wide = stored wideP11 4 after7 refl refl (holds 29);
   second = opens-with (empty square) tt (askedTwo 1 0 3 2) ((0 ∷ 1 ∷ 3 ∷ []) ∷ (0 ∷ 2 ∷ 3 ∷ []) ∷ []) ((2 ∷ 3 ∷ []) ∷ (3 ∷ 5 ∷ []) ∷ []) (holds 21);
   no-second = number-says (empty lineA) tt (openingTwo 1 3 0 2) 18 (holds 22);
 }

@@ -5,7 +5,7 @@ use mathlib.Core.List.{List, [], _∷_}
 use Prim.Native.Nat.{ℕ, _*_, _/_, _^_, _<_, _≤_}
 use native.Mathlib.Omega.{arith}
 use native.Mathlib.Nat.{div-eq-of-lt, pow-le-pow-right, le-of-suc-le-suc, lt-of-not-le}
-use lib.Dec.{eqb, ltb}
+use lib.Dec.{eqb, leb, ltb}
 use lib.ListN.{length, getD, take, drop}
 use Rattle.rules.specs.Words.{Has, NoBitFrom, Pairwise, Tests}
 use Rattle.rules.specs.Says.{Says}
@@ -13,17 +13,17 @@ use Rattle.rules.specs.Tiles.{Plan, PlanInRange, tileCounts, shortPeriods, peri
 use Rattle.rules.specs.Topology.{Topology, nodes, NodesInRange, Joined, SoundTopology, SoundTopologies}
 use Rattle.rules.specs.Topology.{LinkedInTurn, Path, hopCount, middles, mostRouteHops, mostShortHops, Beside}
 use Rattle.rules.specs.Book.{Site, Row, Book, key, hops, hopsInAll, rowHop, rowOffset, RisingByKey, LawfulSite, LawfulRow, RowsMeet, ClashingHopsMeet}
-use Rattle.rules.specs.Book.{mostStreams, mostHops, Pair, Paired, LawfulBook}
-use Rattle.rules.specs.Image.{newest, Version, hasWays, hasWide, RowFits, mark, inTurn, encodeRow, headerLength, statedLength, versionOf, planOf, nodesOf, streamsOf, hopsOf}
-use Rattle.rules.specs.Image.{linksOf, hearingOf, siteOf, bookOf, rowsPlace, FieldsInRange, RowsOf, imageRefusals}
+use Rattle.rules.specs.Book.{Account, mostStreams, mostHops, mostAccounts, AccountsInRange, Pair, Paired, drawn, Paid, LawfulBook}
+use Rattle.rules.specs.Image.{newest, Version, hasWays, hasWide, hasAccounts, RowFits, mark, inTurn, encodeRow, headerLength, statedLength, versionOf, planOf, nodesOf, streamsOf, hopsOf}
+use Rattle.rules.specs.Image.{accountsOf, linksPlace, linksOf, hearingOf, siteOf, bookOf, rowsPlace, FieldsInRange, RowsOf, imageRefusals}
 use Rattle.rules.proofs.Tests.{never, alike, tests-and, tests-not, tests-eq, tests-le, tests-lt, allBelow, tests-all, tests-some, someOf, tests-member, tests-every}
 use Rattle.rules.proofs.Says.{None, says-none}
 use Rattle.rules.proofs.Written.{Bytes, stored}
 use Rattle.rules.proofs.Reading.{rowsIn, bookIn, rows-are, LawfulImage}
 use Rattle.model.specs.Test.{joined, onData}
-use Rattle.model.specs.Reading.{isVersion, planFits, nodesFit, fieldsFit, whereJoined, isSound, areSound, isLawfulSite, allPairs, allLinked, isPath, isLawful}
-use Rattle.model.specs.Reading.{isRising, rowFits, isBeside, isPair, isPaired, rowsHold, rowsMeet, clashingHopsMeet, isLawfulBook, imageTests, imageNumber}
-use Rattle.model.proofs.Tests.{tests-same, tests-if, tests-in, tests-joined, tests-on-data, tests-meets-clashing}
+use Rattle.model.specs.Reading.{isVersion, planFits, nodesFit, fieldsFit, whereJoined, isSound, areSound, accountsFit, isLawfulSite, allPairs, allLinked, isPath, isLawful}
+use Rattle.model.specs.Reading.{isRising, rowFits, isBeside, isPair, isPaired, allPaid, rowsHold, rowsMeet, clashingHopsMeet, isLawfulBook, imageTests, imageNumber}
+use Rattle.model.proofs.Tests.{tests-same, tests-if, tests-in, tests-joined, tests-on-data, tests-meets-clashing, tests-known-account}
 use Rattle.model.proofs.Firsts.{first-says}
 
 -- what is tested and not false is true
@@ -98,11 +98,22 @@ tests-topologies links hearing =
     })
     (λ r. (r .links-sound, (r .hearing-sound, (r .even, λ a b l m. r .heard a b l))))
 
+pub tests-accounts : (accounts : List Account) → Tests (accountsFit accounts) (AccountsInRange accounts)
+tests-accounts accounts =
+    alike
+    (tests-and (tests-le 1 (length accounts)) (tests-and (tests-le (length accounts) mostAccounts)
+    (tests-and (tests-pairs (λ (a c : Account). a .number < c .number) (λ a c. ltb (a .number) (c .number)) (λ a c. tests-lt (a .number) (c .number)) accounts)
+    (tests-and (tests-every (λ a. ltb (a .number) 65536) (λ a. tests-lt (a .number) 65536) accounts)
+    (tests-every (λ a. ltb (a .bought) 4294967296) (λ a. tests-lt (a .bought) 4294967296) accounts)))))
+    (λ p. record { some = p .0; most = p .1 .0; rising = p .1 .1 .0; number = p .1 .1 .1 .0; bought = p .1 .1 .1 .1 })
+    (λ r. (r .some, (r .most, (r .rising, (r .number, r .bought)))))
+
 pub tests-site : (site : Site) → Tests (isLawfulSite site) (LawfulSite site)
 tests-site site =
-    alike (tests-and (tests-plan (site .plan)) (tests-and (tests-nodes (nodes (site .links))) (tests-topologies (site .links) (site .hearing))))
-    (λ p. record { plan = p .0; nodes = p .1 .0; topologies = p .1 .1 })
-    (λ r. (r .plan, (r .nodes, r .topologies)))
+    alike (tests-and (tests-plan (site .plan)) (tests-and (tests-nodes (nodes (site .links)))
+    (tests-and (tests-topologies (site .links) (site .hearing)) (tests-accounts (site .accounts)))))
+    (λ p. record { plan = p .0; nodes = p .1 .0; topologies = p .1 .1 .0; accounts = p .1 .1 .1 })
+    (λ r. (r .plan, (r .nodes, (r .topologies, r .accounts))))
 
 -- ROWS
 tests-in-turn : (T : Topology) (p : List ℕ) → Tests (allLinked T p) (LinkedInTurn T p)
@@ -125,7 +136,8 @@ tests-lawful site r =
     (tests-and (tests-in (r .period) periods) (tests-and (tests-path (site .links) (r .route)) (tests-and (tests-le (hops r) mostRouteHops)
     (tests-and (tests-and (tests-eq (length (r .offsets)) (hops r)) (tests-and (tests-pairs _<_ ltb tests-lt (r .offsets))
     (tests-every (λ o. ltb o (r .period * site .plan .slots)) (λ o. tests-lt o (r .period * site .plan .slots)) (r .offsets))))
-    (tests-every (onData (site .plan) (r .period)) (tests-on-data (site .plan) (r .period)) (r .offsets))))))))))
+    (tests-and (tests-every (onData (site .plan) (r .period)) (tests-on-data (site .plan) (r .period)) (r .offsets))
+    (tests-known-account (site .accounts) (r .account)))))))))))
     (λ p. record {
       id-some = p .0;
       id-most = p .1 .0;
@@ -135,11 +147,12 @@ tests-lawful site r =
       route = p .1 .1 .1 .1 .1 .0;
       route-most = p .1 .1 .1 .1 .1 .1 .0;
       offsets = record { count = p .1 .1 .1 .1 .1 .1 .1 .0 .0; rising = p .1 .1 .1 .1 .1 .1 .1 .0 .1 .0; within = p .1 .1 .1 .1 .1 .1 .1 .0 .1 .1 };
-      on-data = p .1 .1 .1 .1 .1 .1 .1 .1;
+      on-data = p .1 .1 .1 .1 .1 .1 .1 .1 .0;
+      account = p .1 .1 .1 .1 .1 .1 .1 .1 .1;
     })
     (λ l. (
       l .id-some,
-      (l .id-most, (l .way-some, (l .way-most, (l .period, (l .route, (l .route-most, ((l .offsets .count, (l .offsets .rising, l .offsets .within)), l .on-data))))))),
+      (l .id-most, (l .way-some, (l .way-most, (l .period, (l .route, (l .route-most, ((l .offsets .count, (l .offsets .rising, l .offsets .within)), (l .on-data, l .account)))))))),
     ))
 
 pub tests-rising : (rows : List Row) → Tests (isRising rows) (RisingByKey rows)
@@ -152,8 +165,9 @@ tests-older false h = record { yes = λ e f. h .yes e; back = λ f. h .back (f r
 
 pub tests-fits : (v : ℕ) (r : Row) → Tests (rowFits v r) (RowFits v r)
 tests-fits v r =
-    alike (tests-and (tests-older (hasWays v) (tests-eq (r .way) 1)) (tests-older (hasWide v) (tests-in (r .period) shortPeriods)))
-    (λ f. record { one-way = f .0; short = f .1 }) (λ f. (f .one-way, f .short))
+    alike (tests-and (tests-older (hasWays v) (tests-eq (r .way) 1)) (tests-and (tests-older (hasWide v) (tests-in (r .period) shortPeriods))
+    (tests-older (hasAccounts v) (tests-eq (r .account) 0))))
+    (λ f. record { one-way = f .0; short = f .1 .0; old-account = f .1 .1 }) (λ f. (f .one-way, (f .short, f .old-account)))
 
 -- PAIRS
 tests-beside : (first p : List ℕ) → Tests (isBeside first p) (Beside first p)
@@ -169,30 +183,34 @@ tests-pair r x =
     alike
     (tests-and (tests-eq (r .id) (x .id)) (tests-and (tests-eq (r .way) 1) (tests-and (tests-eq (r .period) (x .period))
     (tests-and (tests-eq (getD (r .route) 0 0) (getD (x .route) 0 0)) (tests-and (tests-eq (getD (r .route) (hops r) 0) (getD (x .route) (hops x) 0))
-    (tests-beside (r .route) (x .route)))))))
-    (λ p. record { id = p .0; first = p .1 .0; period = p .1 .1 .0; starts = p .1 .1 .1 .0; ends = p .1 .1 .1 .1 .0; beside = p .1 .1 .1 .1 .1 })
-    (λ p. (p .id, (p .first, (p .period, (p .starts, (p .ends, p .beside))))))
+    (tests-and (tests-beside (r .route) (x .route)) (tests-eq (r .account) (x .account))))))))
+    (λ p. record { id = p .0; first = p .1 .0; period = p .1 .1 .0; starts = p .1 .1 .1 .0; ends = p .1 .1 .1 .1 .0; beside = p .1 .1 .1 .1 .1 .0; account = p .1 .1 .1 .1 .1 .1 })
+    (λ p. (p .id, (p .first, (p .period, (p .starts, (p .ends, (p .beside, p .account)))))))
 
 pub tests-paired : (rows : List Row) (x : Row) → Tests (isPaired rows x) (Paired rows x)
 tests-paired rows x = tests-if (tests-eq (x .way) 2) (tests-member (λ r. isPair r x) (λ r. tests-pair r x) rows)
+
+pub tests-paid : (accounts : List Account) (rows : List Row) → Tests (allPaid accounts rows) (Paid accounts rows)
+tests-paid accounts rows = tests-every (λ a. leb (drawn (a .number) rows) (a .bought)) (λ a. tests-le (drawn (a .number) rows) (a .bought)) accounts
 
 pub tests-rows : (s : List ℕ) (rows : List Row) → Tests (rowsHold s rows) (RowsOf s rows)
 tests-rows s rows =
     alike
     (tests-and (tests-eq (length rows) (streamsOf s)) (tests-and (tests-every (isLawful (siteOf s)) (tests-lawful (siteOf s)) rows)
     (tests-and (tests-every (rowFits (versionOf s)) (tests-fits (versionOf s)) rows) (tests-and (tests-rising rows)
-    (tests-and (tests-every (isPaired rows) (tests-paired rows) rows) (tests-and (tests-eq (hopsInAll rows) (hopsOf s))
-    (tests-same (drop (rowsPlace s) s) (inTurn (encodeRow (versionOf s)) rows))))))))
+    (tests-and (tests-every (isPaired rows) (tests-paired rows) rows) (tests-and (tests-paid (accountsOf s) rows) (tests-and (tests-eq (hopsInAll rows) (hopsOf s))
+    (tests-same (drop (rowsPlace s) s) (inTurn (encodeRow (versionOf s)) rows)))))))))
     (λ p. record {
       count = p .0;
       lawful = p .1 .0;
       fits = p .1 .1 .0;
       rising = p .1 .1 .1 .0;
       paired = p .1 .1 .1 .1 .0;
-      hops = p .1 .1 .1 .1 .1 .0;
-      fill = p .1 .1 .1 .1 .1 .1;
+      paid = p .1 .1 .1 .1 .1 .0;
+      hops = p .1 .1 .1 .1 .1 .1 .0;
+      fill = p .1 .1 .1 .1 .1 .1 .1;
     })
-    (λ r. (r .count, (r .lawful, (r .fits, (r .rising, (r .paired, (r .hops, r .fill)))))))
+    (λ r. (r .count, (r .lawful, (r .fits, (r .rising, (r .paired, (r .paid, (r .hops, r .fill))))))))
 
 pub tests-no-rows : (s : List ℕ) → Tests (not (rowsHold s (rowsIn s))) ((rows : List Row) → RowsOf s rows → ⊥)
 tests-no-rows s =
@@ -219,7 +237,8 @@ tests-book b =
     alike
     (tests-and (tests-site (b .site)) (tests-and (tests-and (tests-le (length (b .rows)) mostStreams) (tests-le (hopsInAll (b .rows)) mostHops))
     (tests-and (tests-every (isLawful (b .site)) (tests-lawful (b .site)) (b .rows)) (tests-and (tests-rising (b .rows))
-    (tests-and (tests-every (isPaired (b .rows)) (tests-paired (b .rows)) (b .rows)) (tests-not (tests-meet b)))))))
+    (tests-and (tests-every (isPaired (b .rows)) (tests-paired (b .rows)) (b .rows))
+    (tests-and (tests-paid (b .site .accounts) (b .rows)) (tests-not (tests-meet b))))))))
     (λ p. record {
       site = p .0;
       streams = p .1 .0 .0;
@@ -227,9 +246,10 @@ tests-book b =
       rows = p .1 .1 .0;
       rising = p .1 .1 .1 .0;
       paired = p .1 .1 .1 .1 .0;
-      never-meet = p .1 .1 .1 .1 .1;
+      paid = p .1 .1 .1 .1 .1 .0;
+      never-meet = p .1 .1 .1 .1 .1 .1;
     })
-    (λ l. (l .site, ((l .streams, l .hops), (l .rows, (l .rising, (l .paired, l .never-meet))))))
+    (λ l. (l .site, ((l .streams, l .hops), (l .rows, (l .rising, (l .paired, (l .paid, l .never-meet)))))))
 
 -- THE IMAGE
 pub image-says : (s : List ℕ) → Says (imageRefusals s) (imageNumber s)
@@ -245,15 +265,23 @@ image-says s =
           tests-not (tests-fields s),
           λ n3. (
             refl,
-            tests-not (tests-eq (length s) (statedLength s)),
+            tests-lt (length s) (linksPlace s),
             λ n4. (
               refl,
-              tests-not (tests-topologies (linksOf s) (hearingOf s)),
+              tests-not (tests-accounts (accountsOf s)),
               λ n5. (
                 refl,
-                tests-no-rows s,
-                λ n6.
-                    (refl, meet n6, λ n7. tt),
+                tests-not (tests-eq (length s) (statedLength s)),
+                λ n6. (
+                  refl,
+                  tests-not (tests-topologies (linksOf s) (hearingOf s)),
+                  λ n7. (
+                    refl,
+                    tests-no-rows s,
+                    λ n8.
+                        (refl, meet n8, λ n9. tt),
+                  ),
+                ),
               ),
             ),
           ),
@@ -262,16 +290,16 @@ image-says s =
     )
   where
     meet : (((rows : List Row) → RowsOf s rows → ⊥) → ⊥) → Tests (clashingHopsMeet (bookIn s)) ((rows : List Row) × RowsOf s rows × ClashingHopsMeet (bookOf s rows))
-    meet n6 =
-        alike (tests-meet (bookIn s)) (λ m. (rowsIn s, stable (tests-rows s (rowsIn s)) (λ f. n6 (tests-no-rows s .yes (tests-not (tests-rows s (rowsIn s)) .back f))), m))
+    meet held =
+        alike (tests-meet (bookIn s)) (λ m. (rowsIn s, stable (tests-rows s (rowsIn s)) (λ f. held (tests-no-rows s .yes (tests-not (tests-rows s (rowsIn s)) .back f))), m))
         (λ p. subst (λ (rows : List Row). ClashingHopsMeet (bookOf s rows)) (sym (rows-are s (p .0) (p .1))) (p .2))
 
 -- where the image's number is 0 it holds the book that is read
 pub stored-in : (s : List ℕ) → Bytes s → imageNumber s ≡ 0 → LawfulImage s
 stored-in s bytes e =
     stored s bytes (rowsIn s) (le-of-suc-le-suc (lt-of-not-le (n .0))) (known .0) (known .1) (stable (tests-fields s) (n .1 .1 .0))
-    (stable (tests-eq (length s) (statedLength s)) (n .1 .1 .1 .0)) (stable (tests-topologies (linksOf s) (hearingOf s)) (n .1 .1 .1 .1 .0)) rows
-    (λ m. n .1 .1 .1 .1 .1 .1 .0 (rowsIn s, rows, m))
+    (stable (tests-accounts (accountsOf s)) (n .1 .1 .1 .1 .0)) (stable (tests-eq (length s) (statedLength s)) (n .1 .1 .1 .1 .1 .0))
+    (stable (tests-topologies (linksOf s) (hearingOf s)) (n .1 .1 .1 .1 .1 .1 .0)) rows (λ m. n .1 .1 .1 .1 .1 .1 .1 .1 .0 (rowsIn s, rows, m))
   where
     n : None (imageRefusals s)
     n = says-none (imageRefusals s) (omega arith) (subst (Says (imageRefusals s)) e (image-says s))
@@ -280,4 +308,4 @@ stored-in s bytes e =
     known = stable (tests-and (tests-same (take 3 s) mark) (tests-version (versionOf s))) (n .1 .0)
 
     rows : RowsOf s (rowsIn s)
-    rows = stable (tests-rows s (rowsIn s)) (λ f. n .1 .1 .1 .1 .1 .0 (tests-no-rows s .yes (tests-not (tests-rows s (rowsIn s)) .back f)))
+    rows = stable (tests-rows s (rowsIn s)) (λ f. n .1 .1 .1 .1 .1 .1 .1 .0 (tests-no-rows s .yes (tests-not (tests-rows s (rowsIn s)) .back f)))

@@ -11,14 +11,14 @@ use lib.ListN.{length, getD, drop}
 use Rattle.rules.specs.Words.{_∈_, Has, Tests}
 use Rattle.rules.specs.Tiles.{Plan, cycleTiles, Data, Takes, Meet, Gcd, repeats}
 use Rattle.rules.specs.Topology.{Topology, Joined, Hop, Touches, Clash}
-use Rattle.rules.specs.Book.{Site, Row, Book, hops, rowHop, rowOffset, OnData, MeetsClashing, Known}
+use Rattle.rules.specs.Book.{Account, Site, Row, Book, hops, rowHop, rowOffset, KnownAccount, OnData, MeetsClashing, Known}
 use Rattle.rules.specs.Placing.{Free}
 use Rattle.rules.proofs.Tests.{never, alike, tests-and, tests-or, tests-not, tests-eq, tests-lt, tests-all, tests-some, someBelow, someOf, tests-member}
 use Rattle.rules.proofs.Bezout.{gcd-zero, gcd-step}
 use Rattle.rules.proofs.Meeting.{meet-iff}
 use Rattle.rules.proofs.Plans.{on-data-tests}
 use Rattle.rules.proofs.Slots.{isData, takes, tests-data, tests-takes, tests-touches}
-use Rattle.model.specs.Test.{sameBy, same, sameRow, has, joined, clashes, turnsOf, onData, gcdOf, isRuled, meets, meetsClashing, isFree, isKnown}
+use Rattle.model.specs.Test.{sameBy, same, sameRow, has, joined, clashes, turnsOf, onData, gcdOf, isRuled, meets, meetsClashing, isFree, isKnown, isKnownAccount}
 
 -- LISTS
 module _ {A : Type 0} (f : A → A → Bool) (h : (x y : A) → Tests (f x y) (x ≡ y)) where
@@ -36,11 +36,11 @@ pub tests-same-row : (r x : Row) → Tests (sameRow r x) (r ≡ x)
 tests-same-row r x =
     alike
     (tests-and (tests-eq (r .id) (x .id)) (tests-and (tests-eq (r .way) (x .way)) (tests-and (tests-eq (r .period) (x .period))
-    (tests-and (tests-same (r .route) (x .route)) (tests-same (r .offsets) (x .offsets))))))
-    (λ p i. record { id = p .0 i; way = p .1 .0 i; period = p .1 .1 .0 i; route = p .1 .1 .1 .0 i; offsets = p .1 .1 .1 .1 i })
+    (tests-and (tests-same (r .route) (x .route)) (tests-and (tests-same (r .offsets) (x .offsets)) (tests-eq (r .account) (x .account)))))))
+    (λ p i. record { id = p .0 i; way = p .1 .0 i; period = p .1 .1 .0 i; route = p .1 .1 .1 .0 i; offsets = p .1 .1 .1 .1 .0 i; account = p .1 .1 .1 .1 .1 i })
     (λ e. (
       ap (λ (v : Row). v .id) e,
-      (ap (λ (v : Row). v .way) e, (ap (λ (v : Row). v .period) e, (ap (λ (v : Row). v .route) e, ap (λ (v : Row). v .offsets) e))),
+      (ap (λ (v : Row). v .way) e, (ap (λ (v : Row). v .period) e, (ap (λ (v : Row). v .route) e, (ap (λ (v : Row). v .offsets) e, ap (λ (v : Row). v .account) e)))),
     ))
 
 -- a test of what follows from another
@@ -155,3 +155,8 @@ tests-known b id =
     alike (tests-member (λ r. eqb (r .id) id) (λ r. tests-eq (r .id) id) (b .rows))
     (λ p. record { row = p .0; there = p .1; named = p .2 })
     (λ k. (k .row, k .there, k .named))
+
+pub tests-known-account : (accounts : List Account) (n : ℕ) → Tests (isKnownAccount accounts n) (KnownAccount accounts n)
+tests-known-account accounts n =
+    alike (tests-member (λ a. eqb (a .number) n) (λ a. tests-eq (a .number) n) accounts) (λ p. record { account = p .0; there = p .1; named = p .2 })
+    (λ k. (k .account, k .there, k .named))

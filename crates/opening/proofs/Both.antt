@@ -52,8 +52,9 @@ puttable {s} w routes f e =
 
 -- a placed route with room for its row can be put in and marked
 pub one-kept : {s words : List ℕ} {book : Book} {q : Asked} {place at : ℕ} {hearing route offsets : List ℕ} → RouteBeside s words book q place at hearing route
-    → FirstPlacing (bookIn s) (q .period) route offsets → (Full (bookIn s) (route ∷ []) → ⊥) → OneKept s words q (book .plan .slots .0) place at route offsets
+    → FirstPlacing (bookIn s) (q .period) route offsets → (Full (bookIn s) (route ∷ []) → ⊥) → OneKept s words book q place at route offsets
 one-kept {s} {route = route} w p f = record {
+  new = w .new;
   put = (puttable (w .new) (route ∷ []) f (omega (arith, p .placing .offsets-hold .count)), route-parts w (p .placing .offsets-hold));
   marked = record {
     slots-are = route-slots w;
@@ -66,11 +67,12 @@ one-kept {s} {route = route} w p f = record {
 -- and the second beside the first
 pub two-kept : {s words : List ℕ} {book : Book} {q : Asked} {place at : ℕ} {hearing first offsets second others : List ℕ}
     → (w : PlacedBeside s words book q place at hearing first offsets second) → FirstPlacing (beside (rowOn q 1 first offsets) (bookIn s)) (q .period) second others
-    → TwoKept s words q (book .plan .slots .0) place at first offsets second others
+    → TwoKept s words book q place at first offsets second others
 two-kept {s} {first = first} {second = second} w p =
     let r = w .routes in
     let h = w .placed .placing .offsets-hold in
     record {
+      new = r .first-route .new;
       put = (
         puttable (r .first-route .new) (first ∷ second ∷ []) (w .room) (omega (arith, h .count, p .placing .offsets-hold .count)),
         route-parts (r .first-route) h,

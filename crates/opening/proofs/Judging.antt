@@ -9,7 +9,7 @@ use Rattle.rules.specs.Tiles.{Period, periodAt}
 use Rattle.rules.specs.Periods.{InList}
 use Rattle.rules.specs.Topology.{nodes}
 use Rattle.rules.specs.Placing.{Asked}
-use Rattle.rules.specs.Image.{linksStart, versionOf, planOf, nodesOf, linksOf}
+use Rattle.rules.specs.Image.{linksPlace, versionOf, planOf, nodesOf, linksOf}
 use Rattle.rules.specs.Calls.{askedRefusals, openRefusals, Opened}
 use Rattle.rules.specs.Calls.Request.{Open}
 use Rattle.rules.proofs.Says.{None}
@@ -51,7 +51,7 @@ module _ (q : Asked) (N : ℕ) where
 
 -- ON A BOOK: what was judged by the nodes that the header gives
 known-nodes : {s : List ℕ} {book : head.Book} → HeaderOf s book → book .nodes ≡ nodes (linksOf s)
-known-nodes {s} h = h .nodes ∙ sym (length-sets-at s (linksStart (versionOf s)) (nodesOf s))
+known-nodes {s} h = h .nodes ∙ sym (length-sets-at s (linksPlace s) (nodesOf s))
 
 -- an outcome of all refusals of the open is what the open does
 works : {s out words : List ℕ} {q : Asked} {mains number len : ℕ}

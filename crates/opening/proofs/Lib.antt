@@ -7,3 +7,4 @@ pub mod Placed
 pub mod Both
 pub mod Seconds
 pub mod Keeping
+pub mod Costs

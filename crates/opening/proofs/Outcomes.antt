@@ -35,7 +35,11 @@ module _ {R : Book → Type 0} {s out words : List ℕ} {n len : ℕ} where
 pub kept-alike : {R R′ : Book → Type 0} {s out words : List ℕ} {len : ℕ} → ((c : Book) → R c → R′ c) → Kept R s len out words → Kept R′ s len out words
 kept-alike f k = record { after = k .after; is = f (k .after) (k .is); laid = k .laid; index = k .index }
 
+pub out-more : {rs : List Refusal} {R R′ : Book → Type 0} {s out words : List ℕ} {n len : ℕ} → ((c : Book) → R c → R′ c) → Outcome rs R s n len out words
+    → Outcome rs R′ s n len out words
+out-more f r = record { says = r .says; refused = r .refused; done = λ z. kept-alike f (r .done z) }
+
 -- refusals that apply alike, and a book that is as well what was asked
 pub out-alike : {R R′ : Book → Type 0} {s out words : List ℕ} {n len : ℕ} (rs ss : List Refusal) → Alike rs ss → ((c : Book) → R c → R′ c)
     → Outcome rs R s n len out words → Outcome ss R′ s n len out words
-out-alike {n = n} rs ss a f r = record { says = same-says rs ss n a (r .says); refused = r .refused; done = λ z. kept-alike f (r .done z) }
+out-alike {n = n} rs ss a f r = let m = out-more f r in record { says = same-says rs ss n a (m .says); refused = m .refused; done = m .done }

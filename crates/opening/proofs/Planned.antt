@@ -6,7 +6,7 @@ use native.Mathlib.Omega.{arith}
 use lib.ListN.{length, take}
 use Rattle.rules.specs.Topology.{Topology, nodes, Route}
 use Rattle.rules.specs.Topology as topologies
-use Rattle.rules.specs.Image.{linksStart, versionOf, nodesOf, setsAt, linksOf}
+use Rattle.rules.specs.Image.{linksStart, linksPlace, versionOf, nodesOf, setsAt, linksOf}
 use Rattle.rules.specs.Placing as placing
 use Rattle.rules.proofs.Written.{length-sets-at}
 use Rattle.rules.proofs.Reading.{LawfulImage}
@@ -14,6 +14,7 @@ use Rattle.image.specs.Header.{HeaderOf}
 use Rattle.image.specs.Places.{Sets}
 use Rattle.image.specs.declared.Book as head
 use Rattle.image.proofs.Stands.{stored-length}
+use Rattle.image.proofs.Topologies.{links-there, links-sets}
 use Rattle.bitset.specs.Rows.{topology}
 use Rattle.routes.specs.Planner.{Asked, Says, PlannerSays}
 use Rattle.routes.specs.declared.Planned.{Planned}
@@ -32,7 +33,7 @@ hops-most T middle source destination r w = go (r .reach) w
 
 module _ {s : List ℕ} (h : LawfulImage s) where
   pub known : nodes (linksOf s) ≡ nodesOf s
-  known = length-sets-at s (linksStart (versionOf s)) (nodesOf s)
+  known = length-sets-at s (linksPlace s) (nodesOf s)
 
   pub nodes-few : nodes (linksOf s) ≤ 64
   nodes-few = h .lawful .site .nodes .1
@@ -44,8 +45,12 @@ module _ {s words : List ℕ} {book : head.Book} {q : placing.Asked} {place : �
   pub nodes-most : book .nodes ≤ 64
   nodes-most = omega (arith, w .header .nodes, known lawful, nodes-few lawful)
 
-  pub links-inside : linksStart (versionOf s) + 8 * book .nodes ≤ length s
-  links-inside = omega (arith, w .header .nodes, stored-length lawful)
+  module _ {at : ℕ} (e : at ≡ linksStart (book .version) (book .accounts)) where
+    pub links-inside : at + 8 * book .nodes ≤ length s
+    links-inside = omega (arith, links-there (w .header) e, w .header .nodes, stored-length lawful)
+
+    pub links-decoded : {rows : List ℕ} → Sets s at (book .nodes) rows → Sets s (linksPlace s) (book .nodes) rows
+    links-decoded = links-sets (w .header) e
 
   asked-book : Asked (linksOf s) (q .source) (q .destination)
   asked-book = record {
@@ -56,9 +61,9 @@ module _ {s words : List ℕ} {book : head.Book} {q : placing.Asked} {place : �
     apart = w .apart;
   }
 
-  module _ {rows : List ℕ} (l : Sets s (linksStart (versionOf s)) (book .nodes) rows) where
+  module _ {rows : List ℕ} (l : Sets s (linksPlace s) (book .nodes) rows) where
     pub same-links : take (book .nodes) rows ≡ linksOf s .rows
-    same-links = l .rows ∙ ap (setsAt s (linksStart (versionOf s))) (w .header .nodes)
+    same-links = l .rows ∙ ap (setsAt s (linksPlace s)) (w .header .nodes)
 
     pub same-topology : topology (take (book .nodes) rows) ≡ linksOf s
     same-topology = ap topology same-links

@@ -11,7 +11,7 @@ use Rattle.rules.specs.Words.{Tests, total}
 use Rattle.rules.specs.Says.{Refusal, _when_}
 use Rattle.rules.specs.Topology.{Topology, Route, NoRoute, TooFar, SecondPath, hopCount}
 use Rattle.rules.specs.Book.{Row, Book, mostStreams, mostHops, hopsInAll}
-use Rattle.rules.specs.Placing.{Asked, Planned, NoSecond, FirstPlacing, NoPlacings, Full, NewRow, beside, NewRows}
+use Rattle.rules.specs.Placing.{Asked, Planned, NoSecond, FirstPlacing, NoPlacings, Full, NewRow, beside, NewRows, NotPaid}
 use Rattle.rules.specs.Placing.Planned.{one, two}
 use Rattle.rules.specs.Image.{planOf, streamsOf, hopsOf}
 use Rattle.rules.specs.Calls.{OfRoutes, Opened}
@@ -26,7 +26,7 @@ use Rattle.index.specs.Index.{IndexOf}
 use Rattle.adding.specs.Puts.{rowOn}
 use Rattle.opening.specs.Keeping.{Keeps}
 use Rattle.opening.specs.Open.{OpenedOn, routedRefusals, Routed, OpensNew}
-use Rattle.opening.proofs.Outcomes.{out-refused, out-next, out-done, out-alike, kept-alike}
+use Rattle.opening.proofs.Outcomes.{out-refused, out-next, out-more, out-alike}
 
 -- rows that are placed leave no route without a placing
 some-placed : (b : Book) (q : Asked) (way : ℕ) (ps : List (List ℕ)) (rs : List Row) → NewRows b q way ps rs → NoPlacings b q way ps → ⊥
@@ -38,9 +38,9 @@ some-placed b q way (p ∷ ps) (r ∷ rs) h (inr n) =
 
 -- rows that were put in are those on the routes
 pub routed-in : (s : List ℕ) {out words : List ℕ} {number len : ℕ} (q : Asked) (routes : List (List ℕ)) (new : List Row)
-    → NewRows (bookIn s) q 1 routes new → (Full (bookIn s) routes → ⊥) → Keeps s new number len out words → Routed s q routes number len out words
+    → NewRows (bookIn s) q 1 routes new → (Full (bookIn s) routes → ⊥) → Keeps s q routes new number len out words → Routed s q routes number len out words
 routed-in s q routes new h full w =
-    out-next full (out-next (some-placed (bookIn s) q 1 routes new h) (out-done (w .0) (kept-alike (λ c p. record { new = new; placed = h; plus = p }) (w .1))))
+    out-next full (out-next (some-placed (bookIn s) q 1 routes new h) (out-more (λ c p. record { new = new; placed = h; plus = p }) w))
 
 -- where there are routes, there is one
 some-route : {T : Topology} {middle : ℕ} {q : Asked} {routes : List (List ℕ)} → Planned T middle q routes → NoRoute T middle (q .source) (q .destination) → ⊥
@@ -71,8 +71,11 @@ pub routed-new : (s : List ℕ) {out words : List ℕ} {number len : ℕ} (mains
 routed-new s mains q routes planned w =
     let b : Book = bookIn s in
     out-next (some-route planned) (out-next (near-route planned) (out-next (some-second planned)
-    (out-alike (routedRefusals q routes b) ((8 when OfRoutes mains q b (Full b)) ∷ (9 when OfRoutes mains q b (NoPlacings b q 1)) ∷ [])
-    (refl, of-routes b mains q routes planned (Full b), λ a8 b8. (refl, of-routes b mains q routes planned (NoPlacings b q 1), λ a b. tt))
+    (out-alike (routedRefusals q routes b) ((8 when OfRoutes mains q b (Full b)) ∷ (9 when OfRoutes mains q b (NoPlacings b q 1)) ∷ (23 when OfRoutes mains q b (NotPaid b q)) ∷ []) (
+      refl,
+      of-routes b mains q routes planned (Full b),
+      λ a8 b8. (refl, of-routes b mains q routes planned (NoPlacings b q 1), λ a9 b9. (refl, of-routes b mains q routes planned (NotPaid b q), λ a23 b23. tt)),
+    )
     (opened-on b mains q routes planned) w)))
 
 -- where a route is missing
@@ -87,7 +90,7 @@ second-refused s mains q first y r none e i =
 
 -- the row of the first placing
 pub new-row : {b : Book} (q : Asked) (way : ℕ) (route offsets : List ℕ) → FirstPlacing b (q .period) route offsets → NewRow b q way route (rowOn q way route offsets)
-new-row q way route offsets h = record { named = refl; nth = refl; every = refl; on = refl; placed = h }
+new-row q way route offsets h = record { named = refl; nth = refl; every = refl; on = refl; placed = h; paid-by = refl }
 
 -- FULL: by the counts of the header
 pub tests-full : {t : Bool} (s : List ℕ) (book : head.Book) (routes : List (List ℕ)) (n h : ℕ) → LawfulImage s → HeaderOf s book → length routes ≡ n → total hopCount routes ≡ h

@@ -10,7 +10,7 @@ use Rattle.rules.specs.Topology.{Path, hopCount, mostRouteHops, Route}
 use Rattle.rules.specs.Periods.{InList}
 use Rattle.rules.specs.Placing as placing
 use Rattle.rules.specs.Placing.{Asked, FirstPlacing, Full}
-use Rattle.rules.specs.Image.{nodesOf, linksOf, hearingOf}
+use Rattle.rules.specs.Image.{nodesOf, accountsOf, linksOf, hearingOf}
 use Rattle.rules.proofs.Reading.{rowsIn, bookIn}
 use Rattle.image.specs.Header.{HeaderOf}
 use Rattle.image.specs.declared.Book.{Book}
@@ -30,9 +30,10 @@ pub record AskedBeside (s words : List ℕ) (book : Book) (q : Asked) (place : �
   pub period : InList place
   pub period-is : periodAt place ≡ q .period
 
--- and its id is new: its row would stand at the place
+-- and its account is known, and its id new: its row would stand at the place
 pub record NewBeside (s words : List ℕ) (book : Book) (q : Asked) (place at : ℕ) : Type 0 where
   pub asked : AskedBeside s words book q place
+  pub account : rules.KnownAccount (accountsOf s) (q .account)
   pub vacant : Vacant s (q .id) at
 
 -- with the hearing, and a route

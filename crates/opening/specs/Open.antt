@@ -6,8 +6,8 @@ use Rattle.rules.specs.Says.{Refusal, _when_, Says}
 use Rattle.rules.specs.Tiles.{periodAt}
 use Rattle.rules.specs.Periods.{InList}
 use Rattle.rules.specs.Topology.{NoRoute, TooFar}
-use Rattle.rules.specs.Book.{Row, Book, Known, Plus}
-use Rattle.rules.specs.Placing.{Asked, NoSecond, Full, NewRows, NoPlacings}
+use Rattle.rules.specs.Book.{Row, Book, KnownAccount, Known, Plus}
+use Rattle.rules.specs.Placing.{Asked, NoSecond, Full, NewRows, NoPlacings, NotPaid}
 use Rattle.rules.specs.Image.{newest, encode, planOf}
 use Rattle.rules.specs.Calls.{OfRoutes, Opened, askedRefusals}
 use Rattle.rules.proofs.Says.{None}
@@ -46,12 +46,12 @@ pub record OpenedOn (b : Book) (q : Asked) (routes : List (List ℕ)) (c : Book)
   pub plus : Plus b new c
 
 abbrev pub routedRefusals : Asked → List (List ℕ) → Book → List Refusal
-routedRefusals q routes b = (8 when Full b routes) ∷ (9 when NoPlacings b q 1 routes) ∷ []
+routedRefusals q routes b = (8 when Full b routes) ∷ (9 when NoPlacings b q 1 routes) ∷ (23 when NotPaid b q routes) ∷ []
 
 abbrev pub Routed : List ℕ → Asked → List (List ℕ) → ℕ → ℕ → List ℕ → List ℕ → Type 0
 Routed s q routes = Outcome (routedRefusals q routes (bookIn s)) (OpenedOn (bookIn s) q routes) s
 
--- where the request is in order and its id is new, with the set of nodes that may stand in the middle
+-- where the request is in order, its account known and its id new, with the set of nodes that may stand in the middle
 abbrev pub newRefusals : ℕ → Asked → Book → List Refusal
 newRefusals mains q b =
     (7 when NoRoute (b .site .links) mains (q .source) (q .destination))
@@ -59,11 +59,15 @@ newRefusals mains q b =
     ∷ (18 when NoSecond (b .site .links) mains q)
     ∷ (8 when OfRoutes mains q b (Full b))
     ∷ (9 when OfRoutes mains q b (NoPlacings b q 1))
+    ∷ (23 when OfRoutes mains q b (NotPaid b q))
     ∷ []
 
 abbrev pub OpensNew : List ℕ → ℕ → Asked → ℕ → ℕ → List ℕ → List ℕ → Type 0
 OpensNew s mains q = Outcome (newRefusals mains q (bookIn s)) (Opened mains (bookIn s) q) s
 
 -- where the request is in order
+abbrev pub inOrderRefusals : ℕ → Asked → Book → List Refusal
+inOrderRefusals mains q b = (22 when (KnownAccount (b .site .accounts) (q .account) → ⊥)) ∷ (2 when Known b (q .id)) ∷ newRefusals mains q b
+
 abbrev pub OpensAsked : List ℕ → ℕ → Asked → ℕ → ℕ → List ℕ → List ℕ → Type 0
-OpensAsked s mains q = Outcome ((2 when Known (bookIn s) (q .id)) ∷ newRefusals mains q (bookIn s)) (Opened mains (bookIn s) q) s
+OpensAsked s mains q = Outcome (inOrderRefusals mains q (bookIn s)) (Opened mains (bookIn s) q) s

@@ -12,6 +12,7 @@ use routes::Reach;
 use rules::Asked;
 use rules::Place;
 
+mod paying;
 mod ways;
 
 // What is wrong with a request by itself; or nothing is, and its period is at the place.
@@ -35,7 +36,7 @@ fn open_new(
     ensures { λ r. ⌜ OpensNew (now (image .entry)) mains (theAsked q) (r .number) (r .length) (now (out .exit)) (now (index .exit)) ⌝ }
 {
     let n = book.nodes;
-    let rows = topologies::sets(image, image::HEADER, n);
+    let rows = topologies::sets(image, book.links_place(), n);
     let planned = routes::plan(&rows[..n], mains, q.source, q.destination);
     let reach = planned.reach;
     let end = planned.hops + 1;
@@ -71,6 +72,9 @@ fn open_asked(
     requires { ⌜ AskedBeside (now image) (now index) book (theAsked q) place ⌝ }
     ensures { λ r. ⌜ OpensAsked (now (image .entry)) mains (theAsked q) (r .number) (r .length) (now (out .exit)) (now (index .exit)) ⌝ }
 {
+    if !accounts::is_known(image, book, q.account) {
+        return answers::refused(22);
+    }
     match finding::find(image, q.id) {
         Spot::Here(_) => answers::refused(2),
         Spot::Between(at) => open_new(image, index, mains, book, q, place, at, out),

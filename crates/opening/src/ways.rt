@@ -12,12 +12,12 @@ ghost use Rattle.rules.proofs.Reading.{bookIn};
 ghost use Rattle.adding.specs.Puts.{rowOn};
 ghost use Rattle.opening.specs.Keeping.{OneKept, TwoKept, Keeps};
 ghost use Rattle.opening.specs.Beside.{RouteAsked, RouteBeside, RoutesBeside, PlacedIn, PlacedOn, PlacedBeside, PlannedBeside, SecondBeside};
+use crate::paying;
 use answers::Answer;
 use image::Book;
 use placing::Found;
 use placing::Placing;
 use rules::Asked;
-use rules::Slot;
 
 // Whether the book has no room for so many rows of so many hops.
 fn is_full(book: Book, rows: usize, hops: usize) -> bool
@@ -101,23 +101,26 @@ fn place_alone(
     )
 }
 
-// Writes the image with the row of a placed route, and marks it in the index.
+// Writes the image with the row of a placed route, and marks it in the index, where the account pays for it.
 fn keep_one(
     image: &[u8],
     index: &mut [u64; index::WORDS],
+    book: Book,
     q: Asked,
-    slots: Slot,
     place: usize,
     at: usize,
     route: &[u8],
     offsets: &[u16],
     out: &mut [u8; Book::LONGEST],
 ) -> Answer
-    requires { ⌜ OneKept (now image) (now index) (theAsked q) (slots .0) place at (now route) (now offsets) ⌝ }
-    ensures { λ r. ⌜ Keeps (now (image .entry)) (rowOn (theAsked q) 1 (now (route .entry)) (now (offsets .entry)) ∷ []) (r .number) (r .length) (now (out .exit)) (now (index .exit)) ⌝ }
+    requires { ⌜ OneKept (now image) (now index) book (theAsked q) place at (now route) (now offsets) ⌝ }
+    ensures { λ r. ⌜ Keeps (now (image .entry)) (theAsked q) (now (route .entry) ∷ []) (rowOn (theAsked q) 1 (now (route .entry)) (now (offsets .entry)) ∷ []) (r .number) (r .length) (now (out .exit)) (now (index .exit)) ⌝ }
 {
+    if !paying::is_paid(image, book, q.account, place, offsets.len()) {
+        return answers::refused(23);
+    }
     let length = adding::put_one(image, at, q, route, offsets, out);
-    placing::marking::mark(slots, place, route, offsets, index);
+    placing::marking::mark(book.plan.slots, place, route, offsets, index);
     answers::done(length)
 }
 
@@ -140,7 +143,6 @@ fn open_one(
     if is_full(book, 1, hops) {
         return answers::refused(8);
     }
-    let plan = book.plan;
     let placing = place_alone(image, index, book, q, place, hearing, route);
     let found = placing.found;
     let offsets = placing.offsets;
@@ -149,8 +151,8 @@ fn open_one(
         Found::Placed => keep_one(
             image,
             index,
+            book,
             q,
-            plan.slots,
             place,
             at,
             route,
@@ -160,12 +162,12 @@ fn open_one(
     }
 }
 
-// Writes the image with the rows of two placed routes, and marks both in the index.
+// Writes the image with the rows of two placed routes, and marks both in the index, where the account pays for both.
 fn keep_two(
     image: &[u8],
     index: &mut [u64; index::WORDS],
+    book: Book,
     q: Asked,
-    slots: Slot,
     place: usize,
     at: usize,
     first: &[u8],
@@ -174,12 +176,16 @@ fn keep_two(
     others: &[u16],
     out: &mut [u8; Book::LONGEST],
 ) -> Answer
-    requires { ⌜ TwoKept (now image) (now index) (theAsked q) (slots .0) place at (now first) (now offsets) (now second) (now others) ⌝ }
-    ensures { λ r. ⌜ Keeps (now (image .entry)) (rowOn (theAsked q) 1 (now (first .entry)) (now (offsets .entry)) ∷ rowOn (theAsked q) 2 (now (second .entry)) (now (others .entry)) ∷ []) (r .number) (r .length) (now (out .exit)) (now (index .exit)) ⌝ }
+    requires { ⌜ TwoKept (now image) (now index) book (theAsked q) place at (now first) (now offsets) (now second) (now others) ⌝ }
+    ensures { λ r. ⌜ Keeps (now (image .entry)) (theAsked q) (now (first .entry) ∷ now (second .entry) ∷ []) (rowOn (theAsked q) 1 (now (first .entry)) (now (offsets .entry)) ∷ rowOn (theAsked q) 2 (now (second .entry)) (now (others .entry)) ∷ []) (r .number) (r .length) (now (out .exit)) (now (index .exit)) ⌝ }
 {
+    let hops = offsets.len() + others.len();
+    if !paying::is_paid(image, book, q.account, place, hops) {
+        return answers::refused(23);
+    }
     let length = adding::put_two(image, at, q, first, offsets, second, others, out);
-    placing::marking::mark(slots, place, first, offsets, index);
-    placing::marking::mark(slots, place, second, others, index);
+    placing::marking::mark(book.plan.slots, place, first, offsets, index);
+    placing::marking::mark(book.plan.slots, place, second, others, index);
     answers::done(length)
 }
 
@@ -201,7 +207,6 @@ fn place_second(
     ensures { λ r. ⌜ Routed (now (image .entry)) (theAsked q) (now (first .entry) ∷ now (second .entry) ∷ []) (r .number) (r .length) (now (out .exit)) (now (index .exit)) ⌝ }
 {
     let hops = second.len() - 1;
-    let plan = book.plan;
     let placing = place_beside(
         image,
         index,
@@ -220,8 +225,8 @@ fn place_second(
         Found::Placed => keep_two(
             image,
             index,
+            book,
             q,
-            plan.slots,
             place,
             at,
             first,
@@ -253,7 +258,6 @@ fn open_both(
     if is_full(book, 2, hops + (second.len() - 1)) {
         return answers::refused(8);
     }
-    let plan = book.plan;
     let placing = place_alone(image, index, book, q, place, hearing, first);
     let found = placing.found;
     let offsets = placing.offsets;

@@ -1,4 +1,4 @@
--- A request's answer depends on whether its id is there, on the rows that clash with its route and on room, and on nothing else.
+-- A request's answer depends on whether its id is there, on the rows that clash with its route, on room and on what is left of its account, and on nothing else.
 use mathlib.Core.Path.{_≡_, sym, ap, _∙_, subst}
 use mathlib.Core.Logic.{inl, inr}
 use mathlib.Core.List.{List, [], _∷_}
@@ -21,7 +21,7 @@ module _ (mains : ℕ) (site : Site) where
   -- a done request leaves of its id what it puts in, and nothing else
   only-added : (b : Rows) (q : Request) (x : Row) → Answers mains site b q 0 → x .id ≡ idOf q → After mains site b q x → Adds mains site b q x
   only-added b q x a e (inr h) = h
-  only-added b (Open r) x a e (inl h) = absurd (says-none (refusals mains site b (Open r)) (omega arith) a .1 .1 .1 .1 .0 record { row = x; there = h .0; named = e })
+  only-added b (Open r) x a e (inl h) = absurd (says-none (refusals mains site b (Open r)) (omega arith) a .1 .1 .1 .1 .1 .0 record { row = x; there = h .0; named = e })
   only-added b (Close id) x a e (inl h) = absurd (h .1 (a, h .0, e))
 
   module _ (b c : Rows) (q : Request) (a : Agree mains (on site b) (on site c) q) {answers answers′ last last′ : List ℕ}

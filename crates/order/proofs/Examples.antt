@@ -24,14 +24,14 @@ use Rattle.model.specs.Test.{same}
 use Rattle.model.specs.Examples.{planA, lineA, square, pair, bookOn, empty, opening, openingTwo, anyMiddle}
 use Rattle.model.proofs.Tests.{tests-same}
 use Rattle.order.specs.Examples.{image, JustFull, before, after, requests, backwards, beforeBoth, afterBoth, onBoth, onBothBack, Met, Kept}
-use Rattle.order.specs.Examples.{twoSquares, mainsBoth, onMains, onMainsBack, acrossMains, overSquare}
+use Rattle.order.specs.Examples.{drawing, paidBy, openingOn, onAccounts, onAccountsBack, twoSquares, mainsBoth, onMains, onMainsBack, acrossMains, overSquare}
 use Rattle.order.specs.Examples.{nearlyFull, fullWith, closes, threes, longOnes, shortAfter, onLong, onLongBack, BothOrders, ring, goneRound, goneAcross, oneMore, Decides}
 use Rattle.order.specs.Needed.{RoomForDone, OfBytes, OfWords, Needed}
 use Rattle.order.proofs.Same.{agree-same}
 use Rattle.order.proofs.Calls.{some-posting}
 use Rattle.order.proofs.AnyOrder.{any-order}
 use Rattle.order.proofs.Depends.{depends}
-use Rattle.order.proofs.Premises.{so, posts, held, sound-links, small, different, apart, firsts-apart, no-node, room, room-for-one, posted, worked}
+use Rattle.order.proofs.Premises.{so, posts, held, newly, sound-links, small, different, apart, firsts-apart, no-node, room, room-for-one, room-unpaid, posted, worked}
 use Rattle.order.proofs.Long.{long-held}
 
 abbrev zeros : ℕ → List ℕ
@@ -65,16 +65,19 @@ with-end x [] = here
 with-end x (y ∷ xs) = there (with-end x xs)
 
 before-held : Stored (encode 1 before) 1 before
-before-held = held 1 before refl tt
+before-held = held 1 before refl refl tt
 
 both-held : Stored (image beforeBoth) newest beforeBoth
-both-held = held newest beforeBoth refl tt
+both-held = held newest beforeBoth refl refl tt
 
 squares-held : Stored (image (bookOn planA twoSquares [])) newest (bookOn planA twoSquares [])
-squares-held = held newest (bookOn planA twoSquares []) refl tt
+squares-held = held newest (bookOn planA twoSquares []) refl refl tt
 
 nearly : Stored (image nearlyFull) newest nearlyFull
-nearly = held newest nearlyFull refl tt
+nearly = held newest nearlyFull refl refl tt
+
+accounts-held : Stored (image (paidBy 1000 (drawing 1 3 2 3 ∷ []))) newest (paidBy 1000 (drawing 1 3 2 3 ∷ []))
+accounts-held = newly (paidBy 1000 (drawing 1 3 2 3 ∷ [])) tt
 
 abbrev atLimits : List Request
 atLimits = openingTwo 65535 2 5 100 ∷ closes 63 62
@@ -153,6 +156,21 @@ kept = record {
     forth = worked JustFull (tiles (image longOnes)) page (just-full (image longOnes)) (ample (image longOnes)) long-held (below longOnes) onLong (omega arith) (0 ∷ 0 ∷ []) (image shortAfter) (inl refl) tt;
     back = worked JustFull (tiles (image longOnes)) page (just-full (image longOnes)) (ample (image longOnes)) long-held (below longOnes) onLongBack (omega arith) (0 ∷ 0 ∷ []) (image shortAfter) (inl refl) tt;
   };
+  accounts =
+      let b : Book = paidBy 1000 (drawing 1 3 2 3 ∷ []) in
+      let last : List ℕ = image (paidBy 1000 (drawing 1 1 0 1 ∷ drawing 9 2 4 5 ∷ [])) in
+      record {
+        held = accounts-held;
+        low = below b;
+        most = omega arith;
+        small = small onAccounts tt;
+        ids = different onAccounts tt;
+        apart = apart (anyMiddle b) b (sound-links accounts-held) onAccounts tt;
+        room = room (anyMiddle b) b (sound-links accounts-held) onAccounts tt;
+        reordered = put (put (put (put none here) (there here)) (there (there here))) (there (there (there here)));
+        forth = justly (image b) (anyMiddle b) onAccounts (0 ∷ 0 ∷ 0 ∷ 22 ∷ []) last tt;
+        back = justly (image b) (anyMiddle b) onAccountsBack (22 ∷ 0 ∷ 0 ∷ 0 ∷ []) last tt;
+      };
 }
 
 met : {v : ℕ} {b : Book} {mains : ℕ} {qs ps : List Request} {ns last ms : List ℕ} → Met v b mains qs ns last ps ms → InAnyOrder Ample (encode v b) mains qs
@@ -160,8 +178,8 @@ met {v} {b} {mains} {qs} m = any-order (encode v b) v b mains qs (m .held) (m .l
 
 pub kept-in-any-order : InAnyOrder Ample (encode 1 before) (anyMiddle before) requests × InAnyOrder Ample (image beforeBoth) (anyMiddle beforeBoth) onBoth
     × InAnyOrder Ample (image (bookOn planA twoSquares [])) mainsBoth onMains × InAnyOrder Ample (image nearlyFull) (anyMiddle nearlyFull) atLimits
-    × InAnyOrder Ample (image longOnes) (anyMiddle longOnes) onLong
-kept-in-any-order = (met (kept .old), met (kept .seconds), met (kept .mains), met (kept .limits), met (kept .hops))
+    × InAnyOrder Ample (image longOnes) (anyMiddle longOnes) onLong × InAnyOrder Ample (image (paidBy 1000 (drawing 1 3 2 3 ∷ []))) (anyMiddle (paidBy 1000 [])) onAccounts
+kept-in-any-order = (met (kept .old), met (kept .seconds), met (kept .mains), met (kept .limits), met (kept .hops), met (kept .accounts))
 
 -- ALL BUT ONE
 fully : (image : List ℕ) (mains : ℕ) (qs : List Request) (n : ℕ) (ns last : List ℕ) → T (posts (tiles image) page image mains qs n ns last) → Posting Ample image mains qs n ns last
@@ -209,6 +227,7 @@ decides = record {
   seconds = seconds-decide;
   room = room-decides;
   rows = rows-decide;
+  pays = both tt tt;
   most = fully (image (empty pair)) (anyMiddle (empty pair)) (closes 65 0) 26 (threes 65) (image (empty pair)) tt;
   full-size = posted (OfBytes short) (tiles pairImage) (zeros short) pairImage (ample pairImage .tiles, length-replicate {A = ℕ} short 0) (anyMiddle (empty pair)) (opening 1 0 1 2 ∷ []) 12 (0 ∷ [])
       pairImage tt;
@@ -236,10 +255,10 @@ pub unlike : {xs ys : List ℕ} → T (not (same xs ys)) → xs ≡ ys → ⊥
 unlike {xs} {ys} t = tests-not (tests-same xs ys) .yes (so t)
 
 pair-held : Stored (image (empty pair)) newest (empty pair)
-pair-held = held newest (empty pair) refl tt
+pair-held = held newest (empty pair) refl refl tt
 
 square-held : Stored (image (empty square)) newest (empty square)
-square-held = held newest (empty square) refl tt
+square-held = held newest (empty square) refl refl tt
 
 -- one open across the square is in any order, with any set
 over-square : (mains : ℕ) → NoBitFrom 4 mains → Room mains (empty square) (opening 1 0 3 2 ∷ []) → InAnyOrder Ample (image (empty square)) mains (opening 1 0 3 2 ∷ [])
@@ -281,12 +300,12 @@ needed = record {
   hearing = λ f.
       let qs : List Request = opening 1 0 1 1 ∷ opening 2 2 3 1 ∷ [] in
       let b : Book = empty lineA in
-      let h : Stored (image b) newest b = held newest b refl tt in
+      let h : Stored (image b) newest b = held newest b refl refl tt in
       unlike tt (one-last h (f (image b) newest b (anyMiddle b) qs h (below b) (omega arith) (small qs tt) (different qs tt) (no-node (anyMiddle b) b (sound-links h) qs tt) (room (anyMiddle b) b (sound-links h) qs tt)) (decides .hearing));
   seconds = λ f.
       let qs : List Request = openingTwo 1 0 1 2 ∷ opening 2 5 6 2 ∷ [] in
       let b : Book = empty ring in
-      let h : Stored (image b) newest b = held newest b refl tt in
+      let h : Stored (image b) newest b = held newest b refl refl tt in
       unlike tt (one-last h (f (image b) newest b (anyMiddle b) qs h (below b) (omega arith) (small qs tt) (different qs tt) (firsts-apart (anyMiddle b) b (sound-links h) qs tt) (room (anyMiddle b) b (sound-links h) qs tt)) seconds-decide);
   room = λ f.
       let qs : List Request = openingTwo 63 2 5 100 ∷ opening 65 0 1 1 ∷ [] in
@@ -299,6 +318,11 @@ needed = record {
       let i = f (image nearlyFull) newest nearlyFull (anyMiddle nearlyFull) qs nearly (below nearlyFull) (omega arith) (small qs tt) (different qs tt) (apart (anyMiddle nearlyFull) nearlyFull (sound-links nearly) qs tt) fit in
       let e : _≡_ {A = ℕ} 8 0 = one-answer nearly i rows-decide in
       omega arith;
+  pays = λ f.
+      let qs : List Request = openingOn 1 1 0 1 ∷ Close 3 ∷ [] in
+      let b : Book = paidBy 999 (drawing 1 3 2 3 ∷ []) in
+      let h : Stored (image b) newest b = newly b tt in
+      unlike tt (one-last h (f (image b) newest b (anyMiddle b) qs h (below b) (omega arith) (small qs tt) (different qs tt) (apart (anyMiddle b) b (sound-links h) qs tt) (room-unpaid (anyMiddle b) b (sound-links h) qs tt)) (decides .pays));
   full-size = λ f.
       let qs : List Request = opening 1 0 1 2 ∷ [] in
       let b : Book = empty pair in

@@ -15,7 +15,7 @@ use Rattle.rules.proofs.Lists.{at-in}
 use Rattle.rules.proofs.Meeting.{same-place}
 use Rattle.rules.proofs.Reading.{lawful-stored}
 use Rattle.model.specs.Reading.{isLawful, isPaired}
-use Rattle.model.proofs.Reading.{tests-site, tests-lawful, tests-rising, tests-paired}
+use Rattle.model.proofs.Reading.{tests-site, tests-lawful, tests-rising, tests-paired, tests-paid}
 use Rattle.order.specs.Examples.{longOnes}
 use Rattle.order.proofs.Premises.{so}
 
@@ -71,6 +71,7 @@ long-lawful = record {
   rows = rows-lawful;
   rising = tests-rising (longOnes .rows) .yes (so tt);
   paired = rows-paired;
+  paid = tests-paid (longOnes .site .accounts) (longOnes .rows) .yes (so tt);
   never-meet = own-apart longOnes rows-lawful rows-own;
 }
 

@@ -8,20 +8,21 @@ use Prim.Native.Nat.{ℕ, zero, suc, _+_, _<_, _≤_}
 use native.Mathlib.Omega.{arith}
 use lib.Dec.{T, eqb, leb, ltb}
 use lib.ListN.{length, take, drop}
-use Rattle.rules.specs.Words.{NoBitFrom, _∈_, Pairwise, Each, total, Tests}
+use Rattle.rules.specs.Words.{NoBitFrom, _∈_, Pairwise, Each, total, totalEach, Tests}
 use Rattle.rules.specs.Topology.{Topology, nodes, SoundTopology, hopCount, hopAt, NoClash}
-use Rattle.rules.specs.Book.{Row, Book, hopsInAll, mostStreams, mostHops}
+use Rattle.rules.specs.Book.{Account, Row, Book, hopsInAll, drawn, mostStreams, mostHops}
 use Rattle.rules.specs.Placing.{Asked, Planned}
-use Rattle.rules.specs.Image.{newest, encode, Stored}
+use Rattle.rules.specs.Image.{newest, oldAccounts, encode, Stored}
 use Rattle.rules.specs.Calls.{Wrote, Request, mostRequests, Work, InOrder, Post}
 use Rattle.rules.specs.Calls.Request.{Open, Close}
-use Rattle.rules.specs.Order.{idOf, IdInRange, DifferentIds, RouteOf, Apart, opens, Asks, Room, current, Ample, Posting}
+use Rattle.rules.specs.Order.{idOf, IdInRange, DifferentIds, RouteOf, Apart, opens, Asks, mayDraw, Room, current, Ample, Posting}
 use Rattle.rules.proofs.Tests.{never, alike, tests-and, tests-not, tests-eq, tests-le, tests-lt, allBelow, allOf, tests-all, tests-every}
 use Rattle.rules.proofs.Choice.{planned-unique}
 use Rattle.rules.proofs.Written.{Bytes}
+use Rattle.rules.proofs.Reading.{lawful-stored}
 use Rattle.model.specs.Test.{same, clashes}
 use Rattle.model.specs.Answer.{orGiven, routesOf, answersOf, lastBook}
-use Rattle.model.specs.Reading.{allPairs}
+use Rattle.model.specs.Reading.{allPairs, isLawfulBook}
 use Rattle.model.specs.Examples.{isStored}
 use Rattle.model.specs.Index.{indexOf}
 use Rattle.model.specs.Calls.{indexAfter, post}
@@ -29,10 +30,10 @@ use Rattle.model.proofs.Tests.{tests-same, tests-clashes}
 use Rattle.model.proofs.Searches.{Found}
 use Rattle.model.proofs.Answers.{NotPlanned, planned-route, routes-found, workable, in-order-computed, last-workable}
 use Rattle.model.proofs.Index.{index-computed}
-use Rattle.model.proofs.Reading.{tests-pairs}
+use Rattle.model.proofs.Reading.{tests-pairs, tests-book}
 use Rattle.model.proofs.Examples.{stored}
 use Rattle.model.proofs.Calls.{post-computed}
-use Rattle.order.specs.Needed.{NoNodeShared, FirstRouteOf, FirstsApart, RoomForOne}
+use Rattle.order.specs.Needed.{NoNodeShared, FirstRouteOf, FirstsApart, RoomForOne, RoomUnpaid}
 use Rattle.order.proofs.Calls.{current-wrote, enough}
 
 -- what computes to true is true
@@ -40,9 +41,13 @@ pub so : {t : Bool} → T t → t ≡ true
 so {t = true} h = refl
 so {t = false} h = absurd h
 
--- A LAWFUL BOOK, whose hearing is its links
-pub held : (v : ℕ) (b : Book) → b .site .hearing ≡ b .site .links → T (isStored (encode v b) v b) → Stored (encode v b) v b
-held v b e h = stored (encode v b) v b e (so h)
+-- A LAWFUL BOOK, whose hearing is its links, with the account of older books
+pub held : (v : ℕ) (b : Book) → b .site .hearing ≡ b .site .links → b .site .accounts ≡ oldAccounts → T (isStored (encode v b) v b) → Stored (encode v b) v b
+held v b e a h = stored (encode v b) v b e a (so h)
+
+-- or any, in the newest version
+pub newly : (b : Book) → T (isLawfulBook b) → Stored (encode newest b) newest b
+newly b h = lawful-stored b (tests-book b .yes (so h))
 
 pub sound-links : {s : List ℕ} {v : ℕ} {b : Book} → Stored s v b → SoundTopology (b .site .links)
 sound-links h = h .lawful .site .topologies .links-sound
@@ -125,6 +130,10 @@ allAsked mains b (q ∷ qs) = hopsAsked mains b q ∷ allAsked mains b qs
 abbrev fits : ℕ → Book → List Request → ℕ → Bool
 fits mains b qs n = leb (length (b .rows) + n) mostStreams && leb (hopsInAll (b .rows) + total (λ (k : ℕ). k) (allAsked mains b qs)) mostHops
 
+-- each account can pay for them
+abbrev pays : ℕ → Book → List Request → Bool
+pays mains b qs = allOf (λ (a : Account). leb (drawn (a .number) (b .rows) + totalEach (mayDraw (a .number)) qs (allAsked mains b qs)) (a .bought)) (b .site .accounts)
+
 -- ON A BOOK of sound links
 module _ (mains : ℕ) (b : Book) (sound : SoundTopology (b .site .links)) where
   given-routes : (q : Asked) (ps : List (List ℕ)) → Planned (b .site .links) mains q ps → givenRoutes mains b q ≡ ps
@@ -161,11 +170,22 @@ module _ (mains : ℕ) (b : Book) (sound : SoundTopology (b .site .links)) where
       → Tests (fits mains b qs n) ((length (b .rows) + n ≤ mostStreams) × (hopsInAll (b .rows) + total (λ (k : ℕ). k) (allAsked mains b qs) ≤ mostHops))
   tests-room qs n = tests-and (tests-le (length (b .rows) + n) mostStreams) (tests-le (hopsInAll (b .rows) + total (λ (k : ℕ). k) (allAsked mains b qs)) mostHops)
 
-  pub room : (qs : List Request) → T (fits mains b qs (total opens qs)) → Room mains b qs
-  room qs h = let t = tests-room qs (total opens qs) .yes (so h) in record { streams = t .0; asked = allAsked mains b qs; asks = all-asked qs; hops = t .1 }
+  tests-pays : (qs : List Request)
+      → Tests (pays mains b qs) ((a : Account) → a ∈ b .site .accounts → drawn (a .number) (b .rows) + totalEach (mayDraw (a .number)) qs (allAsked mains b qs) ≤ a .bought)
+  tests-pays qs = tests-every _ (λ a. tests-le (drawn (a .number) (b .rows) + totalEach (mayDraw (a .number)) qs (allAsked mains b qs)) (a .bought)) (b .site .accounts)
 
-  pub room-for-one : (qs : List Request) → T (fits mains b qs (length qs)) → RoomForOne mains b qs
-  room-for-one qs h = let t = tests-room qs (length qs) .yes (so h) in record { streams = t .0; asked = allAsked mains b qs; asks = all-asked qs; hops = t .1 }
+  pub room-unpaid : (qs : List Request) → T (fits mains b qs (total opens qs)) → RoomUnpaid mains b qs
+  room-unpaid qs h = let t = tests-room qs (total opens qs) .yes (so h) in record { streams = t .0; asked = allAsked mains b qs; asks = all-asked qs; hops = t .1 }
+
+  pub room : (qs : List Request) → T (fits mains b qs (total opens qs) && pays mains b qs) → Room mains b qs
+  room qs h =
+      let t = tests-and (tests-room qs (total opens qs)) (tests-pays qs) .yes (so h) in
+      record { streams = t .0 .0; asked = allAsked mains b qs; asks = all-asked qs; hops = t .0 .1; pays = t .1 }
+
+  pub room-for-one : (qs : List Request) → T (fits mains b qs (length qs) && pays mains b qs) → RoomForOne mains b qs
+  room-for-one qs h =
+      let t = tests-and (tests-room qs (length qs)) (tests-pays qs) .yes (so h) in
+      record { streams = t .0 .0; asked = allAsked mains b qs; asks = all-asked qs; hops = t .0 .1; pays = t .1 }
 
 -- POSTINGS
 

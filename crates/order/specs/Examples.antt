@@ -9,21 +9,21 @@ use Rattle.rules.specs.Book.{Row, Book}
 use Rattle.rules.specs.Image.{newest, longestImage, encode, planOf, Stored}
 use Rattle.rules.specs.Index.{indexLength}
 use Rattle.rules.specs.Calls.{Request, mostRequests}
-use Rattle.rules.specs.Calls.Request.{Close}
+use Rattle.rules.specs.Calls.Request.{Open, Close}
 use Rattle.rules.specs.Order.{IdInRange, DifferentIds, Apart, Room, Posting, Ample}
 use Rattle.rules.proofs.Reading.{withRows}
-use Rattle.model.specs.Examples.{planA, lineA, pair, bookOn, empty, square, opening, openingTwo, anyMiddle}
+use Rattle.model.specs.Examples.{planA, lineA, pair, bookOn, empty, withAccounts, square, asked, askedOn, opening, openingTwo, anyMiddle}
 use Rattle.order.specs.Needed.{OfBytes, OfWords}
 
 -- a stream of one hop, on one route
 abbrev pub oneHop : ℕ → ℕ → ℕ → ℕ → ℕ → Row
-oneHop id K a b o = record { id = id; way = 1; period = K; route = a ∷ b ∷ []; offsets = o ∷ [] }
+oneHop id K a b o = record { id = id; way = 1; period = K; route = a ∷ b ∷ []; offsets = o ∷ []; account = 0 }
 
 -- a stream of period 2 over a or b, on both routes
 abbrev pub bothWays : ℕ → ℕ → ℕ → ℕ → ℕ → List Row
 bothWays id source a b destination =
-    record { id = id; way = 1; period = 2; route = source ∷ a ∷ destination ∷ []; offsets = 2 ∷ 3 ∷ [] }
-    ∷ record { id = id; way = 2; period = 2; route = source ∷ b ∷ destination ∷ []; offsets = 3 ∷ 5 ∷ [] }
+    record { id = id; way = 1; period = 2; route = source ∷ a ∷ destination ∷ []; offsets = 2 ∷ 3 ∷ []; account = 0 }
+    ∷ record { id = id; way = 2; period = 2; route = source ∷ b ∷ destination ∷ []; offsets = 3 ∷ 5 ∷ []; account = 0 }
     ∷ []
 
 abbrev pub image : Book → List ℕ
@@ -93,7 +93,7 @@ abbrev pub onMainsBack : List Request
 onMainsBack = Close 3 ∷ openingTwo 2 4 7 2 ∷ opening 1 0 3 2 ∷ []
 
 abbrev pub acrossMains : Book
-acrossMains = bookOn planA twoSquares (record { id = 1; way = 1; period = 2; route = 0 ∷ 2 ∷ 3 ∷ []; offsets = 2 ∷ 3 ∷ [] } ∷ [])
+acrossMains = bookOn planA twoSquares (record { id = 1; way = 1; period = 2; route = 0 ∷ 2 ∷ 3 ∷ []; offsets = 2 ∷ 3 ∷ []; account = 0 } ∷ [])
 
 -- THE LIMITS: 64 requests, 64 rows, ids up to 65,535
 
@@ -113,8 +113,8 @@ nearlyFull = bookOn (record { slots = 1; tiles = 1; kinds = 0; down = 0; up = 0 
 -- with a stream on both routes of the square: 64 rows
 abbrev pub fullWith : ℕ → Book
 fullWith id = withRows nearlyFull (streams 62 0 ++ (
-    record { id = id; way = 1; period = 100; route = 2 ∷ 3 ∷ 5 ∷ []; offsets = 0 ∷ 1 ∷ [] }
-    ∷ record { id = id; way = 2; period = 100; route = 2 ∷ 4 ∷ 5 ∷ []; offsets = 1 ∷ 2 ∷ [] }
+    record { id = id; way = 1; period = 100; route = 2 ∷ 3 ∷ 5 ∷ []; offsets = 0 ∷ 1 ∷ []; account = 0 }
+    ∷ record { id = id; way = 2; period = 100; route = 2 ∷ 4 ∷ 5 ∷ []; offsets = 1 ∷ 2 ∷ []; account = 0 }
     ∷ []))
 
 -- n closes of ids that are not there, after an id
@@ -142,7 +142,7 @@ from k (suc n) = k ∷ from (suc k) n
 -- n streams along the line of 16, each in the 15 slots after the one before
 abbrev pub along : ℕ → ℕ → List Row
 along zero id = []
-along (suc n) id = record { id = suc id; way = 1; period = 100; route = from 0 16; offsets = from (id * 15) 15 } ∷ along n (suc id)
+along (suc n) id = record { id = suc id; way = 1; period = 100; route = from 0 16; offsets = from (id * 15) 15; account = 0 } ∷ along n (suc id)
 
 -- 34 of them have 510 hops
 abbrev pub longOnes : Book
@@ -150,13 +150,33 @@ longOnes = bookOn (record { slots = 8; tiles = 1; kinds = 0; down = 0; up = 0 })
 
 -- without the first of them, and with a stream of 2 hops along the line of 3
 abbrev pub shortAfter : Book
-shortAfter = withRows longOnes (along 33 1 ++ (record { id = 65535; way = 1; period = 100; route = from 16 3; offsets = from 0 2 } ∷ []))
+shortAfter = withRows longOnes (along 33 1 ++ (record { id = 65535; way = 1; period = 100; route = from 16 3; offsets = from 0 2; account = 0 } ∷ []))
 
 abbrev pub onLong : List Request
 onLong = opening 65535 16 18 100 ∷ Close 1 ∷ []
 
 abbrev pub onLongBack : List Request
 onLongBack = Close 1 ∷ opening 65535 16 18 100 ∷ []
+
+-- AND ACCOUNTS THAT PAY FOR JUST ALL
+
+-- a stream of one hop of period 2 from slot 2 on, on an account: it draws 500
+abbrev pub drawing : ℕ → ℕ → ℕ → ℕ → Row
+drawing account id a b = record { id = id; way = 1; period = 2; route = a ∷ b ∷ []; offsets = 2 ∷ []; account = account }
+
+-- on three pairs, where account 1 has bought so much and account 9 has bought 500
+abbrev pub paidBy : ℕ → List Row → Book
+paidBy bought rows = withAccounts (record { number = 1; bought = bought } ∷ record { number = 9; bought = 500 } ∷ []) (bookOn planA threePairs rows)
+
+abbrev pub openingOn : ℕ → ℕ → ℕ → ℕ → Request
+openingOn account id source destination = Open (askedOn account (asked id source destination 2))
+
+-- opens on both, the close of a stream that account 1 pays for, and an open on an account that is not there
+abbrev pub onAccounts : List Request
+onAccounts = openingOn 1 1 0 1 ∷ openingOn 9 2 4 5 ∷ Close 3 ∷ openingOn 7 8 0 4 ∷ []
+
+abbrev pub onAccountsBack : List Request
+onAccountsBack = openingOn 7 8 0 4 ∷ Close 3 ∷ openingOn 9 2 4 5 ∷ openingOn 1 1 0 1 ∷ []
 
 -- where all premises are kept the order decides nothing
 pub record Kept : Type 0 where
@@ -173,6 +193,9 @@ pub record Kept : Type 0 where
       (closes 63 62 ++ (openingTwo 65535 2 5 100 ∷ [])) (threes 63 ++ (0 ∷ []))
   -- 512 hops before the close gives 15 of them back
   pub hops : Met newest longOnes (anyMiddle longOnes) onLong (0 ∷ 0 ∷ []) (image shortAfter) onLongBack (0 ∷ 0 ∷ [])
+  -- accounts that have bought just what all opens draw before the close gives back
+  pub accounts : Met newest (paidBy 1000 (drawing 1 3 2 3 ∷ [])) (anyMiddle (paidBy 1000 [])) onAccounts (0 ∷ 0 ∷ 0 ∷ 22 ∷ [])
+      (image (paidBy 1000 (drawing 1 1 0 1 ∷ drawing 9 2 4 5 ∷ []))) onAccountsBack (22 ∷ 0 ∷ 0 ∷ 0 ∷ [])
 
 -- ALL BUT ONE
 
@@ -187,7 +210,7 @@ ring = record { rows = 6 ∷ 17 ∷ 9 ∷ 116 ∷ 10 ∷ 8 ∷ 8 ∷ [] }
 
 -- a stream across the node 3 of the ring
 abbrev pub across : ℕ → Row
-across o = record { id = 2; way = 1; period = 2; route = 5 ∷ 3 ∷ 6 ∷ []; offsets = 2 ∷ o ∷ [] }
+across o = record { id = 2; way = 1; period = 2; route = 5 ∷ 3 ∷ 6 ∷ []; offsets = 2 ∷ o ∷ []; account = 0 }
 
 -- on the ring alone, and after one over the link of 0 and 1 and the long way round
 abbrev pub goneAcross : Book
@@ -196,7 +219,7 @@ goneAcross = bookOn planA ring (across 3 ∷ [])
 abbrev pub goneRound : Book
 goneRound = bookOn planA ring (
     oneHop 1 2 0 1 2
-    ∷ record { id = 1; way = 2; period = 2; route = 0 ∷ 2 ∷ 3 ∷ 4 ∷ 1 ∷ []; offsets = 3 ∷ 5 ∷ 6 ∷ 7 ∷ [] }
+    ∷ record { id = 1; way = 2; period = 2; route = 0 ∷ 2 ∷ 3 ∷ 4 ∷ 1 ∷ []; offsets = 3 ∷ 5 ∷ 6 ∷ 7 ∷ []; account = 0 }
     ∷ across 7
     ∷ [])
 
@@ -206,7 +229,7 @@ oneMore = withRows nearlyFull (streams 62 0 ++ (oneHop 64 100 0 1 62 ∷ []))
 
 -- a stream over one middle of the square
 abbrev pub overSquare : ℕ → Book
-overSquare a = bookOn planA square (record { id = 1; way = 1; period = 2; route = 0 ∷ a ∷ 3 ∷ []; offsets = 2 ∷ 3 ∷ [] } ∷ [])
+overSquare a = bookOn planA square (record { id = 1; way = 1; period = 2; route = 0 ∷ a ∷ 3 ∷ []; offsets = 2 ∷ 3 ∷ []; account = 0 } ∷ [])
 
 -- what just one premise less lets the order decide, or the call refuse
 pub record Decides : Type 0 where
@@ -221,6 +244,8 @@ pub record Decides : Type 0 where
   pub room : BothOrders nearlyFull (openingTwo 63 2 5 100) (opening 65 0 1 1) (0 ∷ 8 ∷ []) (fullWith 63) (9 ∷ 0 ∷ []) (fullWith 63)
   -- there is room for a row of each, and one of them has two
   pub rows : BothOrders nearlyFull (openingTwo 63 2 5 100) (opening 64 0 1 100) (0 ∷ 8 ∷ []) (fullWith 63) (0 ∷ 8 ∷ []) oneMore
+  -- the account is one hop use short of both: the open is paid for only after the close
+  pub pays : BothOrders (paidBy 999 (drawing 1 3 2 3 ∷ [])) (openingOn 1 1 0 1) (Close 3) (23 ∷ 0 ∷ []) (paidBy 999 []) (0 ∷ 0 ∷ []) (paidBy 999 (drawing 1 1 0 1 ∷ []))
   -- of 65 requests the list is refused as a whole, and no record is marked
   pub most : Posting Ample (image (empty pair)) (anyMiddle (empty pair)) (closes 65 0) 26 (threes 65) (image (empty pair))
   -- and so it is with a buffer that is a byte shorter

@@ -3,14 +3,14 @@ use mathlib.Core.Path.{_≡_}
 use mathlib.Core.List.{List, [], _∷_}
 use Prim.Native.Nat.{ℕ, _+_, _≤_}
 use lib.ListN.{length, take}
-use Rattle.rules.specs.Words.{NoBitFrom, _∈_, Pairwise, Reordered, Each, total}
+use Rattle.rules.specs.Words.{NoBitFrom, _∈_, Pairwise, Reordered, Each, total, totalEach}
 use Rattle.rules.specs.Topology.{nodes, NoClash}
-use Rattle.rules.specs.Book.{Row, Book, hopsInAll, mostStreams, mostHops}
+use Rattle.rules.specs.Book.{Account, Row, Book, hopsInAll, drawn, mostStreams, mostHops}
 use Rattle.rules.specs.Image.{FullSize, planOf, Stored}
 use Rattle.rules.specs.Index.{indexLength}
 use Rattle.rules.specs.Calls.{Request, mostRequests, OfRoutes}
 use Rattle.rules.specs.Calls.Request.{Open, Close}
-use Rattle.rules.specs.Order.{IdInRange, DifferentIds, RouteOf, Apart, Asks, Room, Posting, InAnyOrder, Ample}
+use Rattle.rules.specs.Order.{IdInRange, DifferentIds, RouteOf, Apart, opens, Asks, mayDraw, Room, Posting, InAnyOrder, Ample}
 
 -- there may be over 64 requests
 abbrev pub WithoutMost : Type 0
@@ -58,17 +58,30 @@ WithRoomForDone =
     (image : List ℕ) (v : ℕ) (b : Book) (mains : ℕ) (qs : List Request) → Stored image v b → NoBitFrom (nodes (b .site .links)) mains → length qs ≤ mostRequests → ((q : Request) → q ∈ qs → IdInRange q)
     → Pairwise DifferentIds qs → Pairwise (Apart mains b) qs → RoomForDone image mains b qs → InAnyOrder Ample image mains qs
 
--- there is room for a row of each, and for all hops
+-- there is room for a row of each, and for all hops, and each account can pay for them
 pub record RoomForOne (mains : ℕ) (b : Book) (qs : List Request) : Type 0 where
   pub streams : length (b .rows) + length qs ≤ mostStreams
   pub asked : List ℕ
   pub asks : Each (Asks mains b) qs asked
   pub hops : hopsInAll (b .rows) + total (λ (k : ℕ). k) asked ≤ mostHops
+  pub pays : (a : Account) → a ∈ b .site .accounts → drawn (a .number) (b .rows) + totalEach (mayDraw (a .number)) qs asked ≤ a .bought
 
 abbrev pub WithRoomForOne : Type 0
 WithRoomForOne =
     (image : List ℕ) (v : ℕ) (b : Book) (mains : ℕ) (qs : List Request) → Stored image v b → NoBitFrom (nodes (b .site .links)) mains → length qs ≤ mostRequests → ((q : Request) → q ∈ qs → IdInRange q)
     → Pairwise DifferentIds qs → Pairwise (Apart mains b) qs → RoomForOne mains b qs → InAnyOrder Ample image mains qs
+
+-- there is room for all rows and hops, whatever the accounts can pay for
+pub record RoomUnpaid (mains : ℕ) (b : Book) (qs : List Request) : Type 0 where
+  pub streams : length (b .rows) + total opens qs ≤ mostStreams
+  pub asked : List ℕ
+  pub asks : Each (Asks mains b) qs asked
+  pub hops : hopsInAll (b .rows) + total (λ (k : ℕ). k) asked ≤ mostHops
+
+abbrev pub WithoutPays : Type 0
+WithoutPays =
+    (image : List ℕ) (v : ℕ) (b : Book) (mains : ℕ) (qs : List Request) → Stored image v b → NoBitFrom (nodes (b .site .links)) mains → length qs ≤ mostRequests → ((q : Request) → q ∈ qs → IdInRange q)
+    → Pairwise DifferentIds qs → Pairwise (Apart mains b) qs → RoomUnpaid mains b qs → InAnyOrder Ample image mains qs
 
 -- every output has n bytes, and every index holds 100 tiles
 abbrev pub OfBytes : ℕ → List ℕ → List ℕ → List ℕ → Type 0
@@ -108,6 +121,7 @@ pub record Needed : Type 0 where
   pub seconds : WithoutSeconds → ⊥
   pub room : WithRoomForDone → ⊥
   pub rows : WithRoomForOne → ⊥
+  pub pays : WithoutPays → ⊥
   pub full-size : WithoutFullSize → ⊥
   pub tiles : WithoutIndex → ⊥
   pub low : WithoutLow → ⊥

@@ -24,16 +24,16 @@ module _ {S place : ℕ} {route offsets : List ℕ} (w : Markable S place route 
   pub node-small : (i : ℕ) → i < length offsets + 1 → getD route i 0 < 64
   node-small i l = w .known (getD route i 0) (at-in route i (omega (arith, w .count)))
 
-pub marked-more : {S K : ℕ} {route offsets before after index : List ℕ} {repeats : Repeats} {reach : Reach} {t : Bool} (v : RepeatsOf S K repeats) (i id way : ℕ)
-    → Adds (HopsTake S (rowOn id way K route offsets) i) before index
+pub marked-more : {S K : ℕ} {route offsets before after index : List ℕ} {repeats : Repeats} {reach : Reach} {t : Bool} (v : RepeatsOf S K repeats) (i id way account : ℕ)
+    → Adds (HopsTake S (rowOn id way account K route offsets) i) before index
     → Marks repeats (getD offsets i 0) (record { from = getD route i 0; to = getD route (i + 1) 0 }) reach index after t
-    → Adds (HopsTake S (rowOn id way K route offsets) (i + 1)) before after
-marked-more {S} {K} {route} {offsets} {before} {after} {index} {repeats} {reach} {t} v i id way a m =
-    hops-more S (rowOn id way K route offsets) i v a
+    → Adds (HopsTake S (rowOn id way account K route offsets) (i + 1)) before after
+marked-more {S} {K} {route} {offsets} {before} {after} {index} {repeats} {reach} {t} v i id way account a m =
+    hops-more S (rowOn id way account K route offsets) i v a
     (subst (λ (j : ℕ). Marks repeats (getD offsets i 0) (record { from = getD route i 0; to = getD route j 0 }) reach index after t) (add-one i) m .adds)
 
 -- and the period is noted
 pub marked : {S place K : ℕ} {route offsets before words after : List ℕ}
-    → ((id way : ℕ) → Adds (HopsTake S (rowOn id way (periodAt place) route offsets) (hopCount route)) before words) → K ≡ periodAt place → Notes K words after
+    → ((id way account : ℕ) → Adds (HopsTake S (rowOn id way account (periodAt place) route offsets) (hopCount route)) before words) → K ≡ periodAt place → Notes K words after
     → Marked S place route offsets before after
 marked {words = words} {after} a e n = record { words = words; adds = a; notes = subst (λ (K : ℕ). Notes K words after) e n }

@@ -18,12 +18,12 @@ pub record Markable (S place : ℕ) (route offsets : List ℕ) : Type 0 where
   pub known : (a : ℕ) → a ∈ route → a < 64
   pub within : (o : ℕ) → o ∈ offsets → o < periodAt place * S
 
--- the row on it, whichever its id and way
-abbrev pub rowOn : ℕ → ℕ → ℕ → List ℕ → List ℕ → Row
-rowOn id way K route offsets = record { id = id; way = way; period = K; route = route; offsets = offsets }
+-- the row on it, whichever its id, way and account
+abbrev pub rowOn : ℕ → ℕ → ℕ → ℕ → List ℕ → List ℕ → Row
+rowOn id way account K route offsets = record { id = id; way = way; period = K; route = route; offsets = offsets; account = account }
 
 -- the hops of that row were marked, and then its period noted
 pub record Marked (S place : ℕ) (route offsets before after : List ℕ) : Type 0 where
   pub words : List ℕ
-  pub adds : (id way : ℕ) → Adds (HopsTake S (rowOn id way (periodAt place) route offsets) (hopCount route)) before words
+  pub adds : (id way account : ℕ) → Adds (HopsTake S (rowOn id way account (periodAt place) route offsets) (hopCount route)) before words
   pub notes : Notes (periodAt place) words after

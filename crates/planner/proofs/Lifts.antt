@@ -11,9 +11,9 @@ use Rattle.rules.specs.Tiles.{Plan, PlanInRange}
 use Rattle.rules.specs.Topology.{nodes}
 use Rattle.rules.specs.Periods.{thePlan}
 use Rattle.rules.specs.Book.{Book}
-use Rattle.rules.specs.Image.{imageRefusals, encode, linksStart, versionOf, planOf, nodesOf, linksOf}
+use Rattle.rules.specs.Image.{newest, imageRefusals, encode, linksPlace, versionOf, planOf, nodesOf, linksOf}
 use Rattle.rules.specs.Table.{tableLength, TablePart, BalanceOf}
-use Rattle.rules.specs.Calls.{SaysOf, CallOf, ReplyOf, rewriteRefusals}
+use Rattle.rules.specs.Calls.{SaysOf, CallOf, ReplyOf, rewriteRefusals, purchased, purchaseRefusals, Purchase}
 use Rattle.rules.specs.Calls.{PartInRange, expandRefusals, balanceRefusals, checkRefusals, Check, Rewrite, Expand, Balance}
 use Rattle.rules.proofs.Written.{length-sets-at}
 use Rattle.rules.proofs.Reading.{bookIn, LawfulImage}
@@ -25,6 +25,7 @@ use Rattle.tables.specs.Entries.{Filled}
 use Rattle.answers.specs.Reply.{Reply}
 use Rattle.answers.proofs.Replies.{reply-refused, reply-next, reply-done}
 use Rattle.lawful.specs.Verdict.{Verdict}
+use Rattle.purchasing.specs.Buying.{Buys}
 
 -- ANY CALL
 
@@ -43,6 +44,9 @@ module _ {s words : List ℕ} {n number : ℕ} (v : Verdict s n words) (f : n �
   module _ (out : List ℕ) {len : ℕ} (b : len ≡ 0) where
     pub rewrite-refused : Rewrite s out number len out
     rewrite-refused = reply-image (rewriteRefusals (length out)) (λ v b bytes. bytes ≡ encode v b) out b
+
+    pub purchase-refused : (account amount : ℕ) → Purchase s account amount out number len out
+    purchase-refused account amount = reply-image (purchaseRefusals account amount (length out)) (λ v b bytes. bytes ≡ encode newest (purchased account amount b)) out b
 
     pub expand-refused : (node first tiles : ℕ) → Expand s node first tiles out number len out
     expand-refused node first tiles = reply-image (expandRefusals node first tiles (length out)) (λ v b. TablePart b node first tiles) out b
@@ -83,13 +87,18 @@ module _ {s : List ℕ} (h : LawfulImage s) {number len : ℕ} (out : List ℕ) 
   pub rewrite-done : {out′ : List ℕ} → length s ≤ length out → number ≡ 0 → len ≡ length s → out′ ≡ over out 0 s → Rewrite s out number len out′
   rewrite-done l a b w = rewrite-on (reply-next (λ k. omega (arith, k, ap length (h .bytes))) (reply-done s (h .bytes) a b (w ∙ over-front out s)))
 
+-- PURCHASE
+pub purchase-on : {s : List ℕ} → LawfulImage s → (account amount : ℕ) (out : List ℕ) {number len : ℕ} {out′ : List ℕ} → Buys s account amount out number len out′
+    → Purchase s account amount out number len out′
+purchase-on h account amount out w = reply-book h (purchaseRefusals account amount (length out)) (λ v b bytes. bytes ≡ encode newest (purchased account amount b)) w
+
 -- EXPAND
 module _ {s : List ℕ} (h : LawfulImage s) {book : head.Book} (read : HeaderOf s book) where
   pub plan-held : PlanInRange (thePlan (book .plan))
   plan-held = subst PlanInRange (sym (read .plan)) (h .lawful .site .plan)
 
   pub known : nodes (linksOf s) ≡ book .nodes
-  known = length-sets-at s (linksStart (versionOf s)) (nodesOf s) ∙ sym (read .nodes)
+  known = length-sets-at s (linksPlace s) (nodesOf s) ∙ sym (read .nodes)
 
   size-is : {size : ℕ} (tiles : ℕ) → size ≡ tableLength (thePlan (book .plan)) tiles → size ≡ tableLength (planOf s) tiles
   size-is tiles e = e ∙ ap (λ (plan : Plan). tableLength plan tiles) (read .plan)

@@ -7,7 +7,7 @@ use native.Mathlib.Omega.{arith}
 use lib.ListN.{length, getD}
 use Rattle.rules.specs.Words.{Has, Count}
 use Rattle.rules.specs.Topology.{nodes, Joined, SoundTopology}
-use Rattle.rules.specs.Image.{linksStart, versionOf, nodesOf, word64At, setsAt, linksOf}
+use Rattle.rules.specs.Image.{linksPlace, versionOf, nodesOf, word64At, setsAt, linksOf}
 use Rattle.rules.specs.Calls.{balanceRefusals, LinksOf, Links}
 use Rattle.rules.proofs.Counts.{count-below}
 use Rattle.rules.proofs.Written.{length-sets-at}
@@ -25,12 +25,12 @@ row-at s at (suc n) (suc i) l = let e : at + 8 + 8 * i ≡ at + 8 * suc i = omeg
 
 module _ {s : List ℕ} (h : LawfulImage s) where
   -- a node of the book has its row in the image
-  pub row-within : (node : ℕ) → node < nodesOf s → (node < 64) × (16 + 8 * node + 8 ≤ length s)
+  pub row-within : (node : ℕ) → node < nodesOf s → (node < 64) × (linksPlace s + 8 * node + 8 ≤ length s)
   row-within node l =
-      let e : nodes (linksOf s) ≡ nodesOf s = length-sets-at s (linksStart (versionOf s)) (nodesOf s) in
+      let e : nodes (linksOf s) ≡ nodesOf s = length-sets-at s (linksPlace s) (nodesOf s) in
       (omega (arith, e, h .lawful .site .nodes .1), omega (arith, stored-length h))
 
-  pub counted-links : (node : ℕ) {row k : ℕ} → node < nodesOf s → row ≡ word64At s (linksStart (versionOf s) + 8 * node) → Count (Has row) 64 k → LinksOf (bookIn s) node k
+  pub counted-links : (node : ℕ) {row k : ℕ} → node < nodesOf s → row ≡ word64At s (linksPlace s + 8 * node) → Count (Has row) 64 k → LinksOf (bookIn s) node k
   counted-links node {row} {k} l e c =
       count-below (λ i m j. past (nodes (linksOf s)) _ i (sound .low node (omega (arith, size))) m j) most (subst (λ (x : ℕ). Count (Has x) 64 k) (e ∙ sym (row-at s _ _ node l)) c)
     where
@@ -38,7 +38,7 @@ module _ {s : List ℕ} (h : LawfulImage s) where
       sound = h .lawful .site .topologies .links-sound
 
       size : nodes (linksOf s) ≡ nodesOf s
-      size = length-sets-at s (linksStart (versionOf s)) (nodesOf s)
+      size = length-sets-at s (linksPlace s) (nodesOf s)
 
       most : nodes (linksOf s) ≤ 64
       most = h .lawful .site .nodes .1
@@ -46,14 +46,14 @@ module _ {s : List ℕ} (h : LawfulImage s) where
   module _ (node : ℕ) {number k : ℕ} where
     pub links-unknown : nodesOf s ≤ node → number ≡ 4 → k ≡ 0 → Links s node number k
     links-unknown l a z = record {
-      says = inr (versionOf s, bookIn s, h, inl (omega (arith, length-sets-at s (linksStart (versionOf s)) (nodesOf s)), a));
+      says = inr (versionOf s, bookIn s, h, inl (omega (arith, length-sets-at s (linksPlace s) (nodesOf s)), a));
       refused = λ g. z;
       done = λ q. absurd (omega (arith, q, a));
     }
 
     pub links-done : node < nodesOf s → number ≡ 0 → LinksOf (bookIn s) node k → Links s node number k
     links-done l a w = record {
-      says = inr (versionOf s, bookIn s, h, inr (λ m. omega (arith, m, length-sets-at s (linksStart (versionOf s)) (nodesOf s)), a));
+      says = inr (versionOf s, bookIn s, h, inr (λ m. omega (arith, m, length-sets-at s (linksPlace s) (nodesOf s)), a));
       refused = λ g. absurd (g a);
       done = λ z. (versionOf s, bookIn s, h, w);
     }

@@ -1,7 +1,7 @@
-// The C interface: the twelve calls over bare numbers.
+// The C interface: the thirteen calls over bare numbers.
 ghost use mathlib.Core.Path.{_≡_};
 ghost use Rattle.rules.specs.Salvage.{Salvage};
-ghost use Rattle.rules.specs.Calls.{New, Check, Rewrite, Serve, Expand, Balance, Links};
+ghost use Rattle.rules.specs.Calls.{New, Check, Rewrite, Serve, Purchase, Expand, Balance, Links};
 ghost use Rattle.rules.specs.Calls.Request.{Open, Close};
 ghost use Rattle.posting.specs.Posting.{Posts};
 ghost use Rattle.planner.specs.Marks.{RoutesMarked, KeepsMarked};
@@ -23,10 +23,11 @@ pub extern "C" fn lindurask_new(
     n: u8,
     links: &[u8],
     hearing: &[u8],
+    accounts: &[u8],
     out: &mut [u8],
     length: &mut usize,
 ) -> u8
-    ensures { λ r. ⌜ New (record { slots = s; tiles = c; kinds = kinds; down = d; up = u }) n (now (links .entry)) (now (hearing .entry)) (now (out .entry))
+    ensures { λ r. ⌜ New (record { slots = s; tiles = c; kinds = kinds; down = d; up = u }) n (now (links .entry)) (now (hearing .entry)) (now (accounts .entry)) (now (out .entry))
         r (now (length .exit)) (now (out .exit)) ⌝ }
 {
     let plan = Plan {
@@ -36,7 +37,7 @@ pub extern "C" fn lindurask_new(
         down: Slot(d as u16),
         up: Slot(u as u16),
     };
-    let answer = crate::new_book(plan, n, links, hearing, out);
+    let answer = crate::new_book(plan, n, links, hearing, accounts, out);
     *length = answer.length;
     answer.number
 }
@@ -88,10 +89,11 @@ pub extern "C" fn lindurask_open(
     destination: u8,
     period: u16,
     second: bool,
+    account: u16,
     out: &mut [u8],
     length: &mut usize,
 ) -> u8
-    ensures { λ r. ⌜ Serve (now (book .entry)) (Open (record { id = id; source = source; destination = destination; period = period; second = second })) (now (out .entry)) r (now (length .exit)) (now (out .exit)) ⌝ }
+    ensures { λ r. ⌜ Serve (now (book .entry)) (Open (record { id = id; source = source; destination = destination; period = period; second = second; account = account })) (now (out .entry)) r (now (length .exit)) (now (out .exit)) ⌝ }
 {
     let asked = Asked {
         id,
@@ -99,6 +101,7 @@ pub extern "C" fn lindurask_open(
         destination: Node(destination),
         period: Tile(period),
         second,
+        account,
     };
     let answer = crate::open_stream(book, asked, out);
     *length = answer.length;
@@ -111,6 +114,22 @@ pub extern "C" fn lindurask_close(book: &[u8], id: u16, out: &mut [u8], length: 
     ensures { λ r. ⌜ Serve (now (book .entry)) (Close id) (now (out .entry)) r (now (length .exit)) (now (out .exit)) ⌝ }
 {
     let answer = crate::close_stream(book, id, out);
+    *length = answer.length;
+    answer.number
+}
+
+// Buys for an account.
+#[no_mangle]
+pub extern "C" fn lindurask_purchase(
+    book: &[u8],
+    account: u16,
+    amount: u32,
+    out: &mut [u8],
+    length: &mut usize,
+) -> u8
+    ensures { λ r. ⌜ Purchase (now (book .entry)) account amount (now (out .entry)) r (now (length .exit)) (now (out .exit)) ⌝ }
+{
+    let answer = crate::purchase(book, account, amount, out);
     *length = answer.length;
     answer.number
 }

@@ -2,11 +2,12 @@
 ghost use mathlib.Core.Path.{_≡_};
 ghost use Prim.Native.Nat.{_<_};
 ghost use Rattle.rules.specs.Periods.{thePlan, theAsked};
-ghost use Rattle.rules.specs.Calls.{New, Check, Rewrite, Serve, Expand, LinksOf, Links, Routes, Keeps};
+ghost use Rattle.rules.specs.Calls.{New, Check, Rewrite, Serve, Purchase, Expand, LinksOf, Links, Routes, Keeps};
 ghost use Rattle.rules.specs.Calls.Request.{Open, Close};
 ghost use Rattle.rules.specs.Image.{nodesOf};
 ghost use Rattle.rules.specs.Salvage.{Salvage};
 ghost use Rattle.rules.proofs.Reading.{bookIn, LawfulImage};
+ghost use Rattle.image.specs.Header.{HeaderOf};
 ghost use Rattle.posting.specs.Posting.{Posts};
 ghost use Rattle.planner.specs.Balances.{BalanceSays};
 use answers::Answer;
@@ -41,9 +42,16 @@ pub struct Kept {
     pub keeps: bool,
 }
 
-// Makes a book without streams; the links, and who hears whom, are given as they stand in an image.
-pub fn new_book(plan: Plan, nodes: u8, links: &[u8], hearing: &[u8], out: &mut [u8]) -> Answer
-    ensures { λ r. ⌜ New (thePlan plan) nodes (now (links .entry)) (now (hearing .entry)) (now (out .entry)) (r .number) (r .length) (now (out .exit)) ⌝ }
+// Makes a book without streams; the links, who hears whom, and the accounts are given as they stand in an image, without the count.
+pub fn new_book(
+    plan: Plan,
+    nodes: u8,
+    links: &[u8],
+    hearing: &[u8],
+    accounts: &[u8],
+    out: &mut [u8],
+) -> Answer
+    ensures { λ r. ⌜ New (thePlan plan) nodes (now (links .entry)) (now (hearing .entry)) (now (accounts .entry)) (now (out .entry)) (r .number) (r .length) (now (out .exit)) ⌝ }
 {
     let n = nodes as usize;
     if !fields::plan_in_range(plan) {
@@ -52,14 +60,17 @@ pub fn new_book(plan: Plan, nodes: u8, links: &[u8], hearing: &[u8], out: &mut [
     if !fields::nodes_in_range(n) {
         return answers::refused(10);
     }
+    if !accounts::given_hold(accounts) {
+        return answers::refused(10);
+    }
     if !topologies::soundness::given(n, links, hearing) {
         return answers::refused(11);
     }
-    let length = image::HEADER + links.len() + hearing.len();
+    let length = image::HEADER + 1 + accounts.len() + links.len() + hearing.len();
     if out.len() < length {
         return answers::refused(12);
     }
-    writer::put_new(plan, nodes, links, hearing, out);
+    writer::put_new(plan, nodes, links, hearing, accounts, out);
     answers::done(length)
 }
 
@@ -112,6 +123,7 @@ pub fn open_stream(image: &[u8], asked: Asked, out: &mut [u8]) -> Answer
         destination: asked.destination.0,
         id: asked.id,
         period: asked.period.0,
+        account: asked.account,
         answer: 0,
     };
     posting::post_one(image, posting::all_nodes(image), request, out)
@@ -128,9 +140,22 @@ pub fn close_stream(image: &[u8], id: u16, out: &mut [u8]) -> Answer
         destination: 0,
         id,
         period: 0,
+        account: 0,
         answer: 0,
     };
     posting::post_one(image, posting::all_nodes(image), request, out)
+}
+
+// Buys for an account: writes the image of the book with the account of the number raised by the amount.
+pub fn purchase(image: &[u8], account: u16, amount: u32, out: &mut [u8]) -> Answer
+    ensures { λ r. ⌜ Purchase (now (image .entry)) account amount (now (out .entry)) (r .number) (r .length) (now (out .exit)) ⌝ }
+{
+    let mut index = [0u64; index::WORDS];
+    let number = lawful::verdict(image, &mut index);
+    if number != 0 {
+        return answers::refused(number);
+    }
+    purchasing::purchase_on(image, account, amount, out)
 }
 
 // Writes the part of a node's slot table that has so many tiles from the first on.
@@ -192,11 +217,11 @@ pub fn balance_of(image: &[u8], node: Node) -> Balance
 }
 
 // How many links a node of the book has.
-fn count_links(image: &[u8], node: usize) -> u8
-    requires { ⌜ LawfulImage (now image) × (node < nodesOf (now image)) ⌝ }
+fn count_links(image: &[u8], book: Book, node: usize) -> u8
+    requires { ⌜ LawfulImage (now image) × HeaderOf (now image) book × (node < nodesOf (now image)) ⌝ }
     ensures { λ r. ⌜ LinksOf (bookIn (now (image .entry))) node r ⌝ }
 {
-    let row = image::word64_at(image, image::HEADER + image::SET * node);
+    let row = image::word64_at(image, book.links_place() + image::SET * node);
     bitset::count(row) as u8
 }
 
@@ -209,8 +234,9 @@ pub fn links_of(image: &[u8], node: Node) -> Linked
     if number != 0 {
         return Linked { number, links: 0 };
     }
+    let book = Book::read(image);
     let at = node.0 as usize;
-    if Book::read(image).nodes <= at {
+    if book.nodes <= at {
         return Linked {
             number: 4,
             links: 0,
@@ -218,7 +244,7 @@ pub fn links_of(image: &[u8], node: Node) -> Linked
     }
     Linked {
         number: 0,
-        links: count_links(image, at),
+        links: count_links(image, book, at),
     }
 }
 

@@ -24,7 +24,7 @@ use Rattle.index.specs.Beside.{ImageBeside, Works}
 use Rattle.writer.specs.Over.{over}
 use Rattle.writer.proofs.Laws.{over-front}
 use Rattle.posting.specs.declared.Request.{Request}
-use Rattle.posting.specs.Records.{theRequest}
+use Rattle.posting.specs.Records.{askedBy, theRequest}
 use Rattle.posting.specs.Standing.{Standing, bookAt}
 use Rattle.posting.specs.Posting.{Worked}
 
@@ -32,7 +32,7 @@ use Rattle.posting.specs.Posting.{Worked}
 pub small-id : (r : Request) → TwoBytes (r .id) → (a : Asked) → theRequest r ≡ Open a → TwoBytes (a .id)
 small-id r l a e = subst TwoBytes (sym (named (r .opens)) ∙ ap idOf e) l
   where
-    named : (t : Bool) → idOf (cond t (Open (record { id = r .id; source = r .source; destination = r .destination; period = r .period; second = r .second })) (Close (r .id))) ≡ r .id
+    named : (t : Bool) → idOf (cond t (Open (askedBy r)) (Close (r .id))) ≡ r .id
     named true = refl
     named false = refl
 
@@ -156,13 +156,11 @@ module _ {buffer : List ℕ} {len : ℕ} {words : List ℕ} (w : Standing buffer
 
 -- what an open and a close do is what the record asks for
 pub asks-open : (r : Request) → r .opens ≡ true → {s out words : List ℕ} {mains number len : ℕ}
-    → Works mains s (Open (record { id = r .id; source = r .source; destination = r .destination; period = r .period; second = r .second })) number len out words
+    → Works mains s (Open (askedBy r)) number len out words
     → Works mains s (theRequest r) number len out words
 asks-open r e {s} {out} {words} {mains} {number} {len} w =
-    subst (λ (t : Bool). Works mains s (cond t (Open (record { id = r .id; source = r .source; destination = r .destination; period = r .period; second = r .second }))
-    (Close (r .id))) number len out words) (sym e) w
+    subst (λ (t : Bool). Works mains s (cond t (Open (askedBy r)) (Close (r .id))) number len out words) (sym e) w
 
 pub asks-close : (r : Request) → r .opens ≡ false → {s out words : List ℕ} {mains number len : ℕ} → Works mains s (Close (r .id)) number len out words → Works mains s (theRequest r) number len out words
 asks-close r e {s} {out} {words} {mains} {number} {len} w =
-    subst (λ (t : Bool). Works mains s (cond t (Open (record { id = r .id; source = r .source; destination = r .destination; period = r .period; second = r .second }))
-    (Close (r .id))) number len out words) (sym e) w
+    subst (λ (t : Bool). Works mains s (cond t (Open (askedBy r)) (Close (r .id))) number len out words) (sym e) w

@@ -56,7 +56,7 @@ through-more mains rs rs′ b c done done′ r n d h w e = record {
 
 -- BETWEEN TWO TURNS i records are marked; the list as it stands, the book and its index
 abbrev pub none : Request
-none = record { opens = false; second = false; source = 0; destination = 0; id = 0; period = 0; answer = 0 }
+none = record { opens = false; second = false; source = 0; destination = 0; id = 0; period = 0; account = 0; answer = 0 }
 
 abbrev pub at : List Request → ℕ → Request
 at rs i = getD rs i none

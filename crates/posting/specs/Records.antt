@@ -4,15 +4,18 @@ use mathlib.Core.Bool.{cond}
 use mathlib.Core.List.{List, map}
 use Prim.Native.Nat.{ℕ}
 use Rattle.rules.specs.Words.{Each}
+use Rattle.rules.specs.Placing.{Asked}
 use Rattle.rules.specs.Calls as calls
 use Rattle.rules.specs.Calls.Request.{Open, Close}
 use Rattle.posting.specs.declared.Request.{Request}
 
--- what a record asks for
+-- what a record asks for where it opens a stream
+abbrev pub askedBy : Request → Asked
+askedBy r = record { id = r .id; source = r .source; destination = r .destination; period = r .period; second = r .second; account = r .account }
+
+-- what it asks for
 abbrev pub theRequest : Request → calls.Request
-theRequest r =
-    cond (r .opens) (Open (record { id = r .id; source = r .source; destination = r .destination; period = r .period; second = r .second }))
-    (Close (r .id))
+theRequest r = cond (r .opens) (Open (askedBy r)) (Close (r .id))
 
 abbrev pub theRequests : List Request → List calls.Request
 theRequests = map theRequest
@@ -30,6 +33,7 @@ withAnswer r n = record {
   destination = r .destination;
   id = r .id;
   period = r .period;
+  account = r .account;
   answer = n;
 }
 

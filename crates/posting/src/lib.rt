@@ -26,7 +26,7 @@ const OWN: usize = 6400;
 // An array of requests has room for a list that is too long.
 pub const LISTED: usize = 100;
 
-// A request: an open of a stream or a close of the one of the id, and its answer.
+// A request: an open of a stream on the account of the number or a close of the one of the id, and its answer.
 #[repr(C)]
 pub struct Request {
     pub opens: bool,
@@ -35,6 +35,7 @@ pub struct Request {
     pub destination: u8,
     pub id: u16,
     pub period: u16,
+    pub account: u16,
     pub answer: u8,
 }
 

@@ -17,7 +17,7 @@ use rules::Node;
 use rules::Tile;
 
 // Opens, with only members of the set in the middle of a route, or closes a stream on an image and its index, and lays out
-// the image after it, but for the topologies.
+// the image after it, but for the accounts and the topologies.
 fn serve(
     image: &[u8],
     index: &mut [u64; index::WORDS],
@@ -35,6 +35,7 @@ fn serve(
             destination: Node(q.destination),
             period: Tile(q.period),
             second: q.second,
+            account: q.account,
         };
         opening::open_on(image, index, mains, asked, out)
     } else {
@@ -42,7 +43,7 @@ fn serve(
     }
 }
 
-// Puts an image in the place of the book's, but for the topologies, which end where the rows start.
+// Puts an image in the place of the book's, but for the accounts and the topologies, which end where the rows start.
 fn take_over(book: &mut [u8], start: usize, next: &[u8])
     requires { ⌜ (headerLength ≤ start) × (start ≤ length (now next)) × (length (now next) ≤ length (now book)) ⌝ }
     ensures { λ _. ⌜ now (book .exit) ≡ over (over (now (book .entry)) 0 (take headerLength (now (next .entry)))) start (drop start (now (next .entry))) ⌝ }

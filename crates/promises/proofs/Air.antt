@@ -112,8 +112,9 @@ module _ (site : Site) (wide : 1 ≤ site .plan .slots) where
       go (no h) (yes k) = absurd (omega (arith, pair-at _<_ (r .offsets) j i (l .offsets .rising) k (omega (arith, l .offsets .count))))
       go (no h) (no k) = omega arith
 
-  pub row-same : (r x : Row) → LawfulRow site r → LawfulRow site x → Follows S r x → Follows S x r → r .id ≡ x .id → r .way ≡ x .way → r ≡ x
-  row-same r x lr lx f g id way = λ i. record { id = id i; way = way i; period = period i; route = route i; offsets = offsets i }
+  pub row-same : (r x : Row) → LawfulRow site r → LawfulRow site x → Follows S r x → Follows S x r → r .id ≡ x .id → r .way ≡ x .way
+      → r .account ≡ x .account → r ≡ x
+  row-same r x lr lx f g id way account = λ i. record { id = id i; way = way i; period = period i; route = route i; offsets = offsets i; account = account i }
     where
       first : rowOffset r 0 ≡ rowOffset x 0
       first = le-antisymm (first-le x r lx lr g) (first-le r x lr lx f)

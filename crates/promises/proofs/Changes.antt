@@ -61,7 +61,7 @@ pub record Done (image : List ℕ) (q : Request) (len : ℕ) (out′ : List ℕ)
   pub work : Work (allOf before) before q 0 after
   pub bytes : take len out′ ≡ encode newest after
 
-done : (image : List ℕ) (q : Request) (out : List ℕ) (len : ℕ) (out′ : List ℕ) → Serve image q out 0 len out′ → Done image q len out′
+pub done : (image : List ℕ) (q : Request) (out : List ℕ) (len : ℕ) (out′ : List ℕ) → Serve image q out 0 len out′ → Done image q len out′
 done image q out len out′ h = go (ℕ-discrete (h .whole) 0)
   where
     go : Dec (h .whole ≡ 0) → Done image q len out′
@@ -84,7 +84,7 @@ done-stored {q = q} {len} {out′} d small =
     let l = work-lawful (allOf (d .before)) (d .before) q 0 (d .after) (d .work) (d .held .lawful) small in
     subst (λ (s : List ℕ). Stored s newest (d .after)) (sym (d .bytes)) (lawful-stored (d .after) l)
 
-moves : {image : List ℕ} {q : Request} {len : ℕ} {out′ : List ℕ} (d : Done image q len out′) → IdInRange q → Moves image (idOf q) len out′ (d .before) (d .after)
+pub moves : {image : List ℕ} {q : Request} {len : ℕ} {out′ : List ℕ} (d : Done image q len out′) → IdInRange q → Moves image (idOf q) len out′ (d .before) (d .after)
 moves {q = q} d small = record {
   version = d .version;
   before = d .held;
@@ -93,7 +93,7 @@ moves {q = q} d small = record {
 }
 
 -- where no refusal applies to a close the id is there
-closing-known : (id : ℕ) (b : Book) → Says (closeRefusals id b) 0 → Known b id
+pub closing-known : (id : ℕ) (b : Book) → Says (closeRefusals id b) 0 → Known b id
 closing-known id b h = stable (tests-known b id) (says-none (closeRefusals id b) (omega arith) h .1 .0)
 
 -- an open adds its first way, and its second exactly if that was asked for
@@ -124,8 +124,8 @@ module _ {image : List ℕ} {q : Asked} {len : ℕ} {out′ : List ℕ} (d : Don
   none-applies : None (openRefusals (allOf (d .before)) q (d .before))
   none-applies = says-none (openRefusals (allOf (d .before)) q (d .before)) (omega arith) (d .work .says)
 
-  fresh : (r : Row) → r ∈ d .before .rows → r .id ≡ q .id → ⊥
-  fresh r m e = none-applies .1 .1 .1 .1 .0 record { row = r; there = m; named = e }
+  pub fresh : (r : Row) → r ∈ d .before .rows → r .id ≡ q .id → ⊥
+  fresh r m e = none-applies .1 .1 .1 .1 .1 .0 record { row = r; there = m; named = e }
 
   -- the rows of the id are the new ones
   new-there : (way : ℕ) → HasWay (d .after) (q .id) way ↔ HasWay (withRows (d .before) (made .new)) (q .id) way

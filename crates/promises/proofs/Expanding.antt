@@ -93,10 +93,10 @@ pub joined-is-whole : JoinedIsWhole
 joined-is-whole image v b node table h l = (λ j. table-of h j, λ t. joined-of h l t)
 
 pub images-never-alike : ImagesNeverAlike
-images-never-alike s t version plan links hearing alike =
+images-never-alike s t version plan links hearing accounts numbers alike =
     let (v, b, g) = reads-exactly .0 s 0 0 (alike .one) .0 refl in
     let (w, c, h) = reads-exactly .0 t 0 0 (alike .other) .0 refl in
-    let site : siteOf s ≡ siteOf t = λ i. record { plan = plan i; links = links i; hearing = hearing i } in
+    let site : siteOf s ≡ siteOf t = λ i. record { plan = plan i; links = links i; hearing = hearing i; accounts = accounts i } in
     let look : LookAlike b c = λ node l. let (bytes, p, q) = alike .same node (omega (arith, nodes-of g)) in (bytes, table-of g p, table-of h q) in
-    g .bytes ∙ ap₂ encode (sym (version-of g) ∙ version ∙ version-of h) (never-alike b c (g .lawful) (h .lawful) (sym (site-of g) ∙ site ∙ site-of h) look)
+    g .bytes ∙ ap₂ encode (sym (version-of g) ∙ version ∙ version-of h) (never-alike b c (g .lawful) (h .lawful) (sym (site-of g) ∙ site ∙ site-of h) (numbers v w b c g h) look)
     ∙ sym (h .bytes)

@@ -11,4 +11,5 @@ pub mod Lists
 pub mod Orders
 pub mod Mains
 pub mod Index
+pub mod Accounts
 pub mod Salvages

@@ -23,7 +23,7 @@ use Rattle.rules.proofs.Meeting.{period-divides, takes-iff}
 use Rattle.rules.proofs.Entries.{does-work, Working, on-way-works, idle-not-working, one-hop, entry-unique}
 use Rattle.order.proofs.Steps.{on}
 use Rattle.rules.proofs.Lawful.{same-site}
-use Rattle.promises.specs.OnAir.{LookAlike, NeverAlike}
+use Rattle.promises.specs.OnAir.{LookAlike, SameAccounts, NeverAlike}
 use Rattle.promises.proofs.Air.{Follow, Follows, within, first-turn, row-same}
 
 -- OPERATIONS
@@ -169,7 +169,7 @@ module _ (site : Site) (xs ys : List Row) (lb : LawfulBook (on site xs)) (lc : L
       subst (λ (v : Row). Follow S r v i slot) e (p .follow)
 
 module _ (site : Site) (xs ys : List Row) (lb : LawfulBook (on site xs)) (lc : LawfulBook (on site ys))
-    (look : LookAlike (on site xs) (on site ys)) (back : LookAlike (on site ys) (on site xs)) where
+    (numbers : SameAccounts (on site xs) (on site ys)) (look : LookAlike (on site xs) (on site ys)) (back : LookAlike (on site ys) (on site xs)) where
   each-there : (r : Row) → r ∈ xs → r ∈ ys
   each-there r m =
       let lr = lb .rows r m in
@@ -178,12 +178,12 @@ module _ (site : Site) (xs ys : List Row) (lb : LawfulBook (on site xs)) (lc : L
       let k : key r ≡ key (p .row) = omega (arith, p .id, p .way) in
       let e : p .row ≡ r =
       sym (row-same site wide r (p .row) lr (lc .rows (p .row) (p .there)) (follows site xs ys lb lc look r (p .row) m (p .there) k)
-      (follows site ys xs lc lb back (p .row) r (p .there) m (sym k)) (p .id) (p .way)) in
+      (follows site ys xs lc lb back (p .row) r (p .there) m (sym k)) (p .id) (p .way) (numbers r (p .row) m (p .there) (p .id))) in
       subst (λ (x : Row). x ∈ ys) e (p .there)
 
 -- THE THEOREM
 pub never-alike : NeverAlike
-never-alike b c lb lc e look = λ i. record { site = e i; rows = rows i }
+never-alike b c lb lc e numbers look = λ i. record { site = e i; rows = rows i }
   where
     same : c ≡ on (b .site) (c .rows)
     same = sym (same-site b c (sym e))
@@ -199,5 +199,5 @@ never-alike b c lb lc e look = λ i. record { site = e i; rows = rows i }
 
     rows : b .rows ≡ c .rows
     rows =
-        rising-unique (b .rows) (c .rows) (lb .rising) (lc .rising) (each-there (b .site) (b .rows) (c .rows) lb lc′ look′ back)
-        (each-there (b .site) (c .rows) (b .rows) lc′ lb back look′)
+        rising-unique (b .rows) (c .rows) (lb .rising) (lc .rising) (each-there (b .site) (b .rows) (c .rows) lb lc′ numbers look′ back)
+        (each-there (b .site) (c .rows) (b .rows) lc′ lb (λ x r m k e. sym (numbers r x k m (sym e))) back look′)

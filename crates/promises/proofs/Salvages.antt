@@ -12,7 +12,7 @@ use Rattle.rules.specs.Words.{_∈_}
 use Rattle.rules.specs.Says.{Says}
 use Rattle.rules.specs.Topology.{NodesInRange}
 use Rattle.rules.specs.Book.{Row, Book, key, LawfulSite}
-use Rattle.rules.specs.Image.{linksStart, Version, encode, versionOf, nodesOf, linksOf, hearingOf, siteOf, bookOf, rowsPlace, imageRefusals, Stored}
+use Rattle.rules.specs.Image.{Version, encode, versionOf, nodesOf, accountsOf, linksPlace, linksOf, hearingOf, siteOf, bookOf, rowsPlace, imageRefusals, Stored}
 use Rattle.rules.specs.Calls.{InOrder, Wrote}
 use Rattle.rules.specs.Salvage.{LawfulBeside, Keep, NoRoom, salvageRefusals, Salvage}
 use Rattle.rules.proofs.Tests.{alike, decided, tests-and, tests-every, tests-lt}
@@ -21,15 +21,17 @@ use Rattle.rules.proofs.Encoding.{version-back, stored-says}
 use Rattle.rules.proofs.Written.{length-sets-at}
 use Rattle.rules.proofs.Salvaging.{cut-all-unique, salvaged-unique}
 use Rattle.rules.proofs.Saved.{salvaged-stored, each-judged, kept-cut, cut-whole, zeros, stored-salvaged}
-use Rattle.model.proofs.Reading.{stable, tests-version, tests-fields, tests-topologies, tests-lawful, tests-fits, tests-paired}
+use Rattle.model.proofs.Reading.{stable, tests-version, tests-fields, tests-accounts, tests-topologies, tests-lawful, tests-fits, tests-paired, tests-paid}
 use Rattle.promises.specs.Salvage.{SalvageSaves, LawfulComesThrough}
 
 -- whether a row is lawful beside others can be decided
 decide : (v : ℕ) (b : Book) (r : Row) → Dec (LawfulBeside v b r)
 decide v b r =
     decided (alike (tests-and (tests-lawful (b .site) r)
-    (tests-and (tests-fits v r) (tests-and (tests-every (λ x. ltb (key x) (key r)) (λ x. tests-lt (key x) (key r)) (b .rows)) (tests-paired (b .rows) r))))
-    (λ p. record { lawful = p .0; fits = p .1 .0; above = p .1 .1 .0; paired = p .1 .1 .1 }) (λ l. (l .lawful, (l .fits, (l .above, l .paired)))))
+    (tests-and (tests-fits v r) (tests-and (tests-every (λ x. ltb (key x) (key r)) (λ x. tests-lt (key x) (key r)) (b .rows))
+    (tests-and (tests-paired (b .rows) r) (tests-paid (b .site .accounts) (b .rows ++ (r ∷ [])))))))
+    (λ p. record { lawful = p .0; fits = p .1 .0; above = p .1 .1 .0; paired = p .1 .1 .1 .0; paid = p .1 .1 .1 .1 })
+    (λ l. (l .lawful, (l .fits, (l .above, (l .paired, l .paid))))))
 
 -- no row changes the site
 keep-site : (v : ℕ) (b : Book) (rows : List Row) (ns : List ℕ) (c : Book) → InOrder (Keep v) b rows ns c → c .site ≡ b .site
@@ -59,8 +61,9 @@ module _ (s out report : List ℕ) (h : Says (salvageRefusals s (length out) (le
       let fields = stable (tests-fields s) (none .1 .1 .0) in
       record {
         plan = fields .plan;
-        nodes = subst NodesInRange (sym (length-sets-at s (linksStart (versionOf s)) (nodesOf s))) (fields .nodes);
-        topologies = stable (tests-topologies (linksOf s) (hearingOf s)) (none .1 .1 .1 .1 .0);
+        nodes = subst NodesInRange (sym (length-sets-at s (linksPlace s) (nodesOf s))) (fields .nodes);
+        topologies = stable (tests-topologies (linksOf s) (hearingOf s)) (none .1 .1 .1 .1 .1 .1 .0);
+        accounts = stable (tests-accounts (accountsOf s)) (none .1 .1 .1 .1 .0);
       }
 
 pub salvage-saves : SalvageSaves
@@ -99,7 +102,22 @@ module _ (s : List ℕ) (v : ℕ) (b : Book) (h : Stored s v b) where
     says-done : Says (salvageRefusals s room reportRoom) 0
     says-done =
         let n : None (imageRefusals s) = says-none (imageRefusals s) (omega arith) (stored-says s v b h) in
-        inr (n .0, inr (n .1 .0, inr (n .1 .1 .0, inr (λ k. n .1 .1 .1 .0 (λ e. omega (arith, e, k)), inr (n .1 .1 .1 .1 .0, inr (has-room, refl))))))
+        inr (
+          n .0,
+          inr (
+            n .1 .0,
+            inr (
+              n .1 .1 .0,
+              inr (
+                n .1 .1 .1 .0,
+                inr (
+                  n .1 .1 .1 .1 .0,
+                  inr (λ k. n .1 .1 .1 .1 .1 .0 (λ e. omega (arith, e, k)), inr (n .1 .1 .1 .1 .1 .1 .0, inr (has-room, refl))),
+                ),
+              ),
+            ),
+          ),
+        )
 
 pub lawful-comes-through : LawfulComesThrough
 lawful-comes-through s out report v b number len rows lost out′ report′ h l m g =

@@ -4,10 +4,11 @@ use mathlib.Core.Logic.{_↔_}
 use mathlib.Core.List.{List, [], _++_}
 use Prim.Native.Nat.{ℕ, _+_, _<_}
 use lib.ListN.{take}
+use Rattle.rules.specs.Words.{_∈_}
 use Rattle.rules.specs.Tiles.{cycleTiles}
 use Rattle.rules.specs.Topology.{nodes}
-use Rattle.rules.specs.Book.{Book, LawfulBook}
-use Rattle.rules.specs.Image.{versionOf, planOf, nodesOf, linksOf, hearingOf, Stored}
+use Rattle.rules.specs.Book.{Row, Book, LawfulBook}
+use Rattle.rules.specs.Image.{versionOf, planOf, nodesOf, linksOf, hearingOf, accountsOf, Stored}
 use Rattle.rules.specs.Table.{TableOf}
 use Rattle.rules.specs.Calls.{Check, Expand}
 
@@ -17,9 +18,13 @@ use Rattle.rules.specs.Calls.{Check, Expand}
 abbrev pub LookAlike : Book → Book → Type 0
 LookAlike b c = (node : ℕ) → node < nodes (b .site .links) → (table : List ℕ) × TableOf b node table × TableOf c node table
 
--- two lawful books with the same plan and topologies, whose node tables are equal at every node, are the same book
+-- they have equal account numbers by id
+abbrev pub SameAccounts : Book → Book → Type 0
+SameAccounts b c = (r x : Row) → r ∈ b .rows → x ∈ c .rows → r .id ≡ x .id → r .account ≡ x .account
+
+-- two lawful books with the same plan, topologies and accounts, and equal account numbers by id, whose node tables are equal at every node, are the same book
 abbrev pub NeverAlike : Type 0
-NeverAlike = (b c : Book) → LawfulBook b → LawfulBook c → b .site ≡ c .site → LookAlike b c → b ≡ c
+NeverAlike = (b c : Book) → LawfulBook b → LawfulBook c → b .site ≡ c .site → SameAccounts b c → LookAlike b c → b ≡ c
 
 -- OVER THE CALLS: a node's table as expand gives it, part by part
 
@@ -47,7 +52,12 @@ pub record ExpandAlike (s t : List ℕ) : Type 0 where
   pub other : Check t 0 0
   pub same : (node : ℕ) → node < nodesOf s → (table : List ℕ) × Joined s node 0 table × Joined t node 0 table
 
--- such images of one version, plan and topologies are the same bytes
+-- the books that they hold have equal account numbers by id
+abbrev pub SameNumbers : List ℕ → List ℕ → Type 0
+SameNumbers s t = (v w : ℕ) (b c : Book) → Stored s v b → Stored t w c → SameAccounts b c
+
+-- such images of one version, plan, topologies and accounts, with equal account numbers by id, are the same bytes
 abbrev pub ImagesNeverAlike : Type 0
 ImagesNeverAlike =
-    (s t : List ℕ) → versionOf s ≡ versionOf t → planOf s ≡ planOf t → linksOf s ≡ linksOf t → hearingOf s ≡ hearingOf t → ExpandAlike s t → s ≡ t
+    (s t : List ℕ) → versionOf s ≡ versionOf t → planOf s ≡ planOf t → linksOf s ≡ linksOf t → hearingOf s ≡ hearingOf t → accountsOf s ≡ accountsOf t → SameNumbers s t
+    → ExpandAlike s t → s ≡ t

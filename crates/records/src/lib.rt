@@ -32,6 +32,7 @@ fn record_at(bytes: &[u8], at: usize) -> Request
         destination: bytes[at + 3],
         id: image::word_at(bytes, at + 4),
         period: image::word_at(bytes, at + 6),
+        account: image::word_at(bytes, at + 8),
         answer: bytes[at + 10],
     }
 }
@@ -45,6 +46,7 @@ fn blank() -> Request {
         destination: 0,
         id: 0,
         period: 0,
+        account: 0,
         answer: 0,
     }
 }
@@ -79,7 +81,7 @@ fn put_record(out: &mut [u8], at: usize, q: Request)
     put_first(out, at, q);
     writer::put_word(out, at + 4, q.id);
     writer::put_word(out, at + 6, q.period);
-    writer::put_word(out, at + 8, 0);
+    writer::put_word(out, at + 8, q.account);
     writer::put(out, at + 10, q.answer);
 }
 

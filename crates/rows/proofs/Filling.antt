@@ -8,8 +8,8 @@ use native.Mathlib.Omega.{arith}
 use lib.ListN.{length, drop, length-drop}
 use lib.Seq.{drop-drop, drop-length}
 use Rattle.rules.specs.Words.{_∈_, Tests}
-use Rattle.rules.specs.Book.{Row, key, RisingByKey, LawfulRow, Pair, Paired}
-use Rattle.rules.specs.Image.{RowFits, rowLength, inTurn, encodeRow, versionOf, streamsOf, siteOf, rowsPlace, RowsOf}
+use Rattle.rules.specs.Book.{Row, key, RisingByKey, LawfulRow, Pair, Paired, Paid}
+use Rattle.rules.specs.Image.{RowFits, rowLength, inTurn, encodeRow, versionOf, streamsOf, accountsOf, siteOf, rowsPlace, RowsOf}
 use Rattle.rules.proofs.Tests.{alike}
 use Rattle.rules.proofs.Encoding.{hopsIn, lawful-sized, length-rows}
 use Rattle.rules.proofs.Written.{Bytes}
@@ -18,9 +18,11 @@ use Rattle.rules.proofs.Reading.{rowsIn}
 use Rattle.image.specs.Places.{rowAt, nextAt, rowsFrom, Whole}
 use Rattle.image.proofs.Places.{rows-in, length-rows-from}
 use Rattle.image.proofs.Stands.{read-row, whole-row, next-bytes}
+use Rattle.accounts.specs.Lists.{HoldMost}
+use Rattle.accounts.proofs.Sums.{most-paid}
 use Rattle.rows.specs.Frame.{Framed}
 use Rattle.rows.specs.Walk.{RowsStand}
-use Rattle.rows.proofs.Walks.{RowsFill, AllFill}
+use Rattle.rows.specs.Fill.{RowsFill, AllFill}
 
 -- what is read is written again
 pub row-written : (s : List ℕ) (at : ℕ) → Bytes s → Whole s at → drop at s ≡ encodeRow (versionOf s) (rowAt s at) ++ drop (nextAt s at) s
@@ -72,7 +74,7 @@ module _ (s : List ℕ) where
   fill-bytes b (suc n) before last at h =
       row-written s at b (h .0 .whole) ∙ ap (λ (t : List ℕ). encodeRow (versionOf s) (rowAt s at) ++ t) (fill-bytes b n at (key (rowAt s at)) (nextAt s at) (h .2))
 
-  fill-stand : (n before last at : ℕ) → RowsFill s n before last at → RowsStand s n at
+  pub fill-stand : (n before last at : ℕ) → RowsFill s n before last at → RowsStand s n at
   unfolding RowsFill RowsStand
   fill-stand zero before last at h = tt
   fill-stand (suc n) before last at h = (h .0, fill-stand n at (key (rowAt s at)) (nextAt s at) (h .2))
@@ -150,13 +152,14 @@ module _ (s : List ℕ) where
     pub all-stand : RowsOf s (rowsIn s) → RowsStand s (streamsOf s) (rowsPlace s)
     all-stand h = fill-stand (streamsOf s) (rowsPlace s) 0 (rowsPlace s) (all-fill h)
 
-    fill-all : Bytes s → AllFill s → RowsOf s (rowsIn s)
-    fill-all b h = subst (RowsOf s) (sym (rows-in s)) (record {
+    fill-all : Bytes s → AllFill s → Paid (accountsOf s) (rowsFrom s (streamsOf s) (rowsPlace s)) → RowsOf s (rowsIn s)
+    fill-all b h paid = subst (RowsOf s) (sym (rows-in s)) (record {
       count = length-rows-from s (streamsOf s) (rowsPlace s);
       lawful = lawful;
       fits = fill-fit (streamsOf s) (rowsPlace s) 0 (rowsPlace s) h;
       rising = fill-rising (streamsOf s) (rowsPlace s) 0 (rowsPlace s) h;
       paired = fill-paired rows (streamsOf s) (rowsPlace s) 0 (rowsPlace s) (λ l. absurd (omega arith)) (λ r m. m) h;
+      paid = paid;
       hops = omega (
         arith,
         f .size,
@@ -177,5 +180,13 @@ module _ (s : List ℕ) where
         bytes : drop (rowsPlace s) s ≡ inTurn (encodeRow (versionOf s)) rows
         bytes = fill-bytes b (streamsOf s) (rowsPlace s) 0 (rowsPlace s) h
 
-    pub tests-rows-of : {t : Bool} → Bytes s → Tests t (AllFill s) → Tests t (RowsOf s (rowsIn s))
-    tests-rows-of b t = alike t (fill-all b) all-fill
+    -- where all rows fill the image, accounts that hold enough for all pay for them
+    pub rich-rows-of : Bytes s → AllFill s → HoldMost (accountsOf s) → RowsOf s (rowsIn s)
+    rich-rows-of b h rich =
+        let rows : List Row = rowsFrom s (streamsOf s) (rowsPlace s) in
+        fill-all b h (most-paid (siteOf s) (accountsOf s) rows (fill-lawful (streamsOf s) (rowsPlace s) 0 (rowsPlace s) h)
+        (omega (arith, length-rows-from s (streamsOf s) (rowsPlace s), f .fields .streams)) rich)
+
+    -- otherwise it remains whether they are paid for
+    pub tests-rows-of : {t : Bool} → Bytes s → AllFill s → Tests t (Paid (accountsOf s) (rowsFrom s (streamsOf s) (rowsPlace s))) → Tests t (RowsOf s (rowsIn s))
+    tests-rows-of b h t = alike t (fill-all b h) (λ w. subst (Paid (accountsOf s)) (rows-in s) (w .paid))

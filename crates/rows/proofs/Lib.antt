@@ -4,3 +4,4 @@ pub mod Single
 pub mod Pairs
 pub mod Walks
 pub mod Filling
+pub mod Paying

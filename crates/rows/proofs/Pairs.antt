@@ -25,9 +25,9 @@ use Rattle.rows.proofs.Nodes.{upto}
 -- THE STREAM AND THE ENDS
 module _ {r x : Row} where
   -- where all else is the same the periods decide
-  pub tests-stream-rest : {K L : ℕ} → r .id ≡ x .id → r .way ≡ 1 → K ≡ r .period → L ≡ x .period → Tests (eqb K L) (SameStream r x)
-  tests-stream-rest {K} {L} id first e f =
-      alike (tests-eq K L) (λ q. record { id = id; first = first; period = sym e ∙ q ∙ f }) (λ h. e ∙ h .period ∙ sym f)
+  pub tests-stream-rest : {K L : ℕ} → r .id ≡ x .id → r .way ≡ 1 → r .account ≡ x .account → K ≡ r .period → L ≡ x .period → Tests (eqb K L) (SameStream r x)
+  tests-stream-rest {K} {L} id first account e f =
+      alike (tests-eq K L) (λ q. record { id = id; first = first; period = sym e ∙ q ∙ f; account = account }) (λ h. e ∙ h .period ∙ sym f)
 
   -- and where the routes start alike, their last nodes
   pub tests-ends-rest : {g h a b : ℕ} → getD (r .route) 0 0 ≡ getD (x .route) 0 0 → g ≡ hops r → h ≡ hops x
@@ -129,10 +129,10 @@ module _ {r x : Row} (same : SameEnds r x) (one : 1 ≤ hops r) (two : 1 ≤ hop
 -- of one stream and between the same ends, what is beside decides
 pub tests-pair : {r x : Row} {t : Bool} → SameStream r x → SameEnds r x → Tests t (Beside (r .route) (x .route)) → Tests t (Pair r x)
 tests-pair s e t =
-    alike t (λ b. record { id = s .id; first = s .first; period = s .period; starts = e .starts; ends = e .ends; beside = b }) (λ p. p .beside)
+    alike t (λ b. record { id = s .id; first = s .first; period = s .period; starts = e .starts; ends = e .ends; beside = b; account = s .account }) (λ p. p .beside)
 
 pub pair-stream : {r x : Row} → Pair r x → SameStream r x
-pair-stream p = record { id = p .id; first = p .first; period = p .period }
+pair-stream p = record { id = p .id; first = p .first; period = p .period; account = p .account }
 
 pub pair-ends : {r x : Row} → Pair r x → SameEnds r x
 pair-ends p = record { starts = p .starts; ends = p .ends }

@@ -10,7 +10,7 @@ use lib.ListN.{drop}
 use Rattle.rules.specs.Words.{Tests, TwoBytes}
 use Rattle.rules.specs.Tiles.{Plan, shortTiles, Period, ShortPeriod, periodAt}
 use Rattle.rules.specs.Topology.{Topology}
-use Rattle.rules.specs.Book.{Site, Row, LawfulRow}
+use Rattle.rules.specs.Book.{Account, Site, Row, KnownAccount, LawfulRow}
 use Rattle.rules.specs.Periods.{PlaceOf}
 use Rattle.rules.specs.Image.{hasWide, RowFits, versionOf}
 use Rattle.rules.specs.declared.Place.{Place}
@@ -54,15 +54,15 @@ module _ (s : List ℕ) (at : ℕ) {i : ℕ} (place : PlaceHeld (versionOf s) (r
   unfolding rowAt
   fits = front-fits (versionOf s) (drop at s) (place .2)
 
-  lawful-offsets : {plan : Plan} {links : Topology} → LawfulRow (judging plan links) r → OffsetsHold plan (periodAt i) r
+  lawful-offsets : {plan : Plan} {links : Topology} {accounts : List Account} → LawfulRow (judging plan links accounts) r → OffsetsHold plan (periodAt i) r
   lawful-offsets {plan} w = subst (λ (K : ℕ). OffsetsHold plan K r) (sym (place .1)) (record { offsets = w .offsets; on-data = w .on-data })
 
   -- where all else holds the offsets decide
-  pub tests-row-rest : {plan : Plan} {links : Topology} {t : Bool} → KeyHolds r → RouteHolds links r → Tests t (OffsetsHold plan (periodAt i) r)
-      → Tests t (RowHolds (versionOf s) (judging plan links) r)
-  tests-row-rest {plan} {links} named route t = alike t holds (λ w. lawful-offsets (w .lawful))
+  pub tests-row-rest : {plan : Plan} {links : Topology} {accounts : List Account} {t : Bool} → KeyHolds r → KnownAccount accounts (r .account) → RouteHolds links r
+      → Tests t (OffsetsHold plan (periodAt i) r) → Tests t (RowHolds (versionOf s) (judging plan links accounts) r)
+  tests-row-rest {plan} {links} {accounts} named known route t = alike t holds (λ w. lawful-offsets (w .lawful))
     where
-      holds : OffsetsHold plan (periodAt i) r → RowHolds (versionOf s) (judging plan links) r
+      holds : OffsetsHold plan (periodAt i) r → RowHolds (versionOf s) (judging plan links accounts) r
       holds h =
           let g = subst (λ (K : ℕ). OffsetsHold plan K r) (place .1) h in
           record {
@@ -76,6 +76,7 @@ module _ (s : List ℕ) (at : ℕ) {i : ℕ} (place : PlaceHeld (versionOf s) (r
               route-most = route .most;
               offsets = g .offsets;
               on-data = g .on-data;
+              account = known;
             };
             fits = fits;
           }

@@ -1,5 +1,5 @@
 -- The walk that tests row after row.
-use mathlib.Core.Path.{_≡_, sym, ap, _∙_, subst, subst₂}
+use mathlib.Core.Path.{_≡_, refl, sym, ap, _∙_, subst, subst₂}
 use mathlib.Core.Bool.{Bool, not, false}
 use mathlib.Core.List.{List}
 use Prim.Native.Nat.{ℕ, zero, suc, _<_, _≤_, _-_}
@@ -11,23 +11,24 @@ use lib.ListN.{length, getD, take}
 use Rattle.rules.specs.Words.{Tests}
 use Rattle.rules.specs.Tiles.{Plan, PlanInRange}
 use Rattle.rules.specs.Topology.{Topology, nodes, Path}
-use Rattle.rules.specs.Book.{Site, Row, hops, key, Offsets, OnData, LawfulRow}
+use Rattle.rules.specs.Book.{Account, Site, Row, hops, key, KnownAccount, Offsets, OnData, LawfulRow}
 use Rattle.rules.specs.Periods.{thePlan}
-use Rattle.rules.specs.Image.{linksStart, setsAt, versionOf, nodesOf, streamsOf, FieldsInRange, linksOf, siteOf, rowsPlace}
+use Rattle.rules.specs.Image.{linksPlace, setsAt, versionOf, planOf, nodesOf, streamsOf, accountsOf, linksOf, siteOf, rowsPlace, FieldsInRange}
 use Rattle.rules.proofs.Tests.{alike, tests-eq}
 use Rattle.rules.proofs.Written.{length-sets-at}
 use Rattle.bitset.specs.Rows.{topology}
 use Rattle.image.specs.Places.{rowAt, nextAt, Whole, Sets}
-use Rattle.image.specs.Header.{HeaderOf}
 use Rattle.image.specs.declared.Book.{Book}
 use Rattle.image.proofs.Hops.{node-known}
+use Rattle.accounts.specs.Lists.{ListRead}
 use Rattle.rows.specs.Frame.{Framed, ReadFrom}
 use Rattle.rows.specs.Walk.{RowHolds, RowStands, judging}
 use Rattle.rows.specs.Pairs.{Follows}
+use Rattle.rows.specs.Fill.{RowsFill, AllFill}
 
--- a row is judged by the plan and the links alone
-pub same-site : {one other : Site} {r : Row} → one .plan ≡ other .plan → one .links ≡ other .links → LawfulRow one r → LawfulRow other r
-same-site {one} {other} {r} e f w = record {
+-- a row is judged by the plan, the links and the accounts alone
+pub same-site : {one other : Site} {r : Row} → one .plan ≡ other .plan → one .links ≡ other .links → one .accounts ≡ other .accounts → LawfulRow one r → LawfulRow other r
+same-site {one} {other} {r} e f g w = record {
   id-some = w .id-some;
   id-most = w .id-most;
   way-some = w .way-some;
@@ -37,15 +38,16 @@ same-site {one} {other} {r} e f w = record {
   route-most = w .route-most;
   offsets = subst (λ (plan : Plan). Offsets (plan .slots) (r .period) (hops r) (r .offsets)) e (w .offsets);
   on-data = λ o m. subst (λ (plan : Plan). OnData plan (r .period) o) e (w .on-data o m);
+  account = subst (λ (accounts : List Account). KnownAccount accounts (r .account)) g (w .account);
 }
 
 -- WHAT WAS READ IS WHAT THE IMAGE HOLDS
 module _ {s : List ℕ} {b : Book} {links : List ℕ} (o : ReadFrom s b links) where
   pub plan-read : PlanInRange (thePlan (b .plan))
-  plan-read = subst PlanInRange (sym (o .header .plan)) (o .fields .plan)
+  plan-read = subst PlanInRange (sym (o .list .header .plan)) (o .fields .plan)
 
   pub nodes-read : length links ≡ nodesOf s
-  nodes-read = ap length (o .links-are) ∙ length-sets-at s (linksStart (versionOf s)) (nodesOf s)
+  nodes-read = ap length (o .links-are) ∙ length-sets-at s (linksPlace s) (nodesOf s)
 
   pub nodes-most : length links ≤ 64
   nodes-most = omega (arith, nodes-read, o .fields .nodes)
@@ -53,40 +55,29 @@ module _ {s : List ℕ} {b : Book} {links : List ℕ} (o : ReadFrom s b links) w
   pub topology-read : topology links ≡ linksOf s
   topology-read = ap topology (o .links-are)
 
-  -- a row that is lawful by what was read is lawful by the image
-  pub row-read : {r : Row} → LawfulRow (judging (thePlan (b .plan)) (topology links)) r → LawfulRow (siteOf s) r
-  row-read w = same-site (o .header .plan) topology-read w
+  -- a row that is tested by what was read is tested by the image
+  pub row-read : {r : Row} {t : Bool} → Tests t (RowHolds (versionOf s) (judging (thePlan (b .plan)) (topology links) (accountsOf s)) r) → Tests t (RowHolds (versionOf s) (siteOf s) r)
+  row-read {r} t =
+      let plan : thePlan (b .plan) ≡ planOf s = o .list .header .plan in
+      alike t (λ w. record { lawful = same-site plan topology-read refl (w .lawful); fits = w .fits })
+      (λ w. record { lawful = same-site (sym plan) (sym topology-read) refl (w .lawful); fits = w .fits })
 
-  -- and one that stands in it is so by what was read
-  pub row-by-read : {at : ℕ} → RowStands s at → RowHolds (versionOf s) (judging (thePlan (b .plan)) (topology links)) (rowAt s at)
-  row-by-read w = record { lawful = same-site (sym (o .header .plan)) (sym topology-read) (w .lawful); fits = w .fits }
-
-  -- a row stands where one was tested and held
-  pub row-tested : {at : ℕ} {t u : Bool} → Tests t (Whole s at) → not t ≡ false
-      → Tests u (RowHolds (versionOf s) (judging (thePlan (b .plan)) (topology links)) (rowAt s at)) → not u ≡ false → RowStands s at
-  row-tested {t = t} {u} whole e holds f = let h = holds .yes (not-false u f) in record { whole = whole .yes (not-false t e); lawful = row-read (h .lawful); fits = h .fits }
+-- a row stands where one was tested and held
+pub row-tested : {s : List ℕ} {at : ℕ} {t u : Bool} → Tests t (Whole s at) → not t ≡ false → Tests u (RowHolds (versionOf s) (siteOf s) (rowAt s at)) → not u ≡ false → RowStands s at
+row-tested {t = t} {u} whole e holds f = let h = holds .yes (not-false u f) in record { whole = whole .yes (not-false t e); lawful = h .lawful; fits = h .fits }
 
 -- the links, once they are decoded
-pub links-read : {s : List ℕ} {b : Book} {all : List ℕ} → FieldsInRange s → HeaderOf s b → Sets s (linksStart (versionOf s)) (b .nodes) all → ReadFrom s b (take (b .nodes) all)
-links-read {s} f h l = record { fields = f; header = h; links-are = l .rows ∙ ap (setsAt s (linksStart (versionOf s))) (h .nodes) }
+pub links-read : {s : List ℕ} {b : Book} {all : List ℕ} → FieldsInRange s → ListRead s b → Sets s (linksPlace s) (b .nodes) all → ReadFrom s b (take (b .nodes) all)
+links-read {s} f h l = record { fields = f; list = h; links-are = l .rows ∙ ap (setsAt s (linksPlace s)) (h .header .nodes) }
 
 -- an image has at most 64 nodes, and the nodes of its rows are below that
 pub nodes-few : {s : List ℕ} → FieldsInRange s → nodes (linksOf s) ≤ 64
-nodes-few {s} f = omega (arith, length-sets-at s (linksStart (versionOf s)) (nodesOf s), f .nodes)
+nodes-few {s} f = omega (arith, length-sets-at s (linksPlace s) (nodesOf s), f .nodes)
 
 pub node-small : {s : List ℕ} {at : ℕ} → FieldsInRange s → RowStands s at → (i : ℕ) → i ≤ hops (rowAt s at) → getD (rowAt s at .route) i 0 < 64
 node-small f w i l = omega (arith, node-known (w .lawful) i l, nodes-few f)
 
 -- THE WALK
--- n lawful rows stand from the place on, each behind the one before, and fill the image
-unfoldable pub RowsFill : List ℕ → ℕ → ℕ → ℕ → ℕ → Type 0
-RowsFill s zero before last at = at ≡ length s
-RowsFill s (suc n) before last at = RowStands s at × Follows s before last at × RowsFill s n at (key (rowAt s at)) (nextAt s at)
-
--- all rows fill the image
-abbrev pub AllFill : List ℕ → Type 0
-AllFill s = RowsFill s (streamsOf s) (rowsPlace s) 0 (rowsPlace s)
-
 -- all rows fill the image exactly if those that are left do
 pub record Still (s : List ℕ) (before last at left : ℕ) : Type 0 where
   pub inside : at ≤ length s

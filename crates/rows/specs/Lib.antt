@@ -1,3 +1,4 @@
 pub mod Frame
 pub mod Walk
 pub mod Pairs
+pub mod Fill

@@ -6,11 +6,12 @@ use lib.ListN.{getD}
 use Rattle.rules.specs.Book.{Row, hops, key, Pair}
 use Rattle.image.specs.Places.{rowAt}
 
--- r is the first way of a stream with the id and the period of x
+-- r is the first way of a stream with the id, the period and the account of x
 pub record SameStream (r x : Row) : Type 0 where
   pub id : r .id ≡ x .id
   pub first : r .way ≡ 1
   pub period : r .period ≡ x .period
+  pub account : r .account ≡ x .account
 
 -- their routes have the same ends
 pub record SameEnds (r x : Row) : Type 0 where

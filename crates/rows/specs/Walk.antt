@@ -1,12 +1,12 @@
 -- Rows that stand one after the other in an image.
 use mathlib.Core.Path.{_≡_}
-use mathlib.Core.Bool.{false}
+use mathlib.Core.Bool.{Bool, false}
 use mathlib.Core.List.{List}
 use Prim.Native.Nat.{ℕ, zero, suc, _≤_}
-use Rattle.rules.specs.Words.{TwoBytes, _∈_}
+use Rattle.rules.specs.Words.{TwoBytes, _∈_, Tests}
 use Rattle.rules.specs.Tiles.{Plan, periodAt, Period, ShortPeriod}
 use Rattle.rules.specs.Topology.{Topology, Path, mostRouteHops}
-use Rattle.rules.specs.Book.{Site, Row, hops, Offsets, OnData, LawfulRow}
+use Rattle.rules.specs.Book.{Account, Site, Row, hops, KnownAccount, Offsets, OnData, LawfulRow}
 use Rattle.rules.specs.Periods.{InList}
 use Rattle.rules.specs.Image.{hasWide, RowFits, versionOf, siteOf}
 use Rattle.rules.specs.declared.Place.{Place}
@@ -31,8 +31,8 @@ pub record OffsetsHold (plan : Plan) (K : ℕ) (r : Row) : Type 0 where
   pub on-data : (o : ℕ) → o ∈ r .offsets → OnData plan K o
 
 -- the site by which a row is judged: its hearing has no say
-abbrev pub judging : Plan → Topology → Site
-judging plan links = record { plan = plan; links = links; hearing = links }
+abbrev pub judging : Plan → Topology → List Account → Site
+judging plan links accounts = record { plan = plan; links = links; hearing = links; accounts = accounts }
 
 -- the place of K among the periods that the version holds, or that it is none of them
 abbrev pub PlaceHeld : ℕ → ℕ → Place → Type 0
@@ -43,6 +43,11 @@ PlaceHeld v K Nowhere = Period K → (hasWide v ≡ false → ShortPeriod K) →
 pub record RowHolds (v : ℕ) (site : Site) (r : Row) : Type 0 where
   pub lawful : LawfulRow site r
   pub fits : RowFits v r
+
+-- the test says so of the row at the place, where its key holds and its account is one of these
+abbrev pub StreamHolds : List ℕ → ℕ → Plan → Topology → Bool → Type 0
+StreamHolds s at plan links t =
+    (accounts : List Account) → KeyHolds (rowAt s at) → KnownAccount accounts (rowAt s at .account) → Tests t (RowHolds (versionOf s) (judging plan links accounts) (rowAt s at))
 
 -- a whole lawful row that the version holds is at the place
 pub record RowStands (s : List ℕ) (at : ℕ) : Type 0 where

@@ -4,15 +4,18 @@ ghost use Prim.Native.Nat.{_≤_};
 ghost use lib.ListN.{length};
 ghost use Rattle.rules.specs.Words.{Tests};
 ghost use Rattle.rules.specs.Tiles.{periodAt, PlanInRange};
-ghost use Rattle.rules.specs.Book.{key};
+ghost use Rattle.rules.specs.Book.{key, Paid};
 ghost use Rattle.rules.specs.Periods.{thePlan, InList};
-ghost use Rattle.rules.specs.Image.{versionOf, FieldsInRange, RowsOf};
+ghost use Rattle.rules.specs.Image.{versionOf, streamsOf, FieldsInRange, accountsOf, siteOf, rowsPlace, RowsOf};
 ghost use Rattle.rules.proofs.Reading.{rowsIn};
-ghost use Rattle.image.specs.Places.{rowAt, Whole};
+ghost use Rattle.image.specs.Places.{rowAt, rowsFrom, Whole};
 ghost use Rattle.bitset.specs.Rows.{topology};
+ghost use Rattle.accounts.specs.Lists.{ListRead};
 ghost use Rattle.rows.specs.Frame.{Framed, ReadFrom};
-ghost use Rattle.rows.specs.Walk.{KeyHolds, RouteHolds, OffsetsHold, judging, PlaceHeld, RowHolds, RowStands};
+ghost use Rattle.rows.specs.Walk.{KeyHolds, RouteHolds, OffsetsHold, PlaceHeld, RowHolds, StreamHolds, RowStands, RowsStand};
 ghost use Rattle.rows.specs.Pairs.{Follows};
+ghost use Rattle.rows.specs.Fill.{AllFill};
+use accounts::purses;
 use image::Book;
 use pair::FIRST;
 use pair::SECOND;
@@ -103,20 +106,31 @@ fn place_held(image: &[u8], at: usize) -> Place
     rules::place_of(period)
 }
 
-// Whether the row at the place is lawful, and one that its version holds.
-pub fn row_holds(image: &[u8], at: usize, plan: Plan, links: &[u64]) -> bool
+// Whether a row of a key and an account that hold is lawful but for these, and one that its version holds.
+fn stream_holds(image: &[u8], at: usize, plan: Plan, links: &[u64]) -> bool
     requires { ⌜ Whole (now image) at × PlanInRange (thePlan plan) × (length (now links) ≤ 64) ⌝ }
-    ensures { λ r. ⌜ Tests r (RowHolds (versionOf (now (image .entry))) (judging (thePlan plan) (topology (now (links .entry)))) (rowAt (now (image .entry)) at)) ⌝ }
+    ensures { λ r. ⌜ StreamHolds (now (image .entry)) at (thePlan plan) (topology (now (links .entry))) r ⌝ }
 {
-    if !key_holds(image, at) {
-        return false;
-    }
     match place_held(image, at) {
         Place::At(period) => {
             route_holds(image, at, links) && offsets_hold(image, at, plan, period)
         }
         Place::Nowhere => false,
     }
+}
+
+// Whether the row at the place is lawful, and one that its version holds.
+pub fn row_holds(image: &[u8], at: usize, book: Book, links: &[u64]) -> bool
+    requires { ⌜ Whole (now image) at × ReadFrom (now image) book (now links) ⌝ }
+    ensures { λ r. ⌜ Tests r (RowHolds (versionOf (now (image .entry))) (siteOf (now (image .entry))) (rowAt (now (image .entry)) at)) ⌝ }
+{
+    if !key_holds(image, at) {
+        return false;
+    }
+    if !accounts::is_known(image, book, image::account_at(image, at)) {
+        return false;
+    }
+    stream_holds(image, at, book.plan, links)
 }
 
 // The row's key: its id, then its way.
@@ -147,11 +161,10 @@ pub fn follows(image: &[u8], before: usize, last: usize, at: usize) -> bool
 }
 
 // Whether the rows are as many as the header says, each lawful and behind the one before, and fill the image.
-pub fn rows_hold(image: &[u8], book: Book, links: &[u64]) -> bool
+fn rows_fill(image: &[u8], book: Book, links: &[u64]) -> bool
     requires { ⌜ Framed (now image) × ReadFrom (now image) book (now links) ⌝ }
-    ensures { λ r. ⌜ Tests r (RowsOf (now (image .entry)) (rowsIn (now (image .entry)))) ⌝ }
+    ensures { λ r. ⌜ Tests r (AllFill (now (image .entry))) ⌝ }
 {
-    let plan = book.plan;
     let mut at = book.rows_start();
     let mut before = at;
     let mut last: usize = 0;
@@ -160,7 +173,7 @@ pub fn rows_hold(image: &[u8], book: Book, links: &[u64]) -> bool
         if !image::is_whole(image, at) {
             return false;
         }
-        if !row_holds(image, at, plan, links) {
+        if !row_holds(image, at, book, links) {
             return false;
         }
         if !follows(image, before, last, at) {
@@ -172,4 +185,38 @@ pub fn rows_hold(image: &[u8], book: Book, links: &[u64]) -> bool
         left -= 1;
     }
     at == image.len()
+}
+
+// Whether the accounts pay for the rows: each draws from its own, row after row.
+fn rows_paid(image: &[u8], book: Book) -> bool
+    requires { ⌜ ListRead (now image) book × RowsStand (now image) (streamsOf (now image)) (rowsPlace (now image)) ⌝ }
+    ensures { λ r. ⌜ Tests r (Paid (accountsOf (now (image .entry))) (rowsFrom (now (image .entry)) (streamsOf (now (image .entry))) (rowsPlace (now (image .entry))))) ⌝ }
+{
+    let mut left = [0u32; Book::ACCOUNTS];
+    purses::fill(image, book, &mut left);
+    let mut at = book.rows_start();
+    let mut rows = book.streams;
+    while 0 < rows {
+        if !purses::may_draw(image, book, at, &left) {
+            return false;
+        }
+        purses::draw(image, book, at, &mut left);
+        at = image::next(image, at);
+        rows -= 1;
+    }
+    true
+}
+
+// Whether the rows are lawful, and the accounts pay for them.
+pub fn rows_hold(image: &[u8], book: Book, links: &[u64]) -> bool
+    requires { ⌜ Framed (now image) × ReadFrom (now image) book (now links) ⌝ }
+    ensures { λ r. ⌜ Tests r (RowsOf (now (image .entry)) (rowsIn (now (image .entry)))) ⌝ }
+{
+    if !rows_fill(image, book, links) {
+        return false;
+    }
+    if accounts::all_hold_most(image, book) {
+        return true;
+    }
+    rows_paid(image, book)
 }

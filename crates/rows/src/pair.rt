@@ -31,7 +31,7 @@ pub fn middles_at(image: &[u8], at: usize) -> u64
     set
 }
 
-// Whether the row before is the first way of a stream with the id and the period of the other.
+// Whether the row before is the first way of a stream with the id, the period and the account of the other.
 fn same_stream(image: &[u8], before: usize, at: usize) -> bool
     requires { ⌜ RowStands (now image) before × RowStands (now image) at ⌝ }
     ensures { λ r. ⌜ Tests r (SameStream (rowAt (now (image .entry)) before) (rowAt (now (image .entry)) at)) ⌝ }
@@ -40,6 +40,9 @@ fn same_stream(image: &[u8], before: usize, at: usize) -> bool
         return false;
     }
     if image::way_at(image, before) != FIRST {
+        return false;
+    }
+    if image::account_at(image, before) != image::account_at(image, at) {
         return false;
     }
     image::period_at(image, before).0 == image::period_at(image, at).0

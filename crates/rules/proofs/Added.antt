@@ -1,14 +1,17 @@
--- The rows that an open adds: each on one of its routes, as many as the routes, with their hops.
-use mathlib.Core.Path.{_≡_, refl, sym, ap, ap₂, subst}
+-- The rows that an open adds: each on one of its routes, as many as the routes, with their hops, and what they draw.
+use mathlib.Core.Path.{_≡_, refl, sym, ap, ap₂, _∙_, subst}
 use mathlib.Core.Logic.{inl, inr}
-use mathlib.Core.Bool.{Bool, cond}
+use mathlib.Core.Bool.{Bool, true, false, cond}
 use mathlib.Core.List.{List, [], _∷_}
-use Prim.Native.Nat.{ℕ, suc, _+_}
+use Prim.Native.Nat.{ℕ, suc, _+_, _*_}
+use native.Mathlib.Nat.{add-mul}
 use native.Mathlib.Omega.{arith}
+use lib.Dec.{eqb}
 use lib.ListN.{length}
 use Rattle.rules.specs.Words.{_∈_, total}
+use Rattle.rules.specs.Tiles.{repeats}
 use Rattle.rules.specs.Topology.{Topology, hopCount, mostRouteHops, PathWithin, SecondRoute}
-use Rattle.rules.specs.Book.{Row, Book, hopsInAll}
+use Rattle.rules.specs.Book.{Row, Book, hopsInAll, draws, drawn}
 use Rattle.rules.specs.Placing.{Asked, Planned, NewRow, beside, NewRows}
 use Rattle.rules.specs.Placing.Planned.{one, two}
 use Rattle.rules.proofs.Reading.{withRows}
@@ -53,3 +56,25 @@ module _ (q : Asked) where
   new-hops b way [] (r ∷ rs) n = absurd n
   new-hops b way (p ∷ ps) [] n = absurd n
   new-hops b way (p ∷ ps) (r ∷ rs) n = ap₂ _+_ (ap hopCount (n .0 .on)) (new-hops (beside r b) (suc way) ps rs (n .1))
+
+  -- what they draw from an account: all their hops, as often as they come in a cycle, if it is the one asked for
+  pub new-drawn : (b : Book) (way : ℕ) (ps : List (List ℕ)) (rs : List Row) → NewRows b q way ps rs
+      → (n : ℕ) → drawn n rs ≡ cond (eqb (q .account) n) (total hopCount ps * repeats (q .period)) 0
+  new-drawn b way [] [] g n = none-drawn (eqb (q .account) n)
+    where
+      none-drawn : (t : Bool) → 0 ≡ cond t (0 * repeats (q .period)) 0
+      none-drawn true = omega arith
+      none-drawn false = refl
+  new-drawn b way [] (r ∷ rs) g n = absurd g
+  new-drawn b way (p ∷ ps) [] g n = absurd g
+  new-drawn b way (p ∷ ps) (r ∷ rs) g n =
+      ap₂ _+_ (ap (λ (a : ℕ). cond (eqb a n) (draws r) 0) (g .0 .paid-by) ∙ ap (λ (k : ℕ). cond (eqb (q .account) n) k 0) one-draws)
+      (new-drawn (beside r b) (suc way) ps rs (g .1) n)
+      ∙ joined (eqb (q .account) n) (hopCount p) (total hopCount ps) (repeats (q .period))
+    where
+      one-draws : draws r ≡ hopCount p * repeats (q .period)
+      one-draws = ap₂ (λ (h k : ℕ). h * repeats k) (ap hopCount (g .0 .on)) (g .0 .every)
+
+      joined : (t : Bool) (h k m : ℕ) → cond t (h * m) 0 + cond t (k * m) 0 ≡ cond t ((h + k) * m) 0
+      joined true h k m = sym (add-mul h k m)
+      joined false h k m = refl

@@ -9,10 +9,9 @@ use lib.ListN.{length, getD, take, drop, take-append-drop, length-take, length-d
 use lib.Seq.{getD-take, getD-drop, drop-drop}
 use Rattle.rules.specs.Tiles.{ShortPeriod}
 use Rattle.rules.specs.Book.{Row, hops, rowOffset}
-use Rattle.rules.specs.Image.{hasWays, hasWide, RowFits, periodPlace, hopsPlace, rowLength, word, inTurn, held, encodePeriod, encodeRow, wordAt}
-use Rattle.rules.proofs.Tests.{never}
+use Rattle.rules.specs.Image.{hasWays, hasWide, hasAccounts, RowFits, periodPlace, hopsPlace, rowLength, word, inTurn, held, encodePeriod, encodeRow, wordAt}
 use Rattle.rules.proofs.Encoding.{wordsAt, hopsIn, bodyIn, frontRow, Sized}
-use Rattle.rules.proofs.Written.{Bytes}
+use Rattle.rules.proofs.Written.{older, Bytes}
 
 -- NUMBERS
 word-drop : (k : ℕ) (s : List ℕ) (i j : ℕ) → k + i ≡ j → wordAt (drop k s) i ≡ wordAt s j
@@ -59,6 +58,11 @@ module _ (v : ℕ) (s : List ℕ) (at : ℕ) where
   pub front-count : hopsIn v (drop at s) ≡ getD s (at + hopsPlace v) 0
   front-count = getD-drop at s (hopsPlace v) 0
 
+  pub front-account : frontRow v (drop at s) .account ≡ cond (hasAccounts v) (wordAt s (at + (hopsPlace v + 2 + 3 * getD s (at + hopsPlace v) 0))) 0
+  front-account =
+      ap (λ (h : ℕ). cond (hasAccounts v) (wordAt (drop at s) (hopsPlace v + 2 + 3 * h)) 0) front-count
+      ∙ ap (λ (n : ℕ). cond (hasAccounts v) n 0) (word-drop at s (hopsPlace v + 2 + 3 * getD s (at + hopsPlace v) 0) _ refl)
+
   module _ (l : at + (rowLength v + 3 * getD s (at + hopsPlace v) 0) ≤ length s) where
     pub front-hops : hops (frontRow v (drop at s)) ≡ getD s (at + hopsPlace v) 0
     front-hops = simp (length-take, length-drop) (omega (arith, front-count, l))
@@ -72,15 +76,15 @@ module _ (v : ℕ) (s : List ℕ) (at : ℕ) where
         ∙ getD-drop at s (hopsPlace v + 1 + i) 0 ∙ ap (λ (n : ℕ). getD s n 0) e
 
     pub front-offset : (i : ℕ) → i < hops (frontRow v (drop at s))
-        → rowOffset (frontRow v (drop at s)) i ≡ wordAt s (at + rowLength v + hops (frontRow v (drop at s)) + 2 * i)
+        → rowOffset (frontRow v (drop at s)) i ≡ wordAt s (at + (hopsPlace v + 2) + hops (frontRow v (drop at s)) + 2 * i)
     front-offset i m =
         let h : ℕ = hopsIn v (drop at s) in
         let p : ℕ = hopsPlace v + 1 in
         let k : i < h = omega (arith, front-hops, front-count) in
-        let e : at + (p + (h + 1 + 2 * i)) ≡ at + rowLength v + hops (frontRow v (drop at s)) + 2 * i = omega (arith, front-hops, front-count) in
+        let e : at + (p + (h + 1 + 2 * i)) ≡ at + (hopsPlace v + 2) + hops (frontRow v (drop at s)) + 2 * i = omega (arith, front-hops, front-count) in
         words-at h (drop (h + 1) (drop p (drop at s))) i k ∙ word-drop (h + 1) (drop p (drop at s)) (2 * i) (h + 1 + 2 * i) refl
         ∙ word-drop p (drop at s) (h + 1 + 2 * i) (p + (h + 1 + 2 * i)) refl
-        ∙ word-drop at s (p + (h + 1 + 2 * i)) (at + rowLength v + hops (frontRow v (drop at s)) + 2 * i) e
+        ∙ word-drop at s (p + (h + 1 + 2 * i)) (at + (hopsPlace v + 2) + hops (frontRow v (drop at s)) + 2 * i) e
 
     -- it has as many offsets as hops, and one node more
     pub front-sized : Sized v (frontRow v (drop at s))
@@ -91,11 +95,7 @@ module _ (v : ℕ) (s : List ℕ) (at : ℕ) where
 
 -- the version holds what it reads, if it holds the period
 pub front-fits : (v : ℕ) (s : List ℕ) → (hasWide v ≡ false → ShortPeriod (frontRow v s .period)) → RowFits v (frontRow v s)
-front-fits v s f = record { one-way = one (hasWays v); short = f }
-  where
-    one : (t : Bool) → t ≡ false → cond t (getD s 2 0) 1 ≡ 1
-    one true e = never (sym e)
-    one false e = refl
+front-fits v s f = record { one-way = older (hasWays v) _ 1; short = f; old-account = older (hasAccounts v) _ 0 }
 
 -- WHAT IS READ IS WRITTEN AGAIN
 head-written : (t w : Bool) (s : List ℕ) → Bytes s → 2 + cond t 1 0 + 1 + cond w 1 0 + 1 ≤ length s
@@ -117,19 +117,38 @@ head-written false true (x ∷ y ∷ k ∷ m ∷ h ∷ s) b l =
     λ i. sym (digits-div x (b 1)) i ∷ sym (digits-mod x (b 1)) i ∷ sym (digits-div k (b 3)) i ∷ sym (digits-mod k (b 3)) i ∷ h ∷ s
 head-written false false (x ∷ y ∷ k ∷ h ∷ s) b l = λ i. sym (digits-div x (b 1)) i ∷ sym (digits-mod x (b 1)) i ∷ k ∷ h ∷ s
 
+-- the account at the end, where the version holds it
+end-written : (t : Bool) (s : List ℕ) → Bytes s → cond t 2 0 ≤ length s → s ≡ held t (word (cond t (wordAt s 0) 0)) ++ drop (cond t 2 0) s
+end-written true [] b l = absurd (omega arith)
+end-written true (x ∷ []) b l = absurd (omega arith)
+end-written true (x ∷ y ∷ s) b l = λ i. sym (digits-div x (b 1)) i ∷ sym (digits-mod x (b 1)) i ∷ s
+end-written false s b l = refl
+
 module _ (v : ℕ) (s : List ℕ) (b : Bytes s) (l : rowLength v + 3 * hopsIn v s ≤ length s) where
-  body-written : bodyIn v s ≡ frontRow v s .route ++ (inTurn word (frontRow v s .offsets) ++ drop (rowLength v + 3 * hopsIn v s) s)
+  -- what stands behind the nodes and the offsets
+  account-written : drop (hopsPlace v + 2 + 3 * hopsIn v s) s ≡ held (hasAccounts v) (word (frontRow v s .account)) ++ drop (rowLength v + 3 * hopsIn v s) s
+  account-written =
+      let k : ℕ = hopsPlace v + 2 + 3 * hopsIn v s in
+      let n : ℕ = cond (hasAccounts v) 2 0 in
+      let e : k + n ≡ rowLength v + 3 * hopsIn v s = omega arith in
+      let long : n ≤ length (drop k s) = simp length-drop (omega (arith, l)) in
+      end-written (hasAccounts v) (drop k s) (bytes-drop k s b) long
+      ∙ ap₂ (λ (m : ℕ) (x : List ℕ). held (hasAccounts v) (word (cond (hasAccounts v) m 0)) ++ x) (word-drop k s 0 k (omega arith))
+      (drop-drop n k s ∙ ap (λ (m : ℕ). drop m s) e)
+
+  body-written : bodyIn v s
+      ≡ frontRow v s .route ++ (inTurn word (frontRow v s .offsets) ++ (held (hasAccounts v) (word (frontRow v s .account)) ++ drop (rowLength v + 3 * hopsIn v s) s))
   body-written =
       let h : ℕ = hopsIn v s in
       let u : List ℕ = bodyIn v s in
       let long : length u ≡ length s - (hopsPlace v + 1) = length-drop (hopsPlace v + 1) s in
-      let e : hopsPlace v + 1 + (h + 1 + 2 * h) ≡ rowLength v + 3 * h = omega arith in
+      let e : hopsPlace v + 1 + (h + 1 + 2 * h) ≡ hopsPlace v + 2 + 3 * h = omega arith in
       let behind : drop (h + 1) u ≡ inTurn word (wordsAt h (drop (h + 1) u)) ++ drop (2 * h) (drop (h + 1) u) =
       words-written h (drop (h + 1) u) (bytes-drop (h + 1) u (bytes-drop (hopsPlace v + 1) s b)) (simp length-drop (omega arith)) in
-      let rest : drop (2 * h) (drop (h + 1) u) ≡ drop (rowLength v + 3 * h) s =
+      let rest : drop (2 * h) (drop (h + 1) u) ≡ drop (hopsPlace v + 2 + 3 * h) s =
       drop-drop (2 * h) (h + 1) u ∙ drop-drop (h + 1 + 2 * h) (hopsPlace v + 1) s ∙ ap (λ (n : ℕ). drop n s) e in
       sym (take-append-drop (h + 1) u)
-      ∙ ap (λ (x : List ℕ). take (h + 1) u ++ x) (behind ∙ ap (λ (x : List ℕ). inTurn word (wordsAt h (drop (h + 1) u)) ++ x) rest)
+      ∙ ap (λ (x : List ℕ). take (h + 1) u ++ x) (behind ∙ ap (λ (x : List ℕ). inTurn word (wordsAt h (drop (h + 1) u)) ++ x) (rest ∙ account-written))
 
   pub front-written : s ≡ encodeRow v (frontRow v s) ++ drop (rowLength v + 3 * hopsIn v s) s
   front-written =

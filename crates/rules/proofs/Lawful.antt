@@ -1,4 +1,4 @@
--- An open and a close leave a lawful book, whose image a full-size buffer holds.
+-- An open and a close leave a lawful book, in which no account is overdrawn, and a full-size buffer holds its image.
 use mathlib.Core.Path.{_≡_, refl, sym, ap, _∙_, subst}
 use mathlib.Core.Logic.{_⊎_, inl, inr, ⊎-elim}
 use mathlib.Core.List.{List, [], _∷_, _++_}
@@ -9,9 +9,9 @@ use lib.ListN.{length, getD}
 use Rattle.rules.specs.Words.{TwoBytes, _∈_, total}
 use Rattle.rules.specs.Tiles.{Period, periods}
 use Rattle.rules.specs.Topology.{hopCount, hopAt, mostRouteHops, Path, PathBetween, PathWithin, Beside, SecondPath}
-use Rattle.rules.specs.Book.{Site, Row, Book, key, hops, hopsInAll, mostStreams, mostHops, rowHop, rowOffset, OnData, LawfulRow, Pair, Paired}
+use Rattle.rules.specs.Book.{Site, Row, Book, key, hops, hopsInAll, mostStreams, mostHops, rowHop, rowOffset, OnData, KnownAccount, LawfulRow, Pair, Paired}
 use Rattle.rules.specs.Book.{MeetsClashing, RowsMeet, LawfulBook}
-use Rattle.rules.specs.Placing.{Asked, Planned, Full, NewRow, beside, NewRows}
+use Rattle.rules.specs.Placing.{Asked, Planned, Full, NewRow, beside, NewRows, NotPaid}
 use Rattle.rules.specs.Placing.Planned.{one, two}
 use Rattle.rules.specs.Image.{newest, longestImage, encode, Stored}
 use Rattle.rules.specs.Calls.{OfRoutes, Opened, Closed, openRefusals, Request, Made, requestRefusals, Work, InOrder}
@@ -24,10 +24,11 @@ use Rattle.rules.proofs.Meeting.{in-at}
 use Rattle.rules.proofs.Encoding.{length-encode}
 use Rattle.rules.proofs.Added.{second-within, new-count, new-hops}
 use Rattle.rules.proofs.Reading.{withRows, row-newest}
+use Rattle.rules.proofs.Accounts.{known-account, opened-paid, closed-paid}
 
 -- a full-size buffer holds the image of every lawful book
 pub lawful-length : (c : Book) → LawfulBook c → length (encode newest c) ≤ longestImage newest
-lawful-length c l = omega (arith, length-encode newest c l, l .site .nodes .1, l .streams, l .hops)
+lawful-length c l = omega (arith, length-encode newest c l, l .site .accounts .most, l .site .nodes .1, l .streams, l .hops)
 
 -- a book of the same site differs in its rows alone
 pub same-site : (b c : Book) → c .site ≡ b .site → withRows b (c .rows) ≡ c
@@ -73,7 +74,8 @@ paired-more rows more x f p e = let t = p e in (t .0, f (t .0) (t .1), t .2)
 
 module _ (b : Book) (l : LawfulBook b) (middle : ℕ) where
   -- AN OPEN
-  module _ (q : Asked) (small : TwoBytes (q .id)) (some : q .id ≡ 0 → ⊥) (period : Period (q .period)) (room : OfRoutes middle q b (Full b) → ⊥) where
+  module _ (q : Asked) (small : TwoBytes (q .id)) (some : q .id ≡ 0 → ⊥) (period : Period (q .period))
+      (account : KnownAccount (b .site .accounts) (q .account)) (room : OfRoutes middle q b (Full b) → ⊥) (pays : OfRoutes middle q b (NotPaid b q) → ⊥) where
     row-lawful : (rows : List Row) (way : ℕ) (p : List ℕ) (r : Row) → 1 ≤ way → way ≤ 2 → PathWithin mostRouteHops (b .site .links) middle (q .source) (q .destination) p
         → NewRow (withRows b rows) q way p r → LawfulRow (b .site) r
     row-lawful rows way p r low high path new = record {
@@ -94,6 +96,7 @@ module _ (b : Book) (l : LawfulBook b) (middle : ℕ) where
           subst (λ (k : ℕ). OnData (b .site .plan) k o) (sym (new .every))
           (subst (OnData (b .site .plan) (q .period)) (sym (i .2))
           (new .placed .placing .free (i .0) (omega (arith, i .1, new .placed .placing .offsets-hold .count)) .on-data));
+      account = subst (KnownAccount (b .site .accounts)) (sym (new .paid-by)) account;
     }
       where
         even : hops r ≡ hopCount p
@@ -109,6 +112,7 @@ module _ (b : Book) (l : LawfulBook b) (middle : ℕ) where
       starts = ap (λ (z : List ℕ). getD z 0 0) (m .on) ∙ f .starts ∙ sym (ap (λ (z : List ℕ). getD z 0 0) (n .on) ∙ g .0 .starts);
       ends = ap (λ (z : List ℕ). getD z (hopCount z) 0) (m .on) ∙ f .ends ∙ sym (ap (λ (z : List ℕ). getD z (hopCount z) 0) (n .on) ∙ g .0 .ends);
       beside = subst (λ (z : List ℕ). Beside z (x .route)) (sym (m .on)) (subst (Beside p) (sym (n .on)) (g .1));
+      account = m .paid-by ∙ sym (n .paid-by);
     }
 
     -- so each new row is lawful, and a second has its first
@@ -143,6 +147,7 @@ module _ (b : Book) (l : LawfulBook b) (middle : ℕ) where
       rising = o .plus .rising;
       paired = λ x m. ⊎-elim (λ (k : x ∈ o .new). paired-more (o .new) (c .rows) x (λ r h. to r (in-left r (o .new) (b .rows) h)) (lawful x k .1))
           (λ (k : x ∈ b .rows). paired-more (b .rows) (c .rows) x (λ r h. to r (in-right r (o .new) (b .rows) h)) (l .paired x k)) (from x m);
+      paid = opened-paid middle b (l .paid) q c o (λ n. pays (o .routes, o .planned, n));
       never-meet = λ m. all-quiet q b 1 (o .routes) (o .new) (o .placed) (lawful-quiet b l) (m .one) (m .other)
           (reordered-in (m .one) (o .plus .rows) (m .one-there)) (reordered-in (m .other) (o .plus .rows) (m .other-there)) (m .different) (m .meets);
     }
@@ -171,6 +176,7 @@ module _ (b : Book) (l : LawfulBook b) (middle : ℕ) where
     rows = λ x m. l .rows x (there x m);
     rising = o .rising;
     paired = λ x m w. let t = l .paired x (there x m) w in (t .0, stays x (t .0) m (t .1) (t .2 .id), t .2);
+    paid = closed-paid b (l .paid) id c o;
     never-meet = λ m. lawful-quiet b l (m .one) (m .other) (there (m .one) (m .one-there)) (there (m .other) (m .other-there)) (m .different) (m .meets);
   }
     where
@@ -196,7 +202,8 @@ pub made-lawful : (b : Book) → LawfulBook b → (middle : ℕ) (q : Request) �
     → (c : Book) → Made middle b q c → LawfulBook c
 made-lawful b l middle (Open q) small h =
     let none = says-none (openRefusals middle q b) (omega arith) h in
-    opened-lawful b l middle q (small q refl) (none .0) (is-one (q .period) periods (none .1 .1 .1 .0)) (none .1 .1 .1 .1 .1 .1 .1 .1 .0)
+    opened-lawful b l middle q (small q refl) (none .0) (is-one (q .period) periods (none .1 .1 .1 .0))
+    (known-account (q .account) (b .site .accounts) (none .1 .1 .1 .1 .0)) (none .1 .1 .1 .1 .1 .1 .1 .1 .1 .0) (none .1 .1 .1 .1 .1 .1 .1 .1 .1 .1 .1 .0)
 made-lawful b l middle (Close id) small h = closed-lawful b l middle id
 
 -- and no request changes the site

@@ -32,6 +32,7 @@ pub mod Counts
 pub mod Slots
 pub mod Balances
 pub mod Added
+pub mod Accounts
 pub mod Lawful
 pub mod Mains
 pub mod Saved

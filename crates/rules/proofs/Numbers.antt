@@ -8,24 +8,25 @@ use Rattle.rules.specs.Book.{Book}
 use Rattle.rules.specs.Placing.{Asked}
 use Rattle.rules.specs.Image.{imageRefusals}
 use Rattle.rules.specs.Calls.{newRefusals, checkRefusals, rewriteRefusals, postRefusals, openRefusals, closeRefusals, expandRefusals, balanceRefusals}
-use Rattle.rules.specs.Calls.{routesRefusals, keepsRefusals}
+use Rattle.rules.specs.Calls.{routesRefusals, purchaseRefusals, keepsRefusals}
 
 abbrev numbers : List Refusal → List ℕ
 numbers [] = []
 numbers (r ∷ rs) = r .number ∷ numbers rs
 
--- image; then post, and of its records open and close; rewrite, expand, balance, routes between, keeps to; new book
+-- image; then post, and of its records open and close; rewrite, expand, balance, routes between, purchase, keeps to; new book
 pub record Ordered : Type 0 where
-  pub image : (s : List ℕ) → numbers (imageRefusals s) ≡ 14 ∷ 13 ∷ 10 ∷ 14 ∷ 11 ∷ 15 ∷ 16 ∷ []
+  pub image : (s : List ℕ) → numbers (imageRefusals s) ≡ 14 ∷ 13 ∷ 10 ∷ 14 ∷ 10 ∷ 14 ∷ 11 ∷ 15 ∷ 16 ∷ []
   pub posts : (mains count room indexRoom v : ℕ) (b : Book) → numbers (postRefusals mains count room indexRoom v b) ≡ 25 ∷ 26 ∷ 12 ∷ []
-  pub opens : (mains : ℕ) (q : Asked) (b : Book) → numbers (openRefusals mains q b) ≡ 1 ∷ 4 ∷ 5 ∷ 6 ∷ 2 ∷ 7 ∷ 17 ∷ 18 ∷ 8 ∷ 9 ∷ []
+  pub opens : (mains : ℕ) (q : Asked) (b : Book) → numbers (openRefusals mains q b) ≡ 1 ∷ 4 ∷ 5 ∷ 6 ∷ 22 ∷ 2 ∷ 7 ∷ 17 ∷ 18 ∷ 8 ∷ 9 ∷ 23 ∷ []
   pub closes : (id : ℕ) (b : Book) → numbers (closeRefusals id b) ≡ 1 ∷ 3 ∷ []
   pub rewrites : (room v : ℕ) (b : Book) → numbers (rewriteRefusals room v b) ≡ 12 ∷ []
   pub expands : (node first tiles room v : ℕ) (b : Book) → numbers (expandRefusals node first tiles room v b) ≡ 4 ∷ 21 ∷ 12 ∷ []
   pub balances : (node v : ℕ) (b : Book) → numbers (balanceRefusals node v b) ≡ 4 ∷ []
   pub lists : (mains source destination room v : ℕ) (b : Book) → numbers (routesRefusals mains source destination room v b) ≡ 25 ∷ 4 ∷ 5 ∷ 12 ∷ []
+  pub purchases : (n amount room v : ℕ) (b : Book) → numbers (purchaseRefusals n amount room v b) ≡ 22 ∷ 24 ∷ 12 ∷ []
   pub keeps : (mains v : ℕ) (b : Book) → numbers (keepsRefusals mains v b) ≡ 25 ∷ []
-  pub news : (plan : Plan) (N : ℕ) (links hearing : List ℕ) (room : ℕ) → numbers (newRefusals plan N links hearing room) ≡ 10 ∷ 11 ∷ 12 ∷ []
+  pub news : (plan : Plan) (N : ℕ) (links hearing accounts : List ℕ) (room : ℕ) → numbers (newRefusals plan N links hearing accounts room) ≡ 10 ∷ 11 ∷ 12 ∷ []
   pub checks : (v : ℕ) (b : Book) → numbers (checkRefusals v b) ≡ []
 
 pub ordered : Ordered
@@ -38,7 +39,8 @@ ordered = record {
   expands = λ node first tiles room v b. refl;
   balances = λ node v b. refl;
   lists = λ mains source destination room v b. refl;
+  purchases = λ n amount room v b. refl;
   keeps = λ mains v b. refl;
-  news = λ plan N links hearing room. refl;
+  news = λ plan N links hearing accounts room. refl;
   checks = λ v b. refl;
 }

@@ -57,11 +57,11 @@ newest-bytes {s} h = h .lawful .bytes ∙ ap (λ (v : ℕ). encode v (bookIn s))
 
 -- it holds every row
 pub row-newest : (r : Row) → RowFits newest r
-row-newest r = record { one-way = λ e. never (sym e); short = λ e. never (sym e) }
+row-newest r = record { one-way = λ e. never (sym e); short = λ e. never (sym e); old-account = λ e. never (sym e) }
 
 -- and every book
 pub fits-newest : (b : Book) → Fits newest b
-fits-newest b = record { rows = λ r m. row-newest r; hearing = λ e. never (sym e) }
+fits-newest b = record { rows = λ r m. row-newest r; hearing = λ e. never (sym e); accounts = λ e. never (sym e) }
 
 -- so every lawful book can be stored in it
 pub lawful-stored : (b : Book) → LawfulBook b → Stored (encode newest b) newest b

@@ -22,7 +22,7 @@ cut-sized g = record { nodes = g .nodes; offsets = g .offsets }
 module _ (v : ℕ) (s : List ℕ) where
   -- the row that is cut out is the one that is read, and the others stand behind it
   pub cut-read : (r : Row) (others : List ℕ) → Cut v s r others → frontRow v s ≡ r
-  cut-read r others g = ap (frontRow v) (g .bytes) ∙ cut-back v r others (cut-sized g) (g .one-way)
+  cut-read r others g = ap (frontRow v) (g .bytes) ∙ cut-back v r others (cut-sized g) (g .one-way) (g .old-account)
 
   pub cut-behind : (r : Row) (others : List ℕ) → Cut v s r others → drop (rowLength v + 3 * hops r) s ≡ others
   cut-behind r others g = ap (drop (rowLength v + 3 * hops r)) (g .bytes) ∙ left-over v r others (cut-sized g)

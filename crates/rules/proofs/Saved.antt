@@ -1,17 +1,19 @@
 -- What is salvaged is a lawful book of the same version, made of rows that stand in the image as they were; a lawful book comes through whole.
 use mathlib.Core.Path.{_≡_, refl, sym, ap, _∙_, subst}
 use mathlib.Core.Logic.{inl, inr, ⊎-elim}
+use mathlib.Core.Bool.{cond}
 use mathlib.Core.List.{List, [], _∷_, _++_, append-assoc, append-nil}
 use Prim.Native.Nat.{ℕ, suc, _+_, _<_, _≤_}
 use native.Mathlib.Decide.{ℕ-discrete}
 use native.Mathlib.Omega.{arith}
+use lib.Dec.{eqb}
 use lib.ListN.{length, drop, length-append}
 use Rattle.rules.specs.Words.{_∈_, Pairwise, total, Each}
 use Rattle.rules.specs.Says.{Says}
 use Rattle.rules.specs.Topology.{hopCount, mostRouteHops}
-use Rattle.rules.specs.Book.{Site, Row, Book, key, hops, hopsInAll, mostStreams, mostHops, LawfulSite, LawfulRow, Paired, RisingByKey, LawfulBook}
+use Rattle.rules.specs.Book.{Site, Row, Book, key, hops, hopsInAll, mostStreams, mostHops, LawfulSite, LawfulRow, Paired, RisingByKey, draws, drawn, LawfulBook}
 use Rattle.rules.specs.Placing.{Full}
-use Rattle.rules.specs.Image.{Version, hasHearing, RowFits, Fits, inTurn, encodeRow, encode, versionOf, siteOf, bookOf, rowsPlace, Stored}
+use Rattle.rules.specs.Image.{Version, hasHearing, hasAccounts, RowFits, Fits, inTurn, encodeRow, encode, versionOf, siteOf, bookOf, rowsPlace, Stored}
 use Rattle.rules.specs.Calls.{InOrder}
 use Rattle.rules.specs.Salvage.{CutAll, LawfulBeside, MeetsKept, dropReasons, kept, Keep, Salvaged}
 use Rattle.rules.proofs.Says.{says-none}
@@ -49,6 +51,7 @@ keep-held v b r (l, f) w room quiet = (
     rising = behind (λ (a c : Row). key a < key c) (b .rows) r (l .rising) (w .above);
     paired = λ x m. paired-more (b .rows) (b .rows ++ (r ∷ [])) x (λ z k. in-left z (b .rows) (r ∷ []) k)
         (⊎-elim (λ (e : x ≡ r). subst (Paired (b .rows)) (sym e) (w .paired)) (λ (k : x ∈ b .rows). l .paired x k) (last-or x r (b .rows) m));
+    paid = w .paid;
     never-meet = λ m. quiet-more (b .site) r (b .rows) (lawful-quiet b l) (λ x i k. quiet (x, i, k)) (m .one) (m .other)
         (last-or (m .one) r (b .rows) (m .one-there)) (last-or (m .other) r (b .rows) (m .other-there)) (m .different) (m .meets);
   },
@@ -94,12 +97,13 @@ none-lawful s site = record {
   rows = λ r m. absurd m;
   rising = tt;
   paired = λ r m. absurd m;
+  paid = λ a m. omega arith;
   never-meet = λ m. absurd (m .one-there);
 }
 
 -- what the version of an image holds of its site
 pub held-fits : (s : List ℕ) (rows : List Row) → ((r : Row) → r ∈ rows → RowFits (versionOf s) r) → Fits (versionOf s) (bookOf s rows)
-held-fits s rows f = record { rows = f; hearing = older (hasHearing (versionOf s)) _ _ }
+held-fits s rows f = record { rows = f; hearing = older (hasHearing (versionOf s)) _ _; accounts = older (hasAccounts (versionOf s)) _ _ }
 
 -- the output is a lawful book of the same version
 pub salvaged-stored : (s : List ℕ) (rows : List Row) (reasons lost : List ℕ) (c : Book) → ((b : Book) (r : Row) → Dec (LawfulBeside (versionOf s) b r))
@@ -187,6 +191,7 @@ cut-rows v (r ∷ rows) w f h =
         nodes = z .nodes;
         offsets = z .offsets;
         one-way = f r (inl refl) .one-way;
+        old-account = f r (inl refl) .old-account;
       },
       cut-rows v rows (λ x i. w x (inr i)) (λ x i. f x (inr i)) (λ x i. h x (inr i)),
     )
@@ -243,6 +248,12 @@ module _ (v : ℕ) (b : Book) (l : LawfulBook b) (f : (r : Row) → r ∈ b .row
       sum : hopsInAll (b .rows) ≡ hopsInAll front + (hops r + hopsInAll rows)
       sum = ap hopsInAll (sym e) ∙ total-append hops front (r ∷ rows)
 
+      -- the rows up to this one draw no more than all of them
+      drawn-front : (n : ℕ) → drawn n (front ++ (r ∷ [])) ≤ drawn n (b .rows)
+      drawn-front n =
+          let part : Row → ℕ = λ (x : Row). cond (eqb (x .account) n) (draws x) 0 in
+          omega (arith, total-append part front (r ∷ []), ap (total part) (sym e) ∙ total-append part front (r ∷ rows))
+
       full : Full (record { site = b .site; rows = front }) (r .route ∷ []) → ⊥
       full (inl k) = omega (arith, l .streams, count)
       full (inr k) = omega (arith, l .hops, sum)
@@ -253,6 +264,7 @@ module _ (v : ℕ) (b : Book) (l : LawfulBook b) (f : (r : Row) → r ∈ b .row
         fits = f r this;
         above = before front rows r up;
         paired = λ w. let t = l .paired r this w in (t .0, first (t .0) (t .1) (omega (arith, t .2 .id, t .2 .first)), t .2);
+        paid = λ a m. omega (arith, l .paid a m, drawn-front (a .number));
       }
 
 -- it comes through with every row kept and no byte lost

@@ -16,7 +16,7 @@ thePlan p = record { slots = p .slots .0; tiles = p .tiles .0; kinds = p .kinds;
 
 -- what an open asks for, as the code's record holds it
 abbrev pub theAsked : Asked → placing.Asked
-theAsked q = record { id = q .id; source = q .source .0; destination = q .destination .0; period = q .period .0; second = q .second }
+theAsked q = record { id = q .id; source = q .source .0; destination = q .destination .0; period = q .period .0; second = q .second; account = q .account }
 
 -- the place is one of the list
 abbrev pub InList : ℕ → Type 0

@@ -8,9 +8,9 @@ use lib.ListN.{length, getD, drop}
 use Rattle.rules.specs.Words.{_∈_}
 use Rattle.rules.specs.Says.{Refusal, _when_, Says}
 use Rattle.rules.specs.Topology.{SoundTopologies, mostRouteHops}
-use Rattle.rules.specs.Book.{Row, Book, hops, key, LawfulRow, Paired, RowsMeet}
+use Rattle.rules.specs.Book.{Row, Book, hops, key, LawfulRow, Paired, Paid, RowsMeet}
 use Rattle.rules.specs.Placing.{Full}
-use Rattle.rules.specs.Image.{hasWays, RowFits, hopsPlace, rowLength, word, encodeRow, encode, versionOf, linksOf, hearingOf, bookOf, rowsPlace, headRefusals}
+use Rattle.rules.specs.Image.{hasWays, hasAccounts, RowFits, hopsPlace, rowLength, word, encodeRow, encode, versionOf, linksOf, hearingOf, bookOf, rowsPlace, headRefusals}
 use Rattle.rules.specs.Calls.{Call, InOrder, Wrote, Unchanged}
 
 -- CUTTING
@@ -22,13 +22,14 @@ pub record Cuttable (v : ℕ) (s : List ℕ) : Type 0 where
   pub most : getD s (hopsPlace v) 0 ≤ mostRouteHops
   pub whole : rowLength v + 3 * getD s (hopsPlace v) 0 ≤ length s
 
--- it is this row, before the others: as many nodes and offsets as its hops need; in a version without ways it is a first way
+-- it is this row, before the others: as many nodes and offsets as its hops need; in a version without ways it is a first way, without accounts of account 0
 pub record Cut (v : ℕ) (s : List ℕ) (r : Row) (others : List ℕ) : Type 0 where
   pub cuttable : Cuttable v s
   pub bytes : s ≡ encodeRow v r ++ others
   pub nodes : length (r .route) ≡ hops r + 1
   pub offsets : length (r .offsets) ≡ hops r
   pub one-way : hasWays v ≡ false → r .way ≡ 1
+  pub old-account : hasAccounts v ≡ false → r .account ≡ 0
 
 -- the rows are cut out one after the other while one can be, and the bytes behind the last are lost
 abbrev pub CutAll : ℕ → List ℕ → List Row → List ℕ → Type 0
@@ -37,12 +38,13 @@ CutAll v s (r ∷ rows) lost = (others : List ℕ) × Cut v s r others × CutAll
 
 -- KEEPING
 
--- the row is lawful beside those kept: by itself, in its version, behind all of them, and a second way with its first among them
+-- the row is lawful beside those kept: by itself, in its version, behind all of them, a second way with its first among them, and no account overdrawn
 pub record LawfulBeside (v : ℕ) (b : Book) (r : Row) : Type 0 where
   pub lawful : LawfulRow (b .site) r
   pub fits : RowFits v r
   pub above : (x : Row) → x ∈ b .rows → key x < key r
   pub paired : Paired (b .rows) r
+  pub paid : Paid (b .site .accounts) (b .rows ++ (r ∷ []))
 
 -- it meets one of those kept
 abbrev pub MeetsKept : Book → Row → Type 0

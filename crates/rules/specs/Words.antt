@@ -27,6 +27,10 @@ pub record SetOf (P : ℕ → Type 0) (r : ℕ) : Type 0 where
 abbrev pub TwoBytes : ℕ → Type 0
 TwoBytes n = n < 65536
 
+-- n is a number of 4 bytes
+abbrev pub FourBytes : ℕ → Type 0
+FourBytes n = n < 4294967296
+
 -- x is in the list
 infix 4 _∈_
 abbrev pub _∈_ : {A : Type 0} → A → List A → Type 0
@@ -85,6 +89,12 @@ Each R [] [] = Unit {0}
 Each R [] (y ∷ ys) = ⊥
 Each R (x ∷ xs) [] = ⊥
 Each R (x ∷ xs) (y ∷ ys) = R x y × Each R xs ys
+
+-- the sum of f at each place of the lists
+abbrev pub totalEach : {A B : Type 0} → (A → B → ℕ) → List A → List B → ℕ
+totalEach f [] ys = 0
+totalEach f (x ∷ xs) [] = 0
+totalEach f (x ∷ xs) (y ∷ ys) = f x y + totalEach f xs ys
 
 -- the test passes exactly if P holds
 pub record Tests (t : Bool) (P : Type 0) : Type 0 where

@@ -10,8 +10,8 @@ use lib.Dec.{ltb}
 use lib.ListN.{length, drop, length-drop}
 use Rattle.rules.specs.Says.{Refusal, Says}
 use Rattle.rules.specs.Topology.{nodes, SoundTopologies}
-use Rattle.rules.specs.Book.{Row, Book, hopsInAll, mostStreams, mostHops}
-use Rattle.rules.specs.Image.{headerLength, linksStart, imageLength, rowLength, inTurn, encodeRow, encode, versionOf, nodesOf, FieldsInRange, linksOf, hearingOf, bookOf, rowsPlace}
+use Rattle.rules.specs.Book.{Row, Book, hopsInAll, mostStreams, mostHops, AccountsInRange}
+use Rattle.rules.specs.Image.{headerLength, imageLength, rowLength, inTurn, encodeRow, encode, versionOf, nodesOf, FieldsInRange, accountsOf, linksPlace, linksOf, hearingOf, bookOf, rowsPlace}
 use Rattle.rules.specs.Calls.{Wrote}
 use Rattle.rules.specs.Salvage.{CutAll, Salvaged, reportBytes, OfSalvaged, NoRoom, salvageRefusals}
 use Rattle.rules.proofs.Tests.{never, fails, tests-lt}
@@ -22,6 +22,7 @@ use Rattle.rules.proofs.Salvaging.{cut-all-unique, salvaged-unique, length-repo
 use Rattle.rules.proofs.Saved.{Held}
 use Rattle.writer.specs.Over.{over, headed}
 use Rattle.writer.proofs.Laws.{over-front, length-headed}
+use Rattle.image.proofs.Places.{links-counted}
 use Rattle.image.proofs.Marks.{Marked}
 use Rattle.cutting.specs.declared.Cutting.{Cutting}
 use Rattle.cutting.specs.Cutting.{CutsTo}
@@ -30,7 +31,7 @@ use Rattle.salvaging.specs.declared.Walk.{Walk}
 use Rattle.salvaging.specs.Walk.{Walked, Measured, BookFits, TooLong}
 use Rattle.salvaging.specs.Replies.{Headed, HasRoom, rowsRefusals, siteRefusals, Refuses, Replied}
 use Rattle.salvaging.proofs.Puts.{over-before}
-use Rattle.salvaging.proofs.Walks.{rows-length}
+use Rattle.salvaging.proofs.Walks.{lengthOf, rows-length}
 
 -- LENGTHS
 module _ {s out report : List ℕ} {walk : Walk} {out′ report′ : List ℕ} (w : Walked s out report walk out′ report′) where
@@ -39,15 +40,17 @@ module _ {s out report : List ℕ} {walk : Walk} {out′ report′ : List ℕ} (
   c = bookOf s (w .stay)
 
   count : nodes (linksOf s) ≡ nodesOf s
-  count = length-sets-at s (linksStart (versionOf s)) (nodesOf s)
+  count = length-sets-at s (linksPlace s) (nodesOf s)
 
-  long : length (encode (versionOf s) c) ≡ imageLength (versionOf s) (nodesOf s) (length (w .stay)) (hopsInAll (w .stay))
-  long = length-encode (versionOf s) c (w .held .0) ∙ ap (λ (N : ℕ). imageLength (versionOf s) N (length (w .stay)) (hopsInAll (w .stay))) count
+  long : length (encode (versionOf s) c) ≡ lengthOf s (length (w .stay)) (hopsInAll (w .stay))
+  long =
+      length-encode (versionOf s) c (w .held .0) ∙ ap (λ (N : ℕ). imageLength (versionOf s) (length (accountsOf s)) N (length (w .stay)) (hopsInAll (w .stay))) count
+      ∙ omega (arith, links-counted s)
 
-  pub walked-length : {len : ℕ} → len ≡ imageLength (versionOf s) (nodesOf s) (walk .kept .rows) (walk .kept .hops) → len ≡ length (encode (versionOf s) c)
-  walked-length e = e ∙ (λ i. imageLength (versionOf s) (nodesOf s) (w .count i) (w .hops i)) ∙ sym long
+  pub walked-length : {len : ℕ} → len ≡ lengthOf s (walk .kept .rows) (walk .kept .hops) → len ≡ length (encode (versionOf s) c)
+  walked-length e = e ∙ (λ i. lengthOf s (w .count i) (w .hops i)) ∙ sym long
 
-  pub walked-measured : {len : ℕ} → len ≡ imageLength (versionOf s) (nodesOf s) (walk .kept .rows) (walk .kept .hops) → Measured s len
+  pub walked-measured : {len : ℕ} → len ≡ lengthOf s (walk .kept .rows) (walk .kept .hops) → Measured s len
   walked-measured e = (w .rows, w .reasons, drop (walk .end) s, c, w .salvaged, walked-length e)
 
   pub walked-small : (walk .kept .rows ≤ 64) × (walk .kept .hops ≤ 512)
@@ -86,7 +89,7 @@ module _ {s out report : List ℕ} {walk : Walk} {out′ report′ : List ℕ} (
         ∙ sym (encode-rows s b (omega (arith, h .enough)) (h .marked .0) (h .last) (h .enough) even (w .stay))
 
     book-written : {len : ℕ} {o : List ℕ} → rowsPlace s + length (inTurn (encodeRow (versionOf s)) (w .stay)) ≤ length out
-        → len ≡ imageLength (versionOf s) (nodesOf s) (walk .kept .rows) (walk .kept .hops)
+        → len ≡ lengthOf s (walk .kept .rows) (walk .kept .hops)
         → o ≡ over out′ 0 (headed s (rowsPlace s) (walk .kept .rows) (walk .kept .hops)) → Wrote (encode (versionOf s) c) out len o
     book-written {o = o} l e f = record { length-is = walked-length e; buffer = whole }
       where
@@ -102,7 +105,7 @@ module _ {s out report : List ℕ} {walk : Walk} {out′ report′ : List ℕ} (
             ∙ over-before out head rows (rowsPlace s) (sym (length-headed s (rowsPlace s) (walk .kept .rows) (walk .kept .hops) (omega arith) (h .enough))) l
             ∙ ap (λ (z : List ℕ). z ++ drop (length z) out) front
 
-    pub written : {len lost start : ℕ} {o : List ℕ} → HasRoom s (length out) (length report) → len ≡ imageLength (versionOf s) (nodesOf s) (walk .kept .rows) (walk .kept .hops)
+    pub written : {len lost start : ℕ} {o : List ℕ} → HasRoom s (length out) (length report) → len ≡ lengthOf s (walk .kept .rows) (walk .kept .hops)
         → start ≡ rowsPlace s → o ≡ over out′ 0 (headed s start (walk .kept .rows) (walk .kept .hops)) → lost ≡ length s - walk .end
         → Replied (rowsRefusals s (length out) (length report)) s out report (record { number = 0; length = len; rows = walk .rows; lost = lost }) o report′
     written has e q f g = record {
@@ -141,7 +144,7 @@ module _ {s : List ℕ} {start : ℕ} {cut : Cutting} (w : CutsTo s start cut) (
   has-room l f = record { rows = w .rows; lost = drop (cut .end) s; cut = here; told = omega (arith, w .count); book = f }
 
 -- WHETHER THE BOOK IS TOO LONG
-pub longest-fits : {s : List ℕ} {room len : ℕ} → len ≡ imageLength (versionOf s) (nodesOf s) mostStreams mostHops → len ≤ room → TooLong s room false
+pub longest-fits : {s : List ℕ} {room len : ℕ} → len ≡ lengthOf s mostStreams mostHops → len ≤ room → TooLong s room false
 longest-fits {room = room} e l = record { yes = λ t. never t; no = λ t. inl (subst (λ (n : ℕ). n ≤ room) e l) }
 
 pub measured-fits : {s : List ℕ} {len : ℕ} (room : ℕ) → Measured s len → TooLong s room (ltb room len)
@@ -188,14 +191,29 @@ module _ (s out report : List ℕ) where
         pub out-of-range : Refuses 10 r → (FieldsInRange s → ⊥) → Replied every s out report r out report
         out-of-range e h = refuses every s out report e (λ z. omega arith) (inr (header, inr (λ n. n marked, inl (h, refl))))
 
-        pub ended : FieldsInRange s → Refuses 14 r → length s < rowsPlace s → Replied every s out report r out report
-        ended fields e h = refuses every s out report e (λ z. omega arith) (inr (header, inr (λ n. n marked, inr (λ n. n fields, inl (h, refl)))))
+        module _ (fields : FieldsInRange s) where
+          pub list-ended : Refuses 14 r → length s < linksPlace s → Replied every s out report r out report
+          list-ended e h = refuses every s out report e (λ z. omega arith) (inr (header, inr (λ n. n marked, inr (λ n. n fields, inl (h, refl)))))
+
+          module _ (listed : length s < linksPlace s → ⊥) where
+            pub list-out-of-range : Refuses 10 r → (AccountsInRange (accountsOf s) → ⊥) → Replied every s out report r out report
+            list-out-of-range e h =
+                refuses every s out report e (λ z. omega arith) (inr (header, inr (λ n. n marked, inr (λ n. n fields, inr (listed, inl (h, refl))))))
+
+            pub ended : AccountsInRange (accountsOf s) → Refuses 14 r → length s < rowsPlace s → Replied every s out report r out report
+            ended accounts e h =
+                refuses every s out report e (λ z. omega arith)
+                (inr (header, inr (λ n. n marked, inr (λ n. n fields, inr (listed, inr (λ n. n accounts, inl (h, refl)))))))
 
   -- and where they do not apply
   module _ {r : declared.Salvaged} {out′ report′ : List ℕ} where
     pub sound-then : SoundTopologies (linksOf s) (hearingOf s) → Replied rows s out report r out′ report′ → Replied site s out report r out′ report′
     sound-then t h = record { says = inr (λ n. n t, h .says); refused = h .refused; done = h .done }
 
-    pub header-then : (length s < headerLength → ⊥) → Marked s → FieldsInRange s → (length s < rowsPlace s → ⊥) → Replied site s out report r out′ report′
-        → Replied every s out report r out′ report′
-    header-then l m f e h = record { says = inr (l, inr (λ n. n m, inr (λ n. n f, inr (e, h .says)))); refused = h .refused; done = h .done }
+    pub header-then : (length s < headerLength → ⊥) → Marked s → FieldsInRange s → (length s < linksPlace s → ⊥) → AccountsInRange (accountsOf s) → (length s < rowsPlace s → ⊥)
+        → Replied site s out report r out′ report′ → Replied every s out report r out′ report′
+    header-then l m f k a e h = record {
+      says = inr (l, inr (λ n. n m, inr (λ n. n f, inr (k, inr (λ n. n a, inr (e, h .says))))));
+      refused = h .refused;
+      done = h .done;
+    }

@@ -8,8 +8,8 @@ use native.Mathlib.Decide.{ℕ-discrete}
 use lib.ListN.{length, take, drop, replicate, length-append}
 use Rattle.rules.specs.Words.{_∈_}
 use Rattle.rules.specs.Topology.{nodes, NodesInRange}
-use Rattle.rules.specs.Book.{Row, Book, hopsInAll, LawfulSite}
-use Rattle.rules.specs.Image.{linksStart, imageLength, rowLength, word, inTurn, encodeRow, versionOf, nodesOf, planOf, linksOf, siteOf, bookOf, rowsPlace}
+use Rattle.rules.specs.Book.{Row, Book, hopsInAll, mostAccounts, LawfulSite}
+use Rattle.rules.specs.Image.{imageLength, word, inTurn, encodeRow, versionOf, nodesOf, planOf, accountCountOf, accountsOf, linksPlace, siteOf, bookOf, rowsPlace}
 use Rattle.rules.specs.Calls.{InOrder}
 use Rattle.rules.specs.Salvage.{Cuttable, Keep, Salvaged, reportBytes}
 use Rattle.rules.proofs.Choice.{in-order-more, in-order-even}
@@ -22,6 +22,7 @@ use Rattle.index.proofs.Rows.{index-none}
 use Rattle.image.specs.Places.{rowAt, nextAt}
 use Rattle.image.specs.Header.{HeaderOf}
 use Rattle.image.specs.declared.Book as header
+use Rattle.accounts.specs.Lists.{LeftBy}
 use Rattle.writer.proofs.Books.{in-turn-append}
 use Rattle.cutting.specs.Cutting.{CutSo}
 use Rattle.cutting.proofs.Cuts.{row-bytes, cut-none, cut-more, cut-done}
@@ -33,13 +34,13 @@ use Rattle.salvaging.specs.Walk.{PutIf, LaidIf, Walked}
 use Rattle.salvaging.proofs.Puts.{put-none, put-more, put-alike}
 
 -- the rows up to the place were judged, and written as far as there is room
-pub record Walking (s out report : List ℕ) (at cut : ℕ) (kept : Kept) (places words out′ report′ : List ℕ) : Type 0 where
+pub record Walking (s out report : List ℕ) (at cut : ℕ) (kept : Kept) (places left words out′ report′ : List ℕ) : Type 0 where
   pub rows : List Row
   pub reasons : List ℕ
   pub stay : List Row
   pub so : CutSo s (rowsPlace s) at rows
   pub keep : InOrder (Keep (versionOf s)) (bookOf s []) rows reasons (bookOf s stay)
-  pub beside : Beside s kept places words stay
+  pub beside : Beside s kept places left words stay
   pub count : cut ≡ length rows
   pub book : PutIf out (rowsPlace s) (inTurn (encodeRow (versionOf s)) stay) out′
   pub told : PutIf report 0 (reportBytes rows reasons) report′
@@ -48,13 +49,15 @@ pub record Walking (s out report : List ℕ) (at cut : ℕ) (kept : Kept) (place
 pub site-lawful : {s : List ℕ} {b : header.Book} {links hearing : List ℕ} → SiteRead s b links hearing → LawfulSite (siteOf s)
 site-lawful {s} w = record {
   plan = w .read .fields .plan;
-  nodes = subst NodesInRange (sym (length-sets-at s (linksStart (versionOf s)) (nodesOf s))) (w .read .fields .nodes);
+  nodes = subst NodesInRange (sym (length-sets-at s (linksPlace s) (nodesOf s))) (w .read .fields .nodes);
   topologies = w .heard .sound;
+  accounts = w .read .list .range;
 }
 
-pub walking-none : {s : List ℕ} (out report : List ℕ) {at : ℕ} → LawfulSite (siteOf s) → at ≡ rowsPlace s → rowsPlace s ≤ length s
-    → Walking s out report at 0 (record { rows = 0; hops = 0; before = at; last = 0 }) (replicate 64 0) (replicate indexLength 0) out report
-walking-none {s} out report {at} site e l = record {
+pub walking-none : {s : List ℕ} (out report : List ℕ) {at : ℕ} {left : List ℕ} → LawfulSite (siteOf s) → at ≡ rowsPlace s → rowsPlace s ≤ length s
+    → LeftBy (accountsOf s) [] left → length left ≡ mostAccounts
+    → Walking s out report at 0 (record { rows = 0; hops = 0; before = at; last = 0 }) (replicate 64 0) left (replicate indexLength 0) out report
+walking-none {s} out report {at} site e l purses all = record {
   rows = [];
   reasons = [];
   stay = [];
@@ -71,6 +74,8 @@ walking-none {s} out report {at} site e l = record {
     placed-there = record { each = λ i l. absurd (omega arith); few = omega arith; room = refl };
     known = λ i l. absurd (omega arith);
     nth = λ x m. absurd m;
+    purses = purses;
+    all-purses = all;
     index = index-none (planOf s .slots);
   };
   count = refl;
@@ -78,26 +83,30 @@ walking-none {s} out report {at} site e l = record {
   told = put-none report 0;
 }
 
+-- the length of a book of the site with so many rows and hops
+abbrev pub lengthOf : List ℕ → ℕ → ℕ → ℕ
+lengthOf s n h = imageLength (versionOf s) (accountCountOf s) (nodesOf s) n h
+
 -- a length by the header that was read is the one that the image gives
-pub of-header : {s : List ℕ} {b : header.Book} (n h : ℕ) {len : ℕ} → HeaderOf s b → len ≡ imageLength (b .version) (b .nodes) n h → len ≡ imageLength (versionOf s) (nodesOf s) n h
-of-header n h w e = e ∙ λ i. imageLength (w .version i) (w .nodes i) n h
+pub of-header : {s : List ℕ} {b : header.Book} (n h : ℕ) {len : ℕ} → HeaderOf s b → len ≡ imageLength (b .version) (b .accounts) (b .nodes) n h → len ≡ lengthOf s n h
+of-header n h w e = e ∙ λ i. imageLength (w .version i) (w .accounts i) (w .nodes i) n h
 
 -- the place behind the rows kept, and the length of their book
 pub rows-length : (s : List ℕ) (stay : List Row) → Held (versionOf s) (bookOf s stay)
-    → rowsPlace s + length (inTurn (encodeRow (versionOf s)) stay) ≡ imageLength (versionOf s) (nodesOf s) (length stay) (hopsInAll stay)
+    → rowsPlace s + length (inTurn (encodeRow (versionOf s)) stay) ≡ lengthOf s (length stay) (hopsInAll stay)
 rows-length s stay h = omega (arith, length-rows (versionOf s) stay (all-sized (bookOf s stay) (h .0)))
 
-module _ {s out report : List ℕ} {at cut : ℕ} {kept : Kept} {places words out′ report′ : List ℕ}
-    (w : Walking s out report at cut kept places words out′ report′) where
-  pub walking-some : SomeBeside s kept places words
+module _ {s out report : List ℕ} {at cut : ℕ} {kept : Kept} {places left words out′ report′ : List ℕ}
+    (w : Walking s out report at cut kept places left words out′ report′) where
+  pub walking-some : SomeBeside s kept places left words
   walking-some = (w .stay, w .beside)
 
-  pub place-behind : imageLength (versionOf s) (nodesOf s) (kept .rows) (kept .hops) ≡ rowsPlace s + length (inTurn (encodeRow (versionOf s)) (w .stay))
+  pub place-behind : lengthOf s (kept .rows) (kept .hops) ≡ rowsPlace s + length (inTurn (encodeRow (versionOf s)) (w .stay))
   place-behind =
-      (λ i. imageLength (versionOf s) (nodesOf s) (w .beside .count i) (w .beside .hops i)) ∙ sym (rows-length s (w .stay) (w .beside .held))
+      (λ i. lengthOf s (w .beside .count i) (w .beside .hops i)) ∙ sym (rows-length s (w .stay) (w .beside .held))
 
-  module _ (b : Bytes s) (c : Cuttable (versionOf s) (drop at s)) {judged : Judged} {places′ words′ : List ℕ}
-      (judges : Judges s at kept places words judged places′ words′) where
+  module _ (b : Bytes s) (c : Cuttable (versionOf s) (drop at s)) {judged : Judged} {places′ left′ words′ : List ℕ}
+      (judges : Judges s at kept places left words judged places′ left′ words′) where
     r : Row
     r = rowAt s at
 
@@ -135,8 +144,8 @@ module _ {s out report : List ℕ} {at cut : ℕ} {kept : Kept} {places words ou
 
     pub walking-more : {next place id : ℕ} {out″ report″ : List ℕ} → next ≡ nextAt s at → id ≡ rowAt s at .id
         → PutIf report′ (3 * cut) (judged .reason ∷ word id) report″
-        → place ≡ imageLength (versionOf s) (nodesOf s) (kept .rows) (kept .hops) → LaidIf (take (next - at) (drop at s)) (judged .reason) out′ place out″
-        → Walking s out report next (cut + 1) (judged .kept) places′ words′ out″ report″
+        → place ≡ lengthOf s (kept .rows) (kept .hops) → LaidIf (take (next - at) (drop at s)) (judged .reason) out′ place out″
+        → Walking s out report next (cut + 1) (judged .kept) places′ left′ words′ out″ report″
     unfolding r after
     walking-more {next} {place} {id} {out″} {report″} e i noted p l = record {
       rows = w .rows ++ (r ∷ []);

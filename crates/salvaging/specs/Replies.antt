@@ -13,7 +13,7 @@ use Rattle.image.proofs.Marks.{Marked}
 use Rattle.salvaging.specs.declared.Salvaged.{Salvaged}
 use Rattle.salvaging.specs.Walk.{BookFits}
 
--- the image has its mark, its header and its topologies
+-- the image has its mark, its header, its accounts and its topologies
 pub record Headed (s : List ℕ) : Type 0 where
   pub marked : Marked s
   pub last : getD s 15 0 ≡ 0
@@ -31,7 +31,7 @@ pub record HasRoom (s : List ℕ) (room reportRoom : ℕ) : Type 0 where
 abbrev pub rowsRefusals : List ℕ → ℕ → ℕ → List Refusal
 rowsRefusals s room reportRoom = (12 when NoRoom s room reportRoom) ∷ []
 
--- and where the header is in order
+-- and where the header and the accounts are in order
 abbrev pub siteRefusals : List ℕ → ℕ → ℕ → List Refusal
 siteRefusals s room reportRoom = (11 when (SoundTopologies (linksOf s) (hearingOf s) → ⊥)) ∷ rowsRefusals s room reportRoom
 

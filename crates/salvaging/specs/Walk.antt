@@ -6,7 +6,7 @@ use mathlib.Core.List.{List}
 use Prim.Native.Nat.{ℕ, _+_, _<_, _≤_}
 use lib.ListN.{length, drop}
 use Rattle.rules.specs.Book.{Row, Book, hopsInAll, mostStreams, mostHops}
-use Rattle.rules.specs.Image.{imageLength, inTurn, encodeRow, encode, versionOf, nodesOf, bookOf, rowsPlace}
+use Rattle.rules.specs.Image.{imageLength, inTurn, encodeRow, encode, versionOf, nodesOf, accountCountOf, bookOf, rowsPlace}
 use Rattle.rules.specs.Salvage.{Salvaged, reportBytes, OfSalvaged}
 use Rattle.rules.proofs.Saved.{Held}
 use Rattle.writer.specs.Over.{over}
@@ -43,7 +43,7 @@ Measured s len = OfSalvaged s (λ (rows : List Row) (reasons lost : List ℕ) (c
 -- the book has room: the longest of the site has, or what is salvaged
 abbrev pub BookFits : List ℕ → ℕ → Type 0
 BookFits s room =
-    (imageLength (versionOf s) (nodesOf s) mostStreams mostHops ≤ room)
+    (imageLength (versionOf s) (accountCountOf s) (nodesOf s) mostStreams mostHops ≤ room)
     ⊎ OfSalvaged s (λ (rows : List Row) (reasons lost : List ℕ) (c : Book). length (encode (versionOf s) c) ≤ room)
 
 -- the test says whether the book is longer than the room

@@ -6,11 +6,12 @@ ghost use Prim.Native.Nat.{_-_, _<_, _≤_};
 ghost use lib.ListN.{length, take, drop};
 ghost use Rattle.rules.specs.Image.{headerLength, imageLength, word, FieldsInRange, rowsPlace};
 ghost use Rattle.rules.specs.Salvage.{Salvage};
-ghost use Rattle.image.specs.Header.{HeaderOf};
+ghost use Rattle.accounts.specs.Lists.{ListRead};
 ghost use Rattle.writer.specs.Over.{over, headed};
 ghost use Rattle.judging.specs.Keeping.{SiteRead};
 ghost use Rattle.salvaging.specs.Walk.{PutIf, LaidIf, Walked, Measured, TooLong};
 ghost use Rattle.salvaging.specs.Replies.{Headed, HasRoom, rowsRefusals, siteRefusals, Refuses, Replied};
+use accounts::purses;
 use image::Book;
 use judging::Kept;
 
@@ -47,7 +48,7 @@ fn refused(number: u8) -> Salvaged
 // The length of a book of the site with so many rows and hops.
 fn book_length(book: Book, rows: usize, hops: usize) -> usize
     requires { ⌜ (book .nodes < 256) × (rows ≤ 64) × (hops ≤ 512) ⌝ }
-    ensures { λ r. ⌜ r ≡ imageLength (book .version) (book .nodes) rows hops ⌝ }
+    ensures { λ r. ⌜ r ≡ imageLength (book .version) (book .accounts) (book .nodes) rows hops ⌝ }
 {
     let mut kept = book;
     kept.streams = rows;
@@ -101,6 +102,8 @@ fn keep_rows(
     ensures { λ r. ⌜ Walked (now (image .entry)) (now (out .entry)) (now (report .entry)) r (now (out .exit)) (now (report .exit)) ⌝ }
 {
     let mut places = [0usize; plain::ROWS];
+    let mut left = [0u32; Book::ACCOUNTS];
+    purses::fill(image, book, &mut left);
     let mut index = [0u64; index::WORDS];
     let mut at = book.rows_start();
     let mut cut: usize = 0;
@@ -119,6 +122,7 @@ fn keep_rows(
             at,
             kept,
             &mut places,
+            &mut left,
             &mut index,
         );
         let reason = judged.reason;
@@ -194,7 +198,7 @@ fn write_both(
     }
 }
 
-// Salvages the rows of an image whose header and topologies are in order.
+// Salvages the rows of an image whose header, accounts and topologies are in order.
 fn salvage_rows(
     image: &[u8],
     book: Book,
@@ -216,13 +220,13 @@ fn salvage_rows(
     write_both(image, book, links, hearing, out, report)
 }
 
-// Salvages an image whose header is in order and that has its topologies.
+// Salvages an image whose header and accounts are in order and that has its topologies.
 fn salvage_site(image: &[u8], book: Book, out: &mut [u8], report: &mut [u8]) -> Salvaged
-    requires { ⌜ FieldsInRange (now image) × HeaderOf (now image) book × Headed (now image) ⌝ }
+    requires { ⌜ FieldsInRange (now image) × ListRead (now image) book × Headed (now image) ⌝ }
     ensures { λ r. ⌜ Replied (siteRefusals (now (image .entry)) (length (now (out .entry))) (length (now (report .entry)))) (now (image .entry)) (now (out .entry)) (now (report .entry)) r (now (out .exit)) (now (report .exit)) ⌝ }
 {
     let n = book.nodes;
-    let linked = topologies::sets(image, image::HEADER, n);
+    let linked = topologies::sets(image, book.links_place(), n);
     let heard = topologies::sets(image, book.hearing_place(), n);
     let links = &linked[..n];
     let hearing = &heard[..n];
@@ -244,6 +248,12 @@ pub fn salvage(image: &[u8], out: &mut [u8], report: &mut [u8]) -> Salvaged
     }
     let book = Book::read(image);
     if !fields::fields_in_range(image, book) {
+        return refused(10);
+    }
+    if image.len() < book.links_place() {
+        return refused(14);
+    }
+    if !accounts::list_holds(image, book) {
         return refused(10);
     }
     if image.len() < book.rows_start() {

@@ -9,7 +9,7 @@ use Rattle.rules.specs.Says.{Says}
 use Rattle.rules.specs.Tiles.{PlanInRange}
 use Rattle.rules.specs.Topology.{nodes}
 use Rattle.rules.specs.Periods.{thePlan}
-use Rattle.rules.specs.Image.{headerLength, imageRefusals, linksStart, versionOf, nodesOf, linksOf}
+use Rattle.rules.specs.Image.{headerLength, imageRefusals, linksPlace, versionOf, nodesOf, linksOf}
 use Rattle.rules.specs.Table.{sumBelow, used}
 use Rattle.rules.proofs.Lists.{count-unique}
 use Rattle.rules.proofs.Reading.{bookIn, LawfulImage}
@@ -43,7 +43,7 @@ module _ {s : List ℕ} (h : LawfulImage s) {book : head.Book} (read : HeaderOf 
   plan-held = subst PlanInRange (sym (read .plan)) (h .lawful .site .plan)
 
   known : nodes (linksOf s) ≡ book .nodes
-  known = length-sets-at s (linksStart (versionOf s)) (nodesOf s) ∙ sym (read .nodes)
+  known = length-sets-at s (linksPlace s) (nodesOf s) ∙ sym (read .nodes)
 
   pub some-nodes : 0 < book .nodes
   some-nodes = omega (arith, known, h .lawful .site .nodes .0)

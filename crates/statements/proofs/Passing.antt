@@ -46,7 +46,7 @@ none (suc k) (suc node) = none k node
 
 module _ {s : List ℕ} where
   pub passing-first : {b : Book} {sums : List ℕ} {at left : ℕ} → LawfulImage s → HeaderOf s b → sums ≡ replicate mostNodes 0
-      → at ≡ rowsStart (b .version) (b .nodes) → left ≡ b .streams → Passing s sums 0 at left
+      → at ≡ rowsStart (b .version) (b .accounts) (b .nodes) → left ≡ b .streams → Passing s sums 0 at left
   passing-first {sums = sums} {at} {left} w h z e l = record {
     stands = stands-first w h e l;
     size = ap length z ∙ length-replicate {A = ℕ} mostNodes 0;

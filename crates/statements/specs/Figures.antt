@@ -34,10 +34,10 @@ pub record NoFigures (r : Figures) : Type 0 where
 abbrev pub FiguresSay : List ℕ → Figures → Type 0
 FiguresSay image r = CallOf image checkRefusals (NoFigures r) (λ (v : ℕ) (b : Book). FiguresOf b r) (r .number)
 
--- the first r bytes of every image of the length have its figures
+-- the first r bytes of every image of so many bytes have its figures
 pub record Decides (size r : ℕ) : Type 0 where
   pub most : r ≤ size
-  pub figures : (image : List ℕ) (f : Figures) → length image ≡ size → FiguresSay (take r image) f → FiguresSay image f
+  pub figures : (image : List ℕ) (f : Figures) → length image ≡ size → ((i : ℕ) → getD image i 0 < 256) → FiguresSay (take r image) f → FiguresSay image f
 
 -- the movement from so many free slots of a node to so many
 pub record Moved (was is : ℕ) (r : Movement) : Type 0 where

@@ -22,7 +22,7 @@ pub record Follows (s : List ℕ) (part : Part) (node : ℕ) (old out : List ℕ
   pub rest : (new : List ℕ) → Rows s part node (rowsFrom s left at) out new → Rows s part node (rowsIn s) old new
 
 module _ {s : List ℕ} {part : Part} {node : ℕ} where
-  pub follows-first : {b : Book} {at left : ℕ} {out : List ℕ} → HeaderOf s b → at ≡ rowsStart (b .version) (b .nodes) → left ≡ b .streams → Follows s part node out out at left
+  pub follows-first : {b : Book} {at left : ℕ} {out : List ℕ} → HeaderOf s b → at ≡ rowsStart (b .version) (b .accounts) (b .nodes) → left ≡ b .streams → Follows s part node out out at left
   follows-first {out} h e l = record { rest = λ new f. subst (λ (rows : List Row). Rows s part node rows out new) (first-rows s h e l) f }
 
   pub follows-on : {at at′ left : ℕ} {old out mid : List ℕ} → 0 < left → at′ ≡ nextAt s at → Stands s at left

@@ -17,7 +17,7 @@ use Rattle.image.proofs.Walks.{rows-start, no-rows}
 use Rattle.writer.specs.Over.{over}
 use Rattle.writer.proofs.Laws.{then, over-front}
 use Rattle.writer.proofs.Books.{in-turn-append}
-use Rattle.transcribing.specs.Again.{front, PutFront, PutAgain, Transcribed}
+use Rattle.transcribing.specs.Again.{front, Put, Transcribed}
 
 -- a row between others
 split : (front : List ℕ) (xs ys : List Row) (r : Row) → front ++ inTurn (encodeRow newest) (xs ++ (r ∷ ys))
@@ -44,17 +44,17 @@ no-longer {s} h =
 
 -- THE START
 module _ {s : List ℕ} (h : LawfulImage s) where
-  start : (d : List ℕ) {out : List ℕ} {to : ℕ} → length out ≡ longestImage newest → PutFront (bookIn s) d to out → Copied s out (rowsPlace s) to (streamsOf s)
+  start : (d : List ℕ) {out : List ℕ} {to : ℕ} → length out ≡ longestImage newest → Put (front (bookIn s)) d 0 to out → Copied s out (rowsPlace s) to (streamsOf s)
   start d n p = record {
     stands = stands-start h;
     buffer = d;
     bytes = p .bytes ∙ ap (over d 0) (sym (append-nil (front (bookIn s))));
-    place = p .on ∙ ap length (sym (append-nil (front (bookIn s))));
+    place = omega (arith, p .on, ap length (append-nil (front (bookIn s))));
     room = n;
   }
 
   pub copied-start : {b : head.Book} (d : List ℕ) {out : List ℕ} {at to left : ℕ} → length out ≡ longestImage newest → HeaderOf s b
-      → at ≡ rowsStart (b .version) (b .nodes) → left ≡ b .streams → PutFront (bookIn s) d to out → Copied s out at to left
+      → at ≡ rowsStart (b .version) (b .accounts) (b .nodes) → left ≡ b .streams → Put (front (bookIn s)) d 0 to out → Copied s out at to left
   copied-start d {out} {at} {to} {left} n hd e l p =
       subst (λ (n : ℕ). Copied s out at to n) (sym (l ∙ hd .streams))
       (subst (λ (n : ℕ). Copied s out n to (streamsOf s)) (sym (rows-start hd e)) (start d n p))
@@ -83,7 +83,7 @@ module _ {s out : List ℕ} {at to left : ℕ} (more : 0 < left) (k : Copied s o
       ap length all ∙ length-append done (encodeRow newest r ++ tail) ∙ ap (λ (n : ℕ). length done + n) (length-append (encodeRow newest r) tail) in
       omega (arith, n, k .place, k .room, size, no-longer (k .stands .stored))
 
-  pub copied-next : {next on : ℕ} {out′ : List ℕ} → length out′ ≡ length out → next ≡ nextAt s at → PutAgain r out to on out′ → Copied s out′ next on (left - 1)
+  pub copied-next : {next on : ℕ} {out′ : List ℕ} → length out′ ≡ length out → next ≡ nextAt s at → Put (encodeRow newest r) out to on out′ → Copied s out′ next on (left - 1)
   copied-next {next} {on} {out′} n e p = subst (λ (n : ℕ). Copied s out′ n on (left - 1)) (sym e) record {
     stands = stands-next more (k .stands);
     buffer = k .buffer;

@@ -3,44 +3,64 @@ ghost use mathlib.Core.Path.{_≡_};
 ghost use Prim.Native.Nat.{_+_, _*_, _≤_};
 ghost use lib.ListN.{length};
 ghost use Rattle.rules.specs.Book.{hops};
-ghost use Rattle.rules.specs.Image.{newest, headerLength, rowLength, longestImage};
+ghost use Rattle.rules.specs.Image.{newest, headerLength, rowLength, longestImage, encodeAccounts, encodeRow, accountsOf};
 ghost use Rattle.rules.proofs.Reading.{bookIn, LawfulImage};
 ghost use Rattle.image.specs.Header.{HeaderOf};
 ghost use Rattle.image.specs.Places.{rowAt, Whole};
 ghost use Rattle.writer.specs.Over.{over};
-ghost use Rattle.transcribing.specs.Again.{renewed, PutFront, PutAgain, Transcribed};
+ghost use Rattle.transcribing.specs.Again.{renewed, front, Put, Transcribed};
 use image::Book;
 
-// The front of an image up to a place, with the newest version.
-fn put_front(image: &[u8], out: &mut [u8], to: usize)
-    requires { ⌜ (headerLength ≤ to) × (to ≤ length (now image)) × (to ≤ length (now out)) ⌝ }
-    ensures { λ _. ⌜ now (out .exit) ≡ over (now (out .entry)) 0 (renewed (now (image .entry)) to) ⌝ }
+// The account list of older books: one account, number 0, that has bought the largest 32-bit number.
+const OLD_LIST: [u8; 7] = [1, 0, 0, 255, 255, 255, 255];
+
+// The header of an image, with the newest version.
+fn put_front(image: &[u8], out: &mut [u8])
+    requires { ⌜ (headerLength ≤ length (now image)) × (headerLength ≤ length (now out)) ⌝ }
+    ensures { λ _. ⌜ now (out .exit) ≡ over (now (out .entry)) 0 (renewed (now (image .entry))) ⌝ }
 {
     let mark = image::MARK;
     writer::put_part(&mark, out, 0);
     let version_at = mark.len();
     writer::put_word(out, version_at, image::NEWEST);
     let plan_at = version_at + 2;
-    writer::put_part(&image[plan_at..to], out, plan_at);
+    writer::put_part(&image[plan_at..image::HEADER], out, plan_at);
 }
 
-// What stands before the rows, as the newest version has it: the links, and behind them the hearing. The place after it.
+// The account list behind the header: that of the image, or that of older books where it holds none. The place after it.
+fn put_list(image: &[u8], book: Book, out: &mut [u8]) -> usize
+    requires { ⌜ LawfulImage (now image) × HeaderOf (now image) book × (length (now out) ≡ longestImage newest) ⌝ }
+    ensures { λ r. ⌜ Put (encodeAccounts (accountsOf (now (image .entry)))) (now (out .entry)) headerLength r (now (out .exit)) ⌝ }
+{
+    let links = book.links_place();
+    if links <= image::HEADER {
+        let old = OLD_LIST;
+        writer::put_part(&old, out, image::HEADER);
+        return image::HEADER + old.len();
+    }
+    writer::put_part(&image[image::HEADER..links], out, image::HEADER);
+    links
+}
+
+// What stands before the rows, as the newest version has it: the header, the accounts, the links and the hearing. The place after it.
 fn put_site(image: &[u8], book: Book, out: &mut [u8]) -> usize
     requires { ⌜ LawfulImage (now image) × HeaderOf (now image) book × (length (now out) ≡ longestImage newest) ⌝ }
-    ensures { λ r. ⌜ PutFront (bookIn (now (image .entry))) (now (out .entry)) r (now (out .exit)) ⌝ }
+    ensures { λ r. ⌜ Put (front (bookIn (now (image .entry)))) (now (out .entry)) 0 r (now (out .exit)) ⌝ }
 {
-    let hearing_at = image::HEADER + image::SET * book.nodes;
-    put_front(image, out, hearing_at);
+    put_front(image, out);
+    let links_at = put_list(image, book, out);
+    let size = image::SET * book.nodes;
+    let links = book.links_place();
+    writer::put_part(&image[links..links + size], out, links_at);
     let hearing = book.hearing_place();
-    let rows = book.rows_start();
-    writer::put_part(&image[hearing..rows], out, hearing_at);
-    hearing_at + (rows - hearing)
+    writer::put_part(&image[hearing..hearing + size], out, links_at + size);
+    links_at + size + size
 }
 
-// The row at a place of an image, as the newest version has it: its id, its way, its period, and the rest as it stands. The place after it.
+// The row at a place of an image, as the newest version has it: its id, its way, its period, the rest as it stands, and its account. The place after it.
 fn put_again(image: &[u8], at: usize, out: &mut [u8], to: usize) -> usize
     requires { ⌜ Whole (now image) at × (to + (rowLength newest + 3 * hops (rowAt (now image) at)) ≤ length (now out)) ⌝ }
-    ensures { λ r. ⌜ PutAgain (rowAt (now (image .entry)) at) (now (out .entry)) to r (now (out .exit)) ⌝ }
+    ensures { λ r. ⌜ Put (encodeRow newest (rowAt (now (image .entry)) at)) (now (out .entry)) to r (now (out .exit)) ⌝ }
 {
     writer::put_word(out, to, image::id_at(image, at));
     let way_at = to + 2;
@@ -49,9 +69,11 @@ fn put_again(image: &[u8], at: usize, out: &mut [u8], to: usize) -> usize
     writer::put_word(out, period_at, image::period_at(image, at).0);
     let rest_at = period_at + 2;
     let rest = at + image::hops_place_in(image);
-    let next = image::next(image, at);
-    writer::put_part(&image[rest..next], out, rest_at);
-    rest_at + (next - rest)
+    let size = 2 + image::HOP * image::hops_at(image, at);
+    writer::put_part(&image[rest..rest + size], out, rest_at);
+    let account_at = rest_at + size;
+    writer::put_word(out, account_at, image::account_at(image, at));
+    account_at + 2
 }
 
 // The image of the same book in the newest version; its length.

@@ -8,7 +8,7 @@ use lib.Seq.{take-at, drop-at, drop-drop}
 use Rattle.rules.specs.Words.{total}
 use Rattle.rules.specs.Topology.{nodes}
 use Rattle.rules.specs.Book.{Row, Book, hops, hopsInAll}
-use Rattle.rules.specs.Image.{newest, headerLength, word, inTurn, encodeHeader, encodeTopologies, encodeRow, encode, versionOf, rowsPlace}
+use Rattle.rules.specs.Image.{newest, headerLength, word, inTurn, encodeHeader, encodeSite, encodeRow, encode, versionOf, rowsPlace}
 use Rattle.rules.proofs.Reading.{withRows, rowsIn, LawfulImage}
 use Rattle.image.proofs.Stands.{stored-rows, stored-length}
 use Rattle.writer.specs.Over.{headed}
@@ -30,20 +30,20 @@ rows-low {s} {at} xs ys w split inside bytes =
     omega (arith, all, ap length (stored-rows w .fill), length-drop (rowsPlace s) s, ap length bytes, length-drop at s, stored-length w)
 
 module _ (b : Book) (xs ys : List Row) (split : b .rows ≡ xs ++ ys) where
-  abbrev topologies : List ℕ
-  topologies = encodeTopologies newest (b .site)
+  abbrev sited : List ℕ
+  sited = encodeSite newest (b .site)
 
   abbrev front : List ℕ
-  front = topologies ++ inTurn (encodeRow newest) xs
+  front = sited ++ inTurn (encodeRow newest) xs
 
-  body : topologies ++ inTurn (encodeRow newest) (b .rows) ≡ front ++ inTurn (encodeRow newest) ys
+  body : sited ++ inTurn (encodeRow newest) (b .rows) ≡ front ++ inTurn (encodeRow newest) ys
   body =
-      ap (λ (rows : List Row). topologies ++ inTurn (encodeRow newest) rows) split
-      ∙ ap (λ (l : List ℕ). topologies ++ l) (in-turn-append (encodeRow newest) xs ys) ∙ sym (append-assoc topologies (inTurn (encodeRow newest) xs) (inTurn (encodeRow newest) ys))
+      ap (λ (rows : List Row). sited ++ inTurn (encodeRow newest) rows) split
+      ∙ ap (λ (l : List ℕ). sited ++ l) (in-turn-append (encodeRow newest) xs ys) ∙ sym (append-assoc sited (inTurn (encodeRow newest) xs) (inTurn (encodeRow newest) ys))
 
   pub length-body : length (encode newest b) ≡ headerLength + (length front + length (inTurn (encodeRow newest) ys))
   length-body =
-      let e : length (encode newest b) ≡ 16 + length (topologies ++ inTurn (encodeRow newest) (b .rows)) = omega arith in
+      let e : length (encode newest b) ≡ 16 + length (sited ++ inTurn (encodeRow newest) (b .rows)) = omega arith in
       let f = ap length body ∙ length-append front (inTurn (encodeRow newest) ys) in
       omega arith
 
@@ -56,7 +56,7 @@ module _ (b : Book) (xs ys : List Row) (split : b .rows ≡ xs ++ ys) where
     unfolding headed
     headed-encode n h =
         let f : at - 15 ≡ suc (length front) = omega (arith, place) in
-        let g : take (length front) (topologies ++ inTurn (encodeRow newest) (b .rows)) ≡ front = ap (take (length front)) body
+        let g : take (length front) (sited ++ inTurn (encodeRow newest) (b .rows)) ≡ front = ap (take (length front)) body
         ∙ take-at front (inTurn (encodeRow newest) ys) (length front) refl in
         let e : take (at - 15) (drop 15 (encode newest b)) ≡ 0 ∷ front = ap (λ (k : ℕ). take k (drop 15 (encode newest b))) f ∙ ap (λ (l : List ℕ). 0 ∷ l) g in
         ap (λ (l : List ℕ). take 12 (encode newest b) ++ (n ∷ word h) ++ l) e
@@ -70,11 +70,11 @@ module _ (b : Book) (xs ys : List Row) (split : b .rows ≡ xs ++ ys) where
         (arith, ap length split, length-append xs ys, length-append xs (new ++ ys), length-append new ys) in
         let h : hopsInAll (b .rows) + hopsInAll new ≡ hopsInAll (xs ++ (new ++ ys)) = omega
         (arith, ap hopsInAll split, total-append hops xs ys, total-append hops xs (new ++ ys), total-append hops new ys) in
-        let t : front ++ inTurn (encodeRow newest) new ++ inTurn (encodeRow newest) ys ≡ topologies ++ inTurn (encodeRow newest) (xs ++ (new ++ ys)) =
+        let t : front ++ inTurn (encodeRow newest) new ++ inTurn (encodeRow newest) ys ≡ sited ++ inTurn (encodeRow newest) (xs ++ (new ++ ys)) =
         append-assoc front (inTurn (encodeRow newest) new) (inTurn (encodeRow newest) ys)
         ∙ ap (λ (l : List ℕ). front ++ l) (sym (in-turn-append (encodeRow newest) new ys))
-        ∙ append-assoc topologies (inTurn (encodeRow newest) xs) (inTurn (encodeRow newest) (new ++ ys))
-        ∙ ap (λ (l : List ℕ). topologies ++ l) (sym (in-turn-append (encodeRow newest) xs (new ++ ys))) in
+        ∙ append-assoc sited (inTurn (encodeRow newest) xs) (inTurn (encodeRow newest) (new ++ ys))
+        ∙ ap (λ (l : List ℕ). sited ++ l) (sym (in-turn-append (encodeRow newest) xs (new ++ ys))) in
         ap₂ (λ (a c : List ℕ). a ++ inTurn (encodeRow newest) new ++ c) (headed-encode (length (b .rows) + length new) (hopsInAll (b .rows) + hopsInAll new)) behind
         ∙ ap₂ (λ (n h : ℕ). encodeHeader newest (b .site .plan) (nodes (b .site .links)) n h ++ (front ++ inTurn (encodeRow newest) new ++ inTurn (encodeRow newest) ys)) n h
         ∙ ap (λ (l : List ℕ). encodeHeader newest (b .site .plan) (nodes (b .site .links)) (length (xs ++ (new ++ ys))) (hopsInAll (xs ++ (new ++ ys))) ++ l) t
@@ -93,9 +93,9 @@ rows-less b xs gone ys split at next n h inside behind e f g =
     let n′ : n ≡ length (xs ++ ys) = omega (arith, ap length split, length-append xs ys, length-append xs (gone ++ ys), length-append gone ys) in
     let h′ : h ≡ hopsInAll (xs ++ ys) = omega
     (arith, ap hopsInAll split, total-append hops xs ys, total-append hops xs (gone ++ ys), total-append hops gone ys) in
-    let t : front b xs (gone ++ ys) split ++ inTurn (encodeRow newest) ys ≡ encodeTopologies newest (b .site) ++ inTurn (encodeRow newest) (xs ++ ys) =
-    append-assoc (encodeTopologies newest (b .site)) (inTurn (encodeRow newest) xs) (inTurn (encodeRow newest) ys)
-    ∙ ap (λ (l : List ℕ). encodeTopologies newest (b .site) ++ l) (sym (in-turn-append (encodeRow newest) xs ys)) in
+    let t : front b xs (gone ++ ys) split ++ inTurn (encodeRow newest) ys ≡ encodeSite newest (b .site) ++ inTurn (encodeRow newest) (xs ++ ys) =
+    append-assoc (encodeSite newest (b .site)) (inTurn (encodeRow newest) xs) (inTurn (encodeRow newest) ys)
+    ∙ ap (λ (l : List ℕ). encodeSite newest (b .site) ++ l) (sym (in-turn-append (encodeRow newest) xs ys)) in
     ap₂ _++_ (headed-encode b xs (gone ++ ys) split at inside behind n h) rest
     ∙ ap₂ (λ (n h : ℕ). encodeHeader newest (b .site .plan) (nodes (b .site .links)) n h ++ (front b xs (gone ++ ys) split ++ inTurn (encodeRow newest) ys)) n′ h′
     ∙ ap (λ (l : List ℕ). encodeHeader newest (b .site .plan) (nodes (b .site .links)) (length (xs ++ ys)) (hopsInAll (xs ++ ys)) ++ l) t

@@ -58,11 +58,12 @@ words-turn d s o o′ at i h l e f =
     rw (f, e, over-over d (inTurn word (take i s)) (word (getD s i 0)) at (at + 2 * i) (omega arith) n, add-one, take-suc s i 0 h, words-append)
 
 -- a row, part by part
-pub row-written : (d o₁ o₂ o₃ o₄ o₅ o₆ : List ℕ) (at id way k : ℕ) (route offsets : List ℕ) → at ≤ length d → length route ≡ length offsets + 1
+pub row-written : (d o₁ o₂ o₃ o₄ o₅ o₆ o₇ : List ℕ) (at id way k account : ℕ) (route offsets : List ℕ) → at ≤ length d → length route ≡ length offsets + 1
     → o₁ ≡ over d at (word id) → o₂ ≡ over o₁ (at + 2) (way ∷ []) → o₃ ≡ over o₂ (at + 2 + 1) (word k) → o₄ ≡ over o₃ (at + 2 + 1 + 2) (length offsets ∷ [])
     → o₅ ≡ over o₄ (at + 2 + 1 + 2 + 1) route → o₆ ≡ over o₅ (at + 2 + 1 + 2 + 1 + length route) (inTurn word offsets)
-    → o₆ ≡ over d at (encodeRow newest (record { id = id; way = way; period = k; route = route; offsets = offsets }))
-row-written d o₁ o₂ o₃ o₄ o₅ o₆ at id way k route offsets h n p₁ p₂ p₃ p₄ p₅ p₆ =
+    → o₇ ≡ over o₆ (at + 2 + 1 + 2 + 1 + length route + 2 * length offsets) (word account)
+    → o₇ ≡ over d at (encodeRow newest (record { id = id; way = way; period = k; route = route; offsets = offsets; account = account }))
+row-written d o₁ o₂ o₃ o₄ o₅ o₆ o₇ at id way k account route offsets h n p₁ p₂ p₃ p₄ p₅ p₆ p₇ =
     let named : List ℕ = word id ++ (way ∷ []) in
     let head : List ℕ = named ++ word k ++ (length offsets ∷ []) in
     let q₂ = then d o₁ o₂ (word id) (way ∷ []) at (at + 2) h p₁ refl p₂ in
@@ -70,8 +71,11 @@ row-written d o₁ o₂ o₃ o₄ o₅ o₆ at id way k route offsets h n p₁ p
     let q₄ = then d o₃ o₄ (named ++ word k) (length offsets ∷ []) at (at + 2 + 1 + 2) h q₃ (omega arith) p₄ in
     let q₅ = then d o₄ o₅ head route at (at + 2 + 1 + 2 + 1) h q₄ (omega arith) p₅ in
     let q₆ = then d o₅ o₆ (head ++ route) (inTurn word offsets) at (at + 2 + 1 + 2 + 1 + length route) h q₅ (omega arith) p₆ in
+    let long = length-append (head ++ route) (inTurn word offsets) in
+    let q₇ = then d o₆ o₇ (head ++ route ++ inTurn word offsets) (word account) at (at + 2 + 1 + 2 + 1 + length route + 2 * length offsets) h q₆
+    (omega (arith, long, length-words offsets)) p₇ in
     let e : length offsets ≡ length route - 1 = omega arith in
-    q₆ ∙ ap (λ (x : ℕ). over d at (named ++ word k ++ (x ∷ []) ++ route ++ inTurn word offsets)) e
+    q₇ ∙ ap (λ (x : ℕ). over d at (named ++ word k ++ (x ∷ []) ++ route ++ inTurn word offsets ++ word account)) e
 
 -- the front of an image, part by part
 pub head-written : (d o₁ o₂ o₃ o₄ s : List ℕ) (to n h : ℕ) → 15 ≤ length s → o₁ ≡ over d 0 (take 12 s) → o₂ ≡ over o₁ 12 (n ∷ []) → o₃ ≡ over o₂ 13 (word h)
@@ -85,13 +89,18 @@ head-written d o₁ o₂ o₃ o₄ s to n h l p₁ p₂ p₃ p₄ =
     q₄ ∙ ap (λ (x : List ℕ). over d 0 (x ++ take (to - 15) (drop 15 s))) (append-assoc (take 12 s) (n ∷ []) (word h))
 
 -- the image of a book without streams, part by part
-pub new-written : (d o₁ o₂ o₃ o₄ rest links hearing : List ℕ) (plan : Plan) (N : ℕ) → o₁ ≡ over d 0 mark → rest ≡ drop 3 (encodeHeader newest plan N 0 0) → o₂ ≡ over o₁ 3 rest
-    → o₃ ≡ over o₂ 16 links → o₄ ≡ over o₃ (16 + length links) hearing → o₄ ≡ over d 0 (encodeHeader newest plan N 0 0 ++ (links ++ hearing))
-new-written d o₁ o₂ o₃ o₄ rest links hearing plan N p₁ e p₂ p₃ p₄ =
+pub new-written : (d o₁ o₂ o₃ o₄ o₅ o₆ rest accounts links hearing : List ℕ) (plan : Plan) (N n : ℕ) → o₁ ≡ over d 0 mark → rest ≡ drop 3 (encodeHeader newest plan N 0 0)
+    → o₂ ≡ over o₁ 3 rest → o₃ ≡ over o₂ 16 (n ∷ []) → o₄ ≡ over o₃ 17 accounts → o₅ ≡ over o₄ (17 + length accounts) links
+    → o₆ ≡ over o₅ (17 + length accounts + length links) hearing → o₆ ≡ over d 0 (encodeHeader newest plan N 0 0 ++ ((n ∷ accounts) ++ (links ++ hearing)))
+new-written d o₁ o₂ o₃ o₄ o₅ o₆ rest accounts links hearing plan N n p₁ e p₂ p₃ p₄ p₅ p₆ =
     let head : List ℕ = encodeHeader newest plan N 0 0 in
     let q₂ = then d o₁ o₂ mark (drop 3 head) 0 3 (omega arith) p₁ refl (p₂ ∙ ap (over o₁ 3) e) in
-    let q₃ = then d o₂ o₃ head links 0 16 (omega arith) q₂ refl p₃ in
-    then d o₃ o₄ (head ++ links) hearing 0 (16 + length links) (omega arith) q₃ (omega arith) p₄ ∙ ap (over d 0) (append-assoc head links hearing)
+    let q₃ = then d o₂ o₃ head (n ∷ []) 0 16 (omega arith) q₂ refl p₃ in
+    let q₄ = then d o₃ o₄ (head ++ (n ∷ [])) accounts 0 17 (omega arith) q₃ refl p₄ in
+    let q₅ = then d o₄ o₅ (head ++ (n ∷ []) ++ accounts) links 0 (17 + length accounts) (omega arith) q₄ (omega arith) p₅ in
+    let q₆ = then d o₅ o₆ (head ++ (n ∷ []) ++ accounts ++ links) hearing 0 (17 + length accounts + length links) (omega arith) q₅
+    (omega (arith, length-append (head ++ (n ∷ []) ++ accounts) links)) p₆ in
+    q₆ ∙ ap (over d 0) (simp append-assoc)
 
 -- what is written from the front on, and what was behind it
 pub over-front : (d x : List ℕ) → over d 0 x ≡ x ++ drop (length x) d

@@ -1,9 +1,10 @@
 // Writes the parts of an image into a lent buffer, one behind the other.
 ghost use mathlib.Core.Path.{_≡_};
 ghost use mathlib.Core.List.{[], _∷_, _++_};
-ghost use Prim.Native.Nat.{_+_, _-_, _*_, _<_, _≤_};
+ghost use Prim.Native.Nat.{_+_, _-_, _*_, _/_, _<_, _≤_};
 ghost use lib.ListN.{length, take, drop};
 ghost use Rattle.rules.specs.Tiles.{PlanInRange};
+ghost use Rattle.rules.specs.Book.{mostAccounts};
 ghost use Rattle.rules.specs.Periods.{thePlan};
 ghost use Rattle.rules.specs.Image.{newest, rowLength, headerLength, word, inTurn, encodeHeader, encodeRow};
 ghost use Rattle.writer.specs.Over.{over, headed};
@@ -51,7 +52,7 @@ pub fn put_words(numbers: &[u16], out: &mut [u8], at: usize)
     }
 }
 
-// A row: id, way, K, hops, the nodes of the route, the offsets.
+// A row: id, way, K, hops, the nodes of the route, the offsets, the account.
 pub fn put_row(
     out: &mut [u8],
     at: usize,
@@ -60,11 +61,12 @@ pub fn put_row(
     period: Tile,
     route: &[u8],
     offsets: &[u16],
+    account: u16,
 )
     requires { ⌜ (length (now route) ≡ length (now offsets) + 1) × (length (now offsets) ≤ 15) ⌝ }
     requires { ⌜ at + (rowLength newest + 3 * length (now offsets)) ≤ length (now out) ⌝ }
     ensures { λ _. ⌜ now (out .exit) ≡ over (now (out .entry)) at
-        (encodeRow newest (record { id = id; way = way; period = period .0; route = now (route .entry); offsets = now (offsets .entry) })) ⌝ }
+        (encodeRow newest (record { id = id; way = way; period = period .0; route = now (route .entry); offsets = now (offsets .entry); account = account })) ⌝ }
 {
     put_word(out, at, id);
     let way_at = at + 2;
@@ -75,7 +77,9 @@ pub fn put_row(
     put(out, hops_at, offsets.len() as u8);
     let route_at = hops_at + 1;
     put_part(route, out, route_at);
-    put_words(offsets, out, route_at + route.len());
+    let offsets_at = route_at + route.len();
+    put_words(offsets, out, offsets_at);
+    put_word(out, offsets_at + 2 * offsets.len(), account);
 }
 
 // The header of an image, with these counts of streams and hops, and its rows, which start at a place, up to another.
@@ -113,14 +117,20 @@ fn fields(plan: Plan, nodes: u8) -> [u8; 13]
     ]
 }
 
-// The image of a book without streams: the mark, the fields, and the topologies as they are given.
-pub fn put_new(plan: Plan, nodes: u8, links: &[u8], hearing: &[u8], out: &mut [u8])
-    requires { ⌜ PlanInRange (thePlan plan) × (headerLength + length (now links) + length (now hearing) ≤ length (now out)) ⌝ }
-    ensures { λ _. ⌜ now (out .exit) ≡ over (now (out .entry)) 0 (encodeHeader newest (thePlan plan) nodes 0 0 ++ (now (links .entry) ++ now (hearing .entry))) ⌝ }
+// The image of a book without streams: the mark, the fields, how many accounts, and the accounts and the topologies as they are given.
+pub fn put_new(plan: Plan, nodes: u8, links: &[u8], hearing: &[u8], accounts: &[u8], out: &mut [u8])
+    requires { ⌜ PlanInRange (thePlan plan) × (length (now accounts) ≤ 6 * mostAccounts) ⌝ }
+    requires { ⌜ headerLength + 1 + length (now accounts) + length (now links) + length (now hearing) ≤ length (now out) ⌝ }
+    ensures { λ _. ⌜ now (out .exit) ≡ over (now (out .entry)) 0
+        (encodeHeader newest (thePlan plan) nodes 0 0 ++ ((length (now (accounts .entry)) / 6 ∷ now (accounts .entry)) ++ (now (links .entry) ++ now (hearing .entry)))) ⌝ }
 {
     let rest = fields(plan, nodes);
     put_part(&image::MARK, out, 0);
     put_part(&rest, out, 3);
-    put_part(links, out, image::HEADER);
-    put_part(hearing, out, image::HEADER + links.len());
+    put(out, image::HEADER, (accounts.len() / image::ACCOUNT) as u8);
+    let accounts_at = image::HEADER + 1;
+    put_part(accounts, out, accounts_at);
+    let links_at = accounts_at + accounts.len();
+    put_part(links, out, links_at);
+    put_part(hearing, out, links_at + links.len());
 }

@@ -7,7 +7,7 @@ use crate::{ROUNDS, median, time_of};
 use std::hint::black_box;
 
 /// Buffers that hold the longest image and the longest index.
-const LONGEST_IMAGE: usize = 3024;
+const LONGEST_IMAGE: usize = 3345;
 const LONGEST_INDEX: usize = 6400;
 
 /// Marks of the longest bar.

@@ -10,7 +10,7 @@ use std::cell::RefCell;
 use std::slice;
 
 /// A buffer that holds the longest image.
-const LONGEST_IMAGE: usize = 3024;
+const LONGEST_IMAGE: usize = 3345;
 
 /// A buffer that holds the longest table.
 const LONGEST_TABLE: usize = 9600;
@@ -114,7 +114,7 @@ pub const POST_OPENS: Job = Job { name: "post: 64 opens in one list", run: post_
 /// The same, one call after the other.
 pub const OPENS: Job = Job { name: "open: 64 streams, one after the other", run: open };
 
-pub const JOBS: [Job; 21] = [
+pub const JOBS: [Job; 22] = [
     Job { name: "new: the empty book", run: new },
     Job { name: "open: the last of 64 streams", run: open_last },
     OPENS,
@@ -126,6 +126,7 @@ pub const JOBS: [Job; 21] = [
     CHECK,
     Job { name: "check: the full book, a third of its streams slow", run: check_slow },
     Job { name: "rewrite: the full book", run: rewrite },
+    Job { name: "purchase: for an account of the full book", run: purchase },
     Job { name: "expand: 100 tiles of every node of the full book", run: expand },
     Job { name: "balance: every node of the full book", run: balance },
     Job { name: "close: 64 streams, one after the other", run: close },
@@ -225,6 +226,12 @@ fn check_slow(planner: &dyn Planner, site: &Site, show: Show) {
 fn rewrite(planner: &dyn Planner, site: &Site, show: Show) {
     let mut out = [0; LONGEST_IMAGE];
     let said = planner.rewrite(&site.full, &mut out);
+    show_bytes(show, said, &out);
+}
+
+fn purchase(planner: &dyn Planner, site: &Site, show: Show) {
+    let mut out = [0; LONGEST_IMAGE];
+    let said = planner.purchase(&site.full, 2, 1000, &mut out);
     show_bytes(show, said, &out);
 }
 

@@ -4,6 +4,20 @@ use reference::calls::{self, Site};
 use reference::change::Open;
 use reference::record::Record;
 
+/// The accounts of every new book: 0 to 3, each of which can pay for all streams of a job.
+#[rustfmt::skip]
+const ACCOUNTS: [u8; 24] = [
+    0, 0, 0, 0xFF, 0xFF, 0xFF,
+    0, 1, 0, 0xFF, 0xFF, 0xFF,
+    0, 2, 0, 0xFF, 0xFF, 0xFF,
+    0, 3, 0, 0xFF, 0xFF, 0xFF,
+];
+
+/// The account of a stream.
+fn payer(id: u16) -> u16 {
+    id % 4
+}
+
 /// What a call gives back: its number, and the length of its answer.
 pub type Said = (u8, usize);
 
@@ -24,6 +38,7 @@ pub trait Planner {
         index: &mut [u64],
         out: &mut [u8],
     ) -> Said;
+    fn purchase(&self, book: &[u8], account: u16, amount: u32, out: &mut [u8]) -> Said;
     fn expand(&self, book: &[u8], node: u8, out: &mut [u8]) -> Said;
     fn balance(&self, book: &[u8], node: u8) -> (u8, [u32; 3]);
     fn routes(&self, book: &[u8], source: u8, destination: u8, out: &mut [u8]) -> (Said, bool);
@@ -58,13 +73,15 @@ pub struct Request {
     pub destination: u8,
     pub id: u16,
     pub period: u16,
+    pub account: u16,
     pub answer: u8,
 }
 
 impl Request {
     pub fn open(stream: &Stream) -> Request {
         let Stream { id, source, destination, period, second } = *stream;
-        Request { opens: true, second, source, destination, id, period, answer: u8::MAX }
+        let (account, answer) = (payer(id), u8::MAX);
+        Request { opens: true, second, source, destination, id, period, account, answer }
     }
 
     pub fn close(stream: &Stream) -> Request {
@@ -75,7 +92,8 @@ impl Request {
 /// A planner with the C interface of `include/lindurask.h`, under these names.
 macro_rules! planner_in_c {
     ($planner:ident, $module:ident, $new:literal, $check:literal, $rewrite:literal, $open:literal,
-     $close:literal, $post:literal, $expand:literal, $balance:literal, $routes:literal) => {
+     $close:literal, $post:literal, $purchase:literal, $expand:literal, $balance:literal,
+     $routes:literal) => {
         mod $module {
             use super::Request;
 
@@ -92,6 +110,8 @@ macro_rules! planner_in_c {
                     links_len: usize,
                     hearing: *const u8,
                     hearing_len: usize,
+                    accounts: *const u8,
+                    accounts_len: usize,
                     out: *mut u8,
                     out_len: usize,
                     length: *mut usize,
@@ -115,6 +135,7 @@ macro_rules! planner_in_c {
                     destination: u8,
                     period: u16,
                     second: bool,
+                    account: u16,
                     out: *mut u8,
                     out_len: usize,
                     length: *mut usize,
@@ -137,6 +158,16 @@ macro_rules! planner_in_c {
                     count: usize,
                     index: *mut u64,
                     index_len: usize,
+                    out: *mut u8,
+                    out_len: usize,
+                    length: *mut usize,
+                ) -> u8;
+                #[link_name = $purchase]
+                pub fn purchase(
+                    book: *const u8,
+                    book_len: usize,
+                    account: u16,
+                    amount: u32,
                     out: *mut u8,
                     out_len: usize,
                     length: *mut usize,
@@ -195,6 +226,8 @@ macro_rules! planner_in_c {
                         links.len(),
                         hearing.as_ptr(),
                         hearing.len(),
+                        ACCOUNTS.as_ptr(),
+                        ACCOUNTS.len(),
                         out.as_mut_ptr(),
                         out.len(),
                         length,
@@ -225,6 +258,7 @@ macro_rules! planner_in_c {
                         destination,
                         period,
                         second,
+                        payer(id),
                         room,
                         most,
                         length,
@@ -255,6 +289,14 @@ macro_rules! planner_in_c {
                     $module::post(
                         image, size, mains, list, count, words, most_words, room, most, length,
                     )
+                })
+            }
+
+            fn purchase(&self, book: &[u8], account: u16, amount: u32, out: &mut [u8]) -> Said {
+                let (image, size) = (book.as_ptr(), book.len());
+                let (room, most) = (out.as_mut_ptr(), out.len());
+                said(|length| unsafe {
+                    $module::purchase(image, size, account, amount, room, most, length)
                 })
             }
 
@@ -313,6 +355,7 @@ planner_in_c!(
     "lindurask_open",
     "lindurask_close",
     "lindurask_post",
+    "lindurask_purchase",
     "lindurask_expand",
     "lindurask_balance",
     "lindurask_routes"
@@ -327,6 +370,7 @@ planner_in_c!(
     "fast_open",
     "fast_close",
     "fast_post",
+    "fast_purchase",
     "fast_expand",
     "fast_balance",
     "fast_routes"
@@ -341,6 +385,7 @@ planner_in_c!(
     "fast_open",
     "fast_close",
     "fast_post_by_test",
+    "fast_purchase",
     "fast_expand",
     "fast_balance",
     "fast_routes"
@@ -359,7 +404,7 @@ impl Planner for Reference {
     fn new_book(&self, plan: &Plan, links: &[u8], hearing: &[u8], out: &mut [u8]) -> Said {
         let Plan { s, c, kinds, d, u, n } = *plan;
         let plan = reference::plan::Plan { s, c, kinds, d, u };
-        calls::new(&Site { plan, nodes: n, links, hearing }, out)
+        calls::new(&Site { plan, nodes: n, links, hearing }, &ACCOUNTS, out)
     }
 
     fn check(&self, book: &[u8]) -> Said {
@@ -372,7 +417,7 @@ impl Planner for Reference {
 
     fn open(&self, book: &[u8], stream: &Stream, out: &mut [u8]) -> Said {
         let Stream { id, source, destination, period, second } = *stream;
-        calls::open(book, Open { id, source, destination, period, second }, out)
+        calls::open(book, Open { id, source, destination, period, second, account: payer(id) }, out)
     }
 
     fn close(&self, book: &[u8], id: u16, out: &mut [u8]) -> Said {
@@ -392,6 +437,10 @@ impl Planner for Reference {
             request.answer = record.answer;
         }
         said
+    }
+
+    fn purchase(&self, book: &[u8], account: u16, amount: u32, out: &mut [u8]) -> Said {
+        calls::purchase(book, account, amount, out)
     }
 
     fn expand(&self, book: &[u8], node: u8, out: &mut [u8]) -> Said {
@@ -415,6 +464,6 @@ fn all_nodes(book: &[u8]) -> u64 {
 }
 
 fn record(request: &Request) -> Record {
-    let Request { opens, second, source, destination, id, period, answer } = *request;
-    Record { opens, second, source, destination, id, period, answer }
+    let Request { opens, second, source, destination, id, period, account, answer } = *request;
+    Record { opens, second, source, destination, id, period, account, answer }
 }

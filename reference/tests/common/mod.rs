@@ -35,6 +35,9 @@ pub fn line(nodes: usize) -> Vec<u8> {
     topology(nodes, &links)
 }
 
+/// The account list of a book that knows of none: number 0, the largest number.
+pub const ONLY: [u8; 6] = [0, 0, 0xFF, 0xFF, 0xFF, 0xFF];
+
 /// A site that hears exactly its links.
 pub fn site((s, c, kinds, d, u): (u8, u8, u16, u8, u8), nodes: u8, links: &[u8]) -> Site<'_> {
     Site { plan: Plan { s, c, kinds, d, u }, nodes, links, hearing: links }
@@ -63,7 +66,7 @@ pub fn new_book(plan: (u8, u8, u16, u8, u8), links: &[u8]) -> Vec<u8> {
 /// An empty book with this hearing.
 pub fn new_book_hearing(plan: (u8, u8, u16, u8, u8), links: &[u8], hearing: &[u8]) -> Vec<u8> {
     let nodes = (links.len() / 8) as u8;
-    written(|out| calls::new(&Site { hearing, ..site(plan, nodes, links) }, out))
+    written(|out| calls::new(&Site { hearing, ..site(plan, nodes, links) }, &ONLY, out))
 }
 
 /// Plan A on a line of nodes, no streams.
@@ -103,7 +106,7 @@ pub fn refused(room: usize, call: impl FnOnce(&mut [u8]) -> (u8, usize)) -> u8 {
 
 /// A stream with one route.
 pub fn plain(id: u16, source: u8, destination: u8, period: u16) -> Open {
-    Open { id, source, destination, period, second: false }
+    Open { id, source, destination, period, second: false, account: 0 }
 }
 
 /// A stream with a second route.
@@ -157,7 +160,7 @@ pub fn with_rows(book: &[u8], rows: Vec<Row>) -> Vec<u8> {
 /// A first route.
 pub fn row(id: u16, period: u16, nodes: &[u8], offsets: &[u16]) -> Row {
     let (nodes, offsets) = (nodes.to_vec(), offsets.to_vec());
-    Row { id, route: FIRST_ROUTE, period, nodes, offsets }
+    Row { id, route: FIRST_ROUTE, period, nodes, offsets, account: 0 }
 }
 
 /// A second route.

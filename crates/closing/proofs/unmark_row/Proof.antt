@@ -60,7 +60,7 @@ loop-again c =
     let l = c .before .before .before .before .before .before in
     let hops = l .before in
     let p = start hops .pre in (
-      omega arith,
+      omega (arith, c .before .before .before .before .before .loop-test .taken),
       hop-out (p .0) (p .1) (repeating hops) (l .loop .i) (c .before .before .before .before .node-at .ensures .0) (c .before .before .before .node-at2 .ensures .0)
           (c .before .before .offset-at .ensures .0) (l .loop .inv .1) (c .unmark .ensures),
     )

@@ -6,7 +6,7 @@ use Rattle.rules.specs.Tiles.{Plan, Period}
 use Rattle.rules.proofs.Periods.{found-at, found-nowhere}
 use Rattle.rows.specs.Walk.{RowStands}
 use Rattle.meeting.proofs.Reaching.{row-placed}
-use Rattle.judging.proofs.Reasons.{row-stands, place-left, marked-all, kept-more, kept-small}
+use Rattle.judging.proofs.Reasons.{row-stands, can-draw, place-left, marked-all, kept-more, kept-small}
 use Rattle.judging.proofs.keep.Statement.{statement}
 use Rattle.judging.proofs.keep.Tie as tie
 
@@ -22,7 +22,7 @@ returns c =
 repeats-of-requires : tie.Need-repeats-of-requires
 repeats-of-requires c κs =
     let p = c .before .before .before .before .before .before .before .pre .0 in
-    let e = ap (λ (plan : Plan). plan .slots) (p .header .plan) in
+    let e = ap (λ (plan : Plan). plan .slots) (p .list .header .plan) in
     (omega (arith, e, p .fields .plan .most), omega (arith, found-at (c .before .before .before .place-of .ensures) (c .before .place .given .1) .0))
 
 row-meets-requires : tie.Need-row-meets-requires
@@ -32,7 +32,7 @@ row-meets-requires c κs =
     let start = at-place-of .before .before .before .before in
     let p = start .pre .0 in (
       row-placed (p .fields) (row start) (found-at (at-place-of .place-of .ensures) (at-place .place .given .1)) (at-place-of .before .period-at .ensures .0)
-          (ap (λ (plan : Plan). plan .slots) (p .header .plan)) (c .before .before .repeats-of .ensures),
+          (ap (λ (plan : Plan). plan .slots) (p .list .header .plan)) (c .before .before .repeats-of .ensures),
       p .heard,
       start .pre .1 .1 .index .size,
       record { each = λ i l. absurd (omega arith); few = omega arith },
@@ -43,18 +43,31 @@ note-requires c κs =
     let start = c .before .before .before .before .before .before .before .before .before .before .before .before in
     omega (arith, start .pre .1 .1 .index .size, marked-all (start .pre .2) (start .pre .0 .fields) (start .pre .1) (c .before .row-meets .ensures) .size)
 
+draw-requires : tie.Need-draw-requires
+draw-requires c κs =
+    let start = c .before .before .before .before .before .before .before .before .before .before .before .before .before .before in
+    let p = start .pre in
+    (p .0 .list, record { whole = row start .whole; lawful = row start .lawful }, can-draw (p .2) (p .1), p .1 .1 .all-purses)
+
 element-write-places : tie.Need-element-write-places
 element-write-places c =
-    let p = c .before .before .before .before .before .before .before .before .before .before .before .before .before .pre in
+    let p = c .before .before .before .before .before .before .before .before .before .before .before .before .before .before .before .pre in
     omega (arith, place-left (p .2) (p .1), p .1 .1 .placed-there .room)
+
+add-hops : tie.Need-add-t25
+add-hops c =
+    let p = c .before .before .before .before .before .before .before .before .before .before .before .before .before .before .before .before .before .pre in
+    omega (arith, kept-small (p .1), c .before .hops-at .ensures .1)
 
 returns-2 : tie.Need-returns-2
 returns-2 c =
-    let at-note = c .before .before .before in
+    let at-draw = c .before .before .before in
+    let at-note = at-draw .before .before in
     let at-period = at-note .before .before .before .before .before .before .before .before .before .before in
     let start = at-period .before .before .before in
     kept-more (start .pre .2) (start .pre .0 .fields) refl (omega (arith, c .before .before .hops-at .ensures .0)) refl (c .key-at .ensures) refl
     (marked-all (start .pre .2) (start .pre .0 .fields) (start .pre .1) (at-note .before .before .row-meets .ensures)) (at-period .period-at .ensures .0) (at-note .note .ensures)
+    (at-draw .draw .ensures .0) (at-draw .draw .ensures .1)
 
 pub keep-spec : {M : Type 1} → statement M
 keep-spec =
@@ -68,10 +81,11 @@ keep-spec =
     repeats-of-requires
     row-meets-requires
     note-requires
-    (λ c. omega (arith, kept-small (c .before .before .before .before .before .before .before .before .before .before .before .before .before .pre .1)))
+    draw-requires
+    (λ c. omega (arith, kept-small (c .before .before .before .before .before .before .before .before .before .before .before .before .before .before .before .pre .1)))
     element-write-places
-    (λ c. omega (arith, kept-small (c .before .before .before .before .before .before .before .before .before .before .before .before .before .pre .1)))
-    (λ c κs. row (c .before .before .before .before .before .before .before .before .before .before .before .before .before) .whole)
-    (λ c. omega (arith, kept-small (c .before .before .before .before .before .before .before .before .before .before .before .before .before .before .before .pre .1), c .before .hops-at .ensures .1))
+    (λ c. omega (arith, kept-small (c .before .before .before .before .before .before .before .before .before .before .before .before .before .before .before .pre .1)))
     (λ c κs. row (c .before .before .before .before .before .before .before .before .before .before .before .before .before .before .before) .whole)
+    add-hops
+    (λ c κs. row (c .before .before .before .before .before .before .before .before .before .before .before .before .before .before .before .before .before) .whole)
     returns-2)

@@ -12,19 +12,18 @@ returns c = links-refused (c .before .verdict .ensures) (c .if1 .taken) refl _ r
 
 returns-2 : tie.Need-returns-2
 returns-2 c =
-    links-unknown (c .before .before .before .before .before .verdict .ensures .stored (c .before .before .before .before .if1 .left)) _
-    (omega (arith, c .if2 .taken, c .before .before .read .ensures .nodes)) refl refl
+    links-unknown (c .before .before .before .before .before .verdict .ensures .stored (c .before .before .before .before .if1 .left)) _ (omega (arith, c .if2 .taken, c .before .before .before .read .ensures .nodes)) refl refl
 
 count-links-requires : tie.Need-count-links-requires
 count-links-requires c κs = (
   c .before .before .before .before .before .verdict .ensures .stored (c .before .before .before .before .if1 .left),
-  omega (arith, c .if2 .left, c .before .before .read .ensures .nodes),
+  c .before .before .before .read .ensures,
+  omega (arith, c .if2 .left, c .before .before .before .read .ensures .nodes),
 )
 
 returns-3 : tie.Need-returns-3
 returns-3 c =
-    links-done (c .before .before .before .before .before .before .verdict .ensures .stored (c .before .before .before .before .before .if1 .left)) _
-    (omega (arith, c .before .if2 .left, c .before .before .before .read .ensures .nodes)) refl (c .count-links .ensures)
+    links-done (c .before .before .before .before .before .before .verdict .ensures .stored (c .before .before .before .before .before .if1 .left)) _ (omega (arith, c .before .if2 .left, c .before .before .before .before .read .ensures .nodes)) refl (c .count-links .ensures)
 
 pub links-of-spec : {M : Type 1} → statement M
 links-of-spec =
@@ -32,8 +31,8 @@ links-of-spec =
     (tie.spec
     (λ c κs. search needs)
     returns
+    (λ c κs. stored-long (c .before .verdict .ensures .stored (c .if1 .left)))
     (λ c. search needs)
-    (λ c κs. stored-long (c .before .before .verdict .ensures .stored (c .before .if1 .left)))
     returns-2
     count-links-requires
     returns-3)

@@ -120,7 +120,7 @@ abbrev lent′ : Ty
 lent′ = tyRef erased mut words
 
 -- a place in the slice has a number of bytes before it that fits, and a next place
-bytes-fit : {i n : ℕ} → n * 10 < 2 ^ 63 → i < n → i * 10 < 2 ^ 64
+bytes-fit : {i n : ℕ} → n * 12 < 2 ^ 63 → i < n → i * 12 < 2 ^ 64
 bytes-fit room l = omega arith
 
 next-fits : {i n : ℕ} → n < 2 ^ 64 → i < n → i + 1 < 2 ^ 64
@@ -274,7 +274,7 @@ module _ {M : Type 1} (𝓤 : URA M) (H : Heap 𝓤) (A : Atoms 𝓤) (W : Given
         assigns ! (bin ! (load ! (from ! (stop !)) (look ! 5 refl)) (lit ! tt) (record { fits = before })) (from ! (stop !)) (store ! 8 refl (tt, record { fits = before })) $
         assigns ! (bin ! (load ! (from ! (fld ! refl (stop !))) (look-in ! 15 (sub ! 0 refl (whole !)))) (load ! (from ! (stop !)) (look ! 8 refl)) tt) (from ! (stop !))
         (init ! 12 refl (tt, tt)) $
-        rewrite ! 12 (λ (p : ℕ). ‵ (fat fullShare tyPtr l₁₂ 0 (vptr b p))) (sym (place-is 10 o (m .i))) refl $
+        rewrite ! 12 (λ (p : ℕ). ‵ (fat fullShare tyPtr l₁₂ 0 (vptr b p))) (sym (place-is 12 o (m .i))) refl $
         elem-out ! R (Is R) (shows 𝓤 H A R) (LL.vals T.the-type T′.the-laws) (LL.tells T.the-type T′.the-laws) fullShare (m .cur) (m .i) none b o (within mains ys buf₀ len m l) (λ was.
         -- [the record's cell; what it owns; the others; the book; its token; the index; its token; i; the state; _7 .. _14; the parameters; …]
         assigns ! (of-opd ! (load ! (from ! (hop ! (look ! 14 refl) (stop !))) (look-raw ! 0 refl))) (from ! (stop !))
@@ -320,9 +320,9 @@ module _ {M : Type 1} (𝓤 : URA M) (H : Heap 𝓤) (A : Atoms 𝓤) (W : Given
         assigns ! (bin ! (load ! (from ! (stop !)) (look ! 7 refl)) (lit ! tt) (record { fits = before })) (from ! (stop !)) (store ! 10 refl (tt, record { fits = before })) $
         assigns ! (bin ! (load ! (from ! (fld ! refl (stop !))) (look-in ! 17 (sub ! 0 refl (whole !)))) (load ! (from ! (stop !)) (look ! 10 refl)) tt) (from ! (stop !))
         (init ! 16 refl (tt, tt)) $
-        rewrite ! 16 (λ (p : ℕ). ‵ (fat fullShare tyPtr l₁₄ 0 (vptr b p))) (sym (place-is 10 o (m .i))) refl $
+        rewrite ! 16 (λ (p : ℕ). ‵ (fat fullShare tyPtr l₁₄ 0 (vptr b p))) (sym (place-is 12 o (m .i))) refl $
         assigns ! (of-opd ! (load ! (from ! (fld ! refl (stop !))) (look-in ! 9 (sub ! 0 refl (whole !))))) (from ! (hop ! (look ! 16 refl) (fld ! refl (stop !))))
-        (store-in ! 0 (sub ! 6 refl (whole !)) (tt, record { fits = a-fits y w is })) $
+        (store-in ! 0 (sub ! 7 refl (whole !)) (tt, record { fits = a-fits y w is })) $
         move ! (1 ∷ []) $ drop ! $ owned ! R (Is R) ((LL.makes T.the-type T′.the-plain) 𝓤 H A) (withAnswer r (y .answer)) _ (made y was (a-fits y w is)) $ move ! (1 ∷ 0 ∷ []) $
         elem-put ! R fullShare (m .cur) (m .i) (withAnswer r (y .answer)) (T′.lowered (withAnswer r (y .answer)) ∷ []) b o (within mains ys buf₀ len m l) $
         -- [the row; the book; its token; the index; its token; i; the state; _7 .. _14; the parameters; …]
@@ -339,7 +339,7 @@ module _ {M : Type 1} (𝓤 : URA M) (H : Heap 𝓤) (A : Atoms 𝓤) (W : Given
         asked : (ν ν′ : ℕ) (δ δ′ : GName) → Next 𝓤 H A mem run .Ghost
         asked ν ν′ δ δ′ = to ν ν′ δ δ′ (m .buf) (m .words) (m .state) r
 
-        before : m .i * 10 < 2 ^ 64
+        before : m .i * 12 < 2 ^ 64
         before = bytes-fit (room .1) l
 
         a-fits : (y : Answered) (w : Val) → Is P.the-row y (w ∷ []) → y .answer < 2 ^ 8
@@ -351,7 +351,7 @@ module _ {M : Type 1} (𝓤 : URA M) (H : Heap 𝓤) (A : Atoms 𝓤) (W : Given
         made : (y : Answered) → Is R r (LL.vals T.the-type T′.the-laws r) → y .answer < 2 ^ 8 → Is R (withAnswer r (y .answer)) (T′.lowered (withAnswer r (y .answer)) ∷ [])
         made y was ok =
             let g = LL.owed T.the-type T′.the-laws r _ was in
-            LL.owes T.the-type T′.the-laws (withAnswer r (y .answer)) (g .0, (g .1 .0, (g .1 .1 .0, (g .1 .1 .1 .0, (g .1 .1 .1 .1 .0, (g .1 .1 .1 .1 .1 .0, ((refl, ok), tt)))))))
+            LL.owes T.the-type T′.the-laws (withAnswer r (y .answer)) (g .0, (g .1 .0, (g .1 .1 .0, (g .1 .1 .1 .0, (g .1 .1 .1 .1 .0, (g .1 .1 .1 .1 .1 .0, (g .1 .1 .1 .1 .1 .1 .0, ((refl, ok), tt))))))))
 
     -- the turn that leaves the loop, and the rest of the body: the borrow is closed at the list in hand
     over : (m : M′) → n ≤ m .i → ltb (m .i) n ≡ false → Sq W (At m) (runs C Λ En parts.turn-1 (anyQ (Turned m)))

@@ -1,96 +1,37 @@
--- The rows fill the image exactly if those that are left do.
-use native.Mathlib.Omega.{arith}
+-- All rows fill the image, and are paid for.
+use mathlib.Core.Path.{_≡_}
+use Prim.Native.Nat.{_<_}
+use borrow.Author.Needs.{needs}
 use borrow.Author.Tests.{not-true, not-false}
-use Rattle.rules.proofs.Tests.{fails, said-no}
-use Rattle.image.proofs.Walks.{rows-start}
-use Rattle.rows.proofs.Filling.{all-fill, tests-rows-of}
-use Rattle.rows.proofs.Walks.{plan-read, nodes-most, row-tested, row-by-read, Still, still-start, still-no, still-next, still-end}
+use Rattle.rules.proofs.Tests.{fails, said-no, said-yes}
+use Rattle.rows.specs.Fill.{AllFill}
+use Rattle.rows.proofs.Filling.{all-fill, fill-stand, rich-rows-of, tests-rows-of}
 use Rattle.rows.proofs.rows_hold.Statement.{statement}
 use Rattle.rows.proofs.rows_hold.Tie as tie
 
-abbrev Inv-loop : tie.InvT-loop
-Inv-loop image links plan at₀ before₀ last₀ left₀ at before last left = Still image before last at left
+-- all rows fill the image
+filled : (c : tie.Else1) → AllFill (c .before .before .before .before .args .image .now)
+filled c = c .before .rows-fill .ensures .yes (not-false _ (c .if1 .left))
 
-abbrev μ-loop : tie.MeasureT-loop
-μ-loop image links plan at₀ before₀ last₀ left₀ at before last left = left
-
-loop-holds : tie.Need-loop-holds Inv-loop μ-loop
-loop-holds c =
-    let p = c .before .before .before .before .pre in
-    still-start _ _ (p .0) (rows-start (p .1 .header) (c .rows-start .ensures)) (omega arith)
-
-returns : tie.Need-returns Inv-loop μ-loop
+returns : tie.Need-returns
 returns c =
-    let start = c .before .before .before .before .before .before .before .before in
-    said-no (λ h. still-no (c .before .before .before .loop .inv) (omega arith) (λ g. fails (c .before .is-whole .ensures) (not-true _ (c .if1 .taken)) (g .row .whole))
-    (all-fill _ (start .pre .0) h))
+    let start = c .before .before .before .before in
+    said-no (λ h. fails (c .before .rows-fill .ensures) (not-true _ (c .if1 .taken)) (all-fill _ (start .pre .0) h))
 
-row-holds-requires : tie.Need-row-holds-requires Inv-loop μ-loop
-row-holds-requires c κs =
-    let start = c .before .before .before .before .before .before .before .before in
-    (c .before .is-whole .ensures .yes (not-false _ (c .if1 .left)), plan-read (start .pre .1), nodes-most (start .pre .1))
-
-returns-2 : tie.Need-returns-2 Inv-loop μ-loop
+returns-2 : tie.Need-returns-2
 returns-2 c =
-    let start = c .before .before .before .before .before .before .before .before .before .before in
-    said-no (λ h. still-no (c .before .before .before .before .before .loop .inv) (omega arith) (λ g. fails (c .before .row-holds .ensures) (not-true _ (c .if2 .taken))
-    (row-by-read (start .pre .1) (g .row))) (all-fill _ (start .pre .0) h))
+    let one = c .before .before in
+    said-yes (rich-rows-of _ (one .before .before .before .before .pre .0) (λ i. one .before .before .before .shared-slice-known .given i .fits) (filled one) (c .before .all-hold-most .ensures (c .if2 .taken)))
 
-follows-requires : tie.Need-follows-requires Inv-loop μ-loop
-follows-requires c κs =
-    let start = c .before .before .before .before .before .before .before .before .before .before in (
-      start .pre .1 .fields,
-      c .before .before .before .before .before .loop .inv .row-before,
-      row-tested (start .pre .1) (c .before .before .before .is-whole .ensures) (c .before .before .if1 .left) (c .before .row-holds .ensures) (c .if2 .left),
-    )
+rows-paid-requires : tie.Need-rows-paid-requires
+rows-paid-requires c κs =
+    let one = c .before .before in
+    (one .before .before .before .before .pre .1 .list, fill-stand _ _ _ _ _ (filled one))
 
-returns-3 : tie.Need-returns-3 Inv-loop μ-loop
+returns-3 : tie.Need-returns-3
 returns-3 c =
-    let start = c .before .before .before .before .before .before .before .before .before .before .before .before in
-    let here = c .before .before .before .before .before .before .before in
-    said-no (λ h. still-no (here .loop .inv) (omega arith) (λ g. fails (c .before .follows .ensures) (not-true _ (c .if3 .taken)) (g .follows))
-    (all-fill _ (start .pre .0) h))
-
-key-at-requires : tie.Need-key-at-requires Inv-loop μ-loop
-key-at-requires c κs =
-    c .before .before .before .before .before .is-whole .ensures .yes (not-false _ (c .before .before .before .before .if1 .left))
-
-next-requires : tie.Need-next-requires Inv-loop μ-loop
-next-requires c κs =
-    c .before .before .before .before .before .before .is-whole .ensures .yes (not-false _ (c .before .before .before .before .before .if1 .left))
-
-loop-again : tie.Need-loop-again Inv-loop μ-loop
-loop-again c =
-    let start = c .before .before .before .before .before .before .before .before .before .before .before .before .before .before in
-    let here = c .before .before .before .before .before .before .before .before .before in
-    let row = row-tested (start .pre .1) (c .before .before .before .before .before .before .before .is-whole .ensures) (c .before .before .before .before .before .before .if1 .left)
-    (c .before .before .before .before .before .row-holds .ensures) (c .before .before .before .before .if2 .left) in
-    still-next (here .loop .inv) (omega (arith, c .before .before .before .before .before .before .before .before .loop-test))
-    (record { row = row; follows = c .before .before .before .follows .ensures .yes (not-false _ (c .before .before .if3 .left)) })
-    (c .next .ensures .0) (c .next .ensures .1) (c .before .key-at .ensures)
-
-returns-4 : tie.Need-returns-4 Inv-loop μ-loop
-returns-4 c =
-    let start = c .before .before .before .before .before .before in
-    tests-rows-of _ (start .pre .0) (λ i. c .before .before .before .before .before .shared-slice-known .given i .fits) (still-end (c .before .loop .inv) (omega arith))
+    let one = c .before .before .before in
+    tests-rows-of _ (one .before .before .before .before .pre .0) (λ i. one .before .before .before .shared-slice-known .given i .fits) (filled one) (c .rows-paid .ensures)
 
 pub rows-hold-spec : {M : Type 1} → statement M
-rows-hold-spec =
-    tie.close
-    (tie.spec
-    Inv-loop
-    μ-loop
-    (λ c κs. omega arith)
-    loop-holds
-    (λ c κs. omega arith)
-    returns
-    row-holds-requires
-    returns-2
-    follows-requires
-    returns-3
-    key-at-requires
-    next-requires
-    (λ c. omega arith)
-    (λ c. omega arith)
-    loop-again
-    returns-4)
+rows-hold-spec = tie.close (tie.spec (λ c κs. c .before .before .pre) returns (λ c κs. c .before .before .before .before .pre .1 .list) returns-2 rows-paid-requires returns-3)

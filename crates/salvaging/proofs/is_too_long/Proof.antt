@@ -7,7 +7,7 @@ use Rattle.salvaging.proofs.is_too_long.Statement.{statement}
 use Rattle.salvaging.proofs.is_too_long.Tie as tie
 
 returns : tie.Need-returns
-returns c = longest-fits (of-header mostStreams mostHops (c .before .before .before .before .before .pre .0 .read .header) (c .before .book-length .ensures)) (c .if1 .taken)
+returns c = longest-fits (of-header mostStreams mostHops (c .before .before .before .before .before .pre .0 .read .list .header) (c .before .book-length .ensures)) (c .if1 .taken)
 
 returns-2 : tie.Need-returns-2
 returns-2 c = measured-fits _ (c .measure .ensures)

@@ -9,7 +9,7 @@ returns : tie.Need-returns
 returns c =
     let at-keep-rows = c .before .before .before .before in
     let start = at-keep-rows .before .before .before .before .before .before in
-    walked-measured (at-keep-rows .keep-rows .ensures) (of-header _ _ (start .pre .0 .read .header) (c .book-length .ensures))
+    walked-measured (at-keep-rows .keep-rows .ensures) (of-header _ _ (start .pre .0 .read .list .header) (c .book-length .ensures))
 
 pub measure-spec : {M : Type 1} → statement M
 measure-spec =

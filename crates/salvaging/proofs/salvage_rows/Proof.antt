@@ -8,13 +8,13 @@ use Rattle.salvaging.proofs.salvage_rows.Statement.{statement}
 use Rattle.salvaging.proofs.salvage_rows.Tie as tie
 
 cut-requires : tie.Need-cut-requires
-cut-requires c κs = let p = c .before .before .before .before .before .before .pre in omega (arith, rows-start (p .0 .read .header) (c .rows-start .ensures), p .1 .enough)
+cut-requires c κs = let p = c .before .before .before .before .before .before .pre in omega (arith, rows-start (p .0 .read .list .header) (c .rows-start .ensures), p .1 .enough)
 
 returns : tie.Need-returns
 returns c =
     let start = c .before .before .before .before .before .before .before .before .before .before in
     no-room (start .args .image .now) (start .args .out .now) (start .args .report .now) (c .refused .ensures)
-    (report-short (c .before .before .before .cut .ensures) (rows-start (start .pre .0 .read .header) (c .before .before .before .before .rows-start .ensures)) (c .before .if1 .taken))
+    (report-short (c .before .before .before .cut .ensures) (rows-start (start .pre .0 .read .list .header) (c .before .before .before .before .rows-start .ensures)) (c .before .if1 .taken))
 
 returns-2 : tie.Need-returns-2
 returns-2 c =
@@ -32,7 +32,7 @@ write-both-requires c κs =
     let p = start .pre in (
       p .0,
       p .1,
-      has-room (at-cut .cut .ensures) (rows-start (p .0 .read .header) (at-rows-start .rows-start .ensures)) (omega (arith, at-if1 .if1 .left))
+      has-room (at-cut .cut .ensures) (rows-start (p .0 .read .list .header) (at-rows-start .rows-start .ensures)) (omega (arith, at-if1 .if1 .left))
           (at-is-too-long .is-too-long .ensures .no (at-if2 .if2 .left)),
     )
 

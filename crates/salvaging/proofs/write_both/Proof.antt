@@ -11,7 +11,7 @@ use Rattle.salvaging.proofs.write_both.Tie as tie
 put-front-requires : tie.Need-put-front-requires
 put-front-requires c κs =
     let p = c .before .before .before .before .before .before .before .before .before .before .before .before .before .before .before .pre in
-    let q = rows-start (p .0 .read .header) (c .before .rows-start .ensures) in
+    let q = rows-start (p .0 .read .list .header) (c .before .rows-start .ensures) in
     let w = c .before .before .before .before .before .before .before .keep-rows .ensures in
     let few = walked-small w in
     (omega (arith, q), omega (arith, q, p .1 .enough), omega (arith, q, room-behind w (p .2), w .book .size), few .0, few .1)
@@ -21,7 +21,7 @@ book-length-requires c κs =
     let at-keep-rows = c .before .before .before .before .before .before .before .before .before .before in
     let start = at-keep-rows .before .before .before .before .before .before .before .before in
     let few = walked-small (at-keep-rows .keep-rows .ensures) in
-    (start .pre .0 .read .header .small-nodes, few .0, few .1)
+    (start .pre .0 .read .list .header .small-nodes, few .0, few .1)
 
 returns : tie.Need-returns
 returns c =
@@ -32,14 +32,14 @@ returns c =
     let start = bytes .before in
     let p = start .pre in
     written (at-keep-rows .keep-rows .ensures) (λ i. bytes .shared-slice-known .given i .fits) (p .1) (p .0 .heard .sound .even) (p .2)
-    (of-header _ _ (p .0 .read .header) (c .before .book-length .ensures)) (rows-start (p .0 .read .header) (at-rows-start .rows-start .ensures)) (at-put-front .put-front .ensures) refl
+    (of-header _ _ (p .0 .read .list .header) (c .before .book-length .ensures)) (rows-start (p .0 .read .list .header) (at-rows-start .rows-start .ensures)) (at-put-front .put-front .ensures) refl
 
 pub write-both-spec : {M : Type 1} → statement M
 write-both-spec =
     tie.close
     (tie.spec
     (λ c κs. search needs)
-    (λ c κs. search needs)
+    (λ c κs. c .before .before .before .before .before .before .before .before .before .before .before .before .before .pre .0 .read .list .header .small-nodes)
     put-front-requires
     book-length-requires
     (λ c. search needs)

@@ -10,7 +10,7 @@ returns c =
     let version = part .before .before .before .before .before in
     let mark = version .before .before .before .before in
     let a = mark .before .before .before .before .before in
-    front-put _ _ _ _ (a .args .image .now) (a .args .to) (mark .put-part .ensures) (version .put-word .ensures) (part .put-part2 .ensures)
+    front-put _ _ _ _ (a .args .image .now) (mark .put-part .ensures) (version .put-word .ensures) (part .put-part2 .ensures)
 
 pub put-front-spec : {M : Type 1} → statement M
 put-front-spec =

@@ -1,74 +1,97 @@
--- The links are written with the front, and the hearing behind them.
-use mathlib.Core.Path.{_≡_, refl}
-use Prim.Native.Nat.{ℕ, _-_}
+-- Header, accounts, links and hearing are written one behind the other.
+use mathlib.Core.Path.{refl}
+use Prim.Native.Nat.{ℕ, _+_, _*_, _-_, _≤_}
 use native.Mathlib.Omega.{arith}
 use borrow.Author.Needs.{needs}
-use lib.ListN.{length, take, drop, length-drop}
-use lib.Seq.{length-take-le}
+use lib.ListN.{drop, length-take}
+use Rattle.rules.specs.Image.{newest, longestImage}
 use Rattle.transcribing.proofs.Parts.{site-fit, site-put}
 use Rattle.transcribing.proofs.put_site.Statement.{statement}
 use Rattle.transcribing.proofs.put_site.Tie as tie
 
 put-front-requires : tie.Need-put-front-requires
 put-front-requires c κs =
-    let a = c .before .before .before .before in
+    let a = c .before .before .before in
     let f = site-fit (a .pre .0) (a .pre .1) in
-    (omega arith, omega (arith, f .inside), omega (arith, f .few, a .pre .2))
+    (omega (arith, f .links-inside), omega (arith, a .pre .2))
 
--- the hearing starts before the rows
-before-rows : tie.Need-sub-put-part
-before-rows c =
-    let a = c .before .before .before .before .before .before .before .before .before in
-    omega (arith, c .rows-start .ensures, c .before .hearing-place .ensures, site-fit (a .pre .0) (a .pre .1) .behind)
-
-part-put-part-end : tie.Need-part-put-part-end
-part-put-part-end c =
-    let a = c .before .before .before .before .before .before .before .before .before in
-    omega (arith, c .rows-start .ensures, site-fit (a .pre .0) (a .pre .1) .inside)
-
-put-part-requires : tie.Need-put-part-requires
-put-part-requires c κs =
-    let rows = c .before .before in
-    let heard = rows .before in
-    let a = heard .before .before .before .before .before .before .before .before in
+-- behind the accounts there is room for links and hearing
+room : (c : tie.After-links-place) → let a = c .before .before .before .before .before .before .before .before .before .before .before .before in
+    (c .before .before .before .before .put-list .result + 16 * a .args .book .nodes ≤ longestImage newest) × (c .links-place .result + 8 * a .args .book .nodes ≤ longestImage newest)
+room c =
+    let a = c .before .before .before .before .before .before .before .before .before .before .before .before in
     let f = site-fit (a .pre .0) (a .pre .1) in
-    let from : ℕ = heard .hearing-place .result in
-    let s = drop from (a .args .image .now) in
-    let n : length (take (rows .rows-start .result - from) s) ≡ rows .rows-start .result - from =
-    length-take-le (rows .rows-start .result - from) s (omega (arith, length-drop from (a .args .image .now), rows .rows-start .ensures, f .inside)) in
-    omega (arith, n, rows .rows-start .ensures, heard .hearing-place .ensures, f .behind, f .few, a .pre .2)
+    (omega (arith, c .before .before .before .before .put-list .ensures .on, f .listed, f .few), omega (arith, c .links-place .ensures, f .list-most, f .few))
 
-add-result : tie.Need-add-result
-add-result c =
-    let rows = c .before .before .before .before .before in
-    let a = rows .before .before .before .before .before .before .before .before .before in
-    let f = site-fit (a .pre .0) (a .pre .1) in
-    omega (arith, rows .rows-start .ensures, rows .before .hearing-place .ensures, f .behind, f .few)
+-- links and hearing stand inside the image
+links-end : tie.Need-part-put-part-end
+links-end c =
+    let a = c .before .before .before .before .before .before .before .before .before .before .before .before in
+    omega (arith, c .links-place .ensures, site-fit (a .pre .0) (a .pre .1) .links-inside)
+
+hearing-end : tie.Need-part-put-part-end-2
+hearing-end c =
+    let a = c .before .before .before .before .before .before .before .before .before .before .before .before .before .before .before .before .before .before in
+    omega (arith, c .hearing-place .ensures, site-fit (a .pre .0) (a .pre .1) .heard-inside)
+
+hearing-add : tie.Need-add-put-part-2
+hearing-add c =
+    let a = c .before .before .before .before .before .before .before .before .before .before .before .before .before .before .before .before .before .before in
+    omega (arith, c .hearing-place .ensures, site-fit (a .pre .0) (a .pre .1) .heard-inside)
+
+links-requires : tie.Need-put-part-requires
+links-requires c κs =
+    let links = c .before .before in
+    let a = links .before .before .before .before .before .before .before .before .before .before .before .before in
+    let at : ℕ = links .links-place .result in
+    let size : ℕ = 8 * a .args .book .nodes in
+    omega (arith, length-take (at + size - at) (drop at (a .args .image .now)), room links, a .pre .2)
+
+hearing-requires : tie.Need-put-part-requires-2
+hearing-requires c κs =
+    let hearing = c .before .before in
+    let linked = hearing .before .before .before in
+    let list = linked .before .before .before .before .before .before .before in
+    let first = list .before .before .before .before in
+    let a = first .before .before .before .before in
+    let at : ℕ = hearing .hearing-place .result in
+    let size : ℕ = 8 * a .args .book .nodes in
+    let r = room (hearing .before .before .before .before .before .before) in
+    omega (arith, length-take (at + size - at) (drop at (a .args .image .now)), a .pre .2, first .put-front .kept, list .put-list .kept, linked .put-part .kept, r)
 
 returns : tie.Need-returns
 returns c =
-    let part = c .before .before in
-    let rows = part .before .before .before in
-    let heard = rows .before in
-    let first = heard .before .before .before in
-    let a = first .before .before .before .before .before in
-    site-put (a .pre .0) (a .pre .1) _ _ _ _ _ _ _ refl (heard .hearing-place .ensures) (rows .rows-start .ensures) (first .put-front .ensures) refl
-    (part .put-part .ensures)
+    let heard = c .before .before in
+    let hearing = heard .before .before .before in
+    let linked = hearing .before .before .before in
+    let links = linked .before .before .before in
+    let list = links .before .before .before .before in
+    let first = list .before .before .before .before in
+    let a = first .before .before .before .before in
+    site-put (a .pre .0) (a .pre .1) _ _ _ _ _ _ _ _ _ _ (links .links-place .ensures) (hearing .hearing-place .ensures) (first .put-front .ensures)
+    (list .put-list .ensures) refl (linked .put-part .ensures) refl (heard .put-part2 .ensures)
 
 pub put-site-spec : {M : Type 1} → statement M
 put-site-spec =
     tie.close
     (tie.spec
-    (λ c. search needs)
-    (λ c. search needs)
     put-front-requires
     (λ c κs. search needs)
+    (λ c. search needs)
     (λ c κs. search needs)
-    before-rows
-    before-rows
-    part-put-part-end
-    put-part-requires
-    (λ c. before-rows (c .before .before .before .before .before))
-    add-result
+    (λ c. omega (arith, room c))
+    (λ c. search needs)
+    (λ c. search needs)
+    links-end
+    links-requires
+    (λ c κs. search needs)
+    hearing-add
+    (λ c. search needs)
+    (λ c. search needs)
+    hearing-end
+    (λ c. omega (arith, room (c .before .before .before .before .before .before .before .before)))
+    hearing-requires
+    (λ c. omega (arith, room (c .before .before .before .before .before .before .before .before .before .before .before)))
+    (λ c. omega (arith, room (c .before .before .before .before .before .before .before .before .before .before .before)))
     (λ c. search needs)
     returns)

@@ -1,6 +1,7 @@
 //! The driver: asks the reference, and passes request and answer on to be put
 //! to the planner under test.
 
+use crate::account_events::account_events;
 use crate::dice::Dice;
 use crate::events::events;
 use crate::posting_events::posting_events;
@@ -121,6 +122,7 @@ impl Driver {
         self.tally.add_events(events(&request, &expected));
         self.tally.add_events(second_events(&request, &expected));
         self.tally.add_events(posting_events(&request, &expected));
+        self.tally.add_events(account_events(&request, &expected));
         let exchange = Exchange { family: self.family, request, expected: expected.clone() };
         self.batch.push(exchange);
         if self.batch.len() == BATCH {

@@ -8,9 +8,10 @@
 //!
 //! It fails on the first differences, and where an answer number that the
 //! documents make possible for a call or a record, or one of `events`,
-//! `second_events` and `posting_events`, was never reached. `--cases` sets how
-//! many calls are thrown beside the fixed ones.
+//! `second_events`, `posting_events` and `account_events`, was never reached.
+//! `--cases` sets how many calls are thrown beside the fixed ones.
 
+mod account_events;
 mod damage;
 mod dice;
 mod driver;

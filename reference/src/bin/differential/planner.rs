@@ -170,13 +170,13 @@ fn hex(bytes: &[u8]) -> String {
 
 /// The request in words, with its book.
 fn show(exchange: &Exchange) -> String {
-    let Request { call, id, node, destination, period, second, .. } = exchange.request;
-    let Request { s, c, kinds, d, u, n, .. } = exchange.request;
+    let Request { call, id, node, destination, period, second, account, .. } = exchange.request;
+    let Request { s, c, kinds, d, u, n, amount, first, tiles, .. } = exchange.request;
     let arguments = match call {
         Call::New => format!("S={s} C={c} kinds={kinds:#b} D={d} U={u} N={n}"),
         _ => format!(
             "id {id}, node or source {node}, destination {destination}, period {period}, \
-             second {second}"
+             second {second}, account {account}, amount {amount}, {tiles} tiles from {first}"
         ),
     };
     let Request { bytes, further, mains, room, beside, fill, .. } = &exchange.request;

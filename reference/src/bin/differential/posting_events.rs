@@ -22,17 +22,19 @@ const SPOILT_2: &str = "records refused with 2 for one before them";
 const SPOILT_3: &str = "records refused with 3 for one before them";
 const SPOILT_8: &str = "records refused with 8 for one before them";
 const SPOILT_9: &str = "records refused with 9 for one before them";
+const SPOILT_23: &str = "records refused with 23 for one before them";
 const HELPED_2: &str = "records done that are refused alone with 2";
 const HELPED_3: &str = "records done that are refused alone with 3";
 const HELPED_8: &str = "records done that are refused alone with 8";
 const HELPED_9: &str = "records done that are refused alone with 9";
+const HELPED_23: &str = "records done that are refused alone with 23";
 const IMAGE_FIRST: &str = "images refused where the list is too long as well";
 const LIST_FIRST: &str = "26 where the buffer is too short as well";
 const NOTHING_TO_DO: &str = "12 of a posting of which no record could be done";
 const REFUSED_ANYWAY: &str = "12 of an open or a close that is refused anyway";
 const LONG_ENOUGH: &str = "12 of an open or a close whose book would have had room";
 
-pub const POSTING_EVENTS: [&str; 22] = [
+pub const POSTING_EVENTS: [&str; 24] = [
     REFUSED_BETWEEN,
     OLDER_CHANGED,
     OLDER_LEFT,
@@ -46,10 +48,12 @@ pub const POSTING_EVENTS: [&str; 22] = [
     SPOILT_3,
     SPOILT_8,
     SPOILT_9,
+    SPOILT_23,
     HELPED_2,
     HELPED_3,
     HELPED_8,
     HELPED_9,
+    HELPED_23,
     IMAGE_FIRST,
     LIST_FIRST,
     NOTHING_TO_DO,
@@ -114,10 +118,12 @@ fn beside_alone(book: &Book, mains: NodeSet, record: &Record) -> Option<&'static
         (DONE, 3) => Some(SPOILT_3),
         (DONE, 8) => Some(SPOILT_8),
         (DONE, 9) => Some(SPOILT_9),
+        (DONE, 23) => Some(SPOILT_23),
         (2, DONE) => Some(HELPED_2),
         (3, DONE) => Some(HELPED_3),
         (8, DONE) => Some(HELPED_8),
         (9, DONE) => Some(HELPED_9),
+        (23, DONE) => Some(HELPED_23),
         _ => None,
     }
 }

@@ -2,12 +2,14 @@
 
 use crate::dice::Dice;
 use crate::site::open_plan;
+use reference::account::{ACCOUNT_BYTES, ONLY_ACCOUNT, write_accounts};
 use reference::frame::{Call, Request};
 use reference::index::index_words;
 use reference::node_set::NodeSet;
 use reference::plan::{PERIODS, Plan, TILE_SLOTS};
 use reference::record::Record;
 use reference::topology::NODES;
+use reference::version::{HEADER_LENGTH, Version};
 
 /// A new book whose hearing is its links.
 pub fn new(plan: &Plan, nodes: u8, links: &[u8]) -> Request {
@@ -24,6 +26,7 @@ pub fn new_with_hearing(plan: &Plan, nodes: u8, links: &[u8], hearing: &[u8]) ->
         n: nodes,
         bytes: links.to_vec(),
         hearing: hearing.to_vec(),
+        further: write_accounts(&[ONLY_ACCOUNT]),
         ..Request::blank(Call::New)
     }
 }
@@ -52,6 +55,10 @@ pub fn open_with_second(book: &[u8], id: u16, source: u8, destination: u8, perio
 /// A salvage with a report of so many bytes.
 pub fn salvage(book: &[u8], report: u16) -> Request {
     Request { beside: report, ..on(Call::Salvage, book) }
+}
+
+pub fn purchase(book: &[u8], account: u16, amount: u32) -> Request {
+    Request { account, amount, ..on(Call::Purchase, book) }
 }
 
 pub fn close(book: &[u8], id: u16) -> Request {
@@ -120,7 +127,7 @@ pub fn keeps_to(book: &[u8], mains: u64) -> Request {
 }
 
 /// The calls on a book.
-pub const BOOK_CALLS: [Call; 11] = [
+pub const BOOK_CALLS: [Call; 12] = [
     Call::Check,
     Call::Rewrite,
     Call::Open,
@@ -130,6 +137,7 @@ pub const BOOK_CALLS: [Call; 11] = [
     Call::Routes,
     Call::Post,
     Call::KeepsTo,
+    Call::Purchase,
     Call::Links,
     Call::Salvage,
 ];
@@ -160,11 +168,15 @@ pub fn any(dice: &mut Dice, call: Call, book: &[u8], ids: &[u16]) -> Request {
         }
         Call::Post => {
             let length = dice.below(6);
-            let records: Vec<Record> = (0..length).map(|_| any_record(dice, nodes, ids)).collect();
+            let records: Vec<Record> = (0..length).map(|_| any_record(dice, book, ids)).collect();
             let request = post_within(book, any_mains(dice, nodes), &records);
             Request { beside: any_words(dice, request.beside), ..request }
         }
         Call::KeepsTo => keeps_to(book, any_mains(dice, nodes)),
+        Call::Purchase => {
+            let amount = dice.pick(&[0, 1, 500, 1 << 31, u32::MAX]);
+            purchase(book, any_payer(dice, book), amount)
+        }
         Call::Salvage => salvage(book, dice.pick(&[0, 3, 9, 30, 200, 200, 600])),
     }
 }
@@ -185,9 +197,9 @@ pub fn any_mains(dice: &mut Dice, nodes: u8) -> u64 {
 
 /// An open or a close; its other fields, and the answer before the call, are
 /// thrown.
-pub fn any_record(dice: &mut Dice, nodes: u8, ids: &[u16]) -> Record {
+pub fn any_record(dice: &mut Dice, book: &[u8], ids: &[u16]) -> Record {
     let opens = dice.chance(70);
-    let (source, destination) = any_ends(dice, nodes);
+    let (source, destination) = any_ends(dice, nodes_of(book));
     Record {
         opens,
         second: dice.chance(35),
@@ -195,6 +207,7 @@ pub fn any_record(dice: &mut Dice, nodes: u8, ids: &[u16]) -> Record {
         destination,
         id: any_id(dice, ids, if opens { 6 } else { 80 }),
         period: any_period(dice),
+        account: any_payer(dice, book),
         answer: dice.pick(&[0, 0, 1, 12, 26, 255]),
     }
 }
@@ -203,7 +216,23 @@ fn any_open(dice: &mut Dice, book: &[u8], nodes: u8, ids: &[u16]) -> Request {
     let id = any_id(dice, ids, 6);
     let (source, destination) = any_ends(dice, nodes);
     let second = dice.chance(35);
-    Request { second, ..open(book, id, source, destination, any_period(dice)) }
+    let account = any_payer(dice, book);
+    Request { second, account, ..open(book, id, source, destination, any_period(dice)) }
+}
+
+/// Mostly one of the book's accounts, as far as it has any.
+fn any_payer(dice: &mut Dice, book: &[u8]) -> u16 {
+    let stores = book.get(4).is_some_and(|&version| u16::from(version) == Version::Five as u16);
+    let list = if stores { book.get(HEADER_LENGTH + 1..).unwrap_or_default() } else { &[] };
+    let count = if stores { book.get(HEADER_LENGTH).copied().unwrap_or(0) } else { 0 };
+    let accounts = list.chunks_exact(ACCOUNT_BYTES).take(usize::from(count));
+    let numbers: Vec<u16> =
+        accounts.map(|account| u16::from_be_bytes([account[0], account[1]])).collect();
+    match dice.below(30) {
+        0 => dice.bits() as u16,
+        _ if numbers.is_empty() => ONLY_ACCOUNT.number,
+        _ => dice.pick(&numbers),
+    }
 }
 
 /// A source and a destination, now and then the same node.

@@ -1,6 +1,7 @@
 //! Sites: tile plans, topologies and the books made of them.
 
 use crate::dice::Dice;
+use reference::account::{Account, MAX_ACCOUNTS, ONLY_ACCOUNT};
 use reference::book::{Book, MAX_HOPS, MAX_ROUTE_HOPS, MAX_ROWS};
 use reference::change::{self, Open};
 use reference::image;
@@ -10,7 +11,7 @@ use reference::plan::{PERIODS, PLAN_TILES, Plan};
 use reference::route::planners_route;
 use reference::row::{FIRST_ROUTE, Row};
 use reference::topology::Topology;
-use reference::version::Version;
+use reference::version::{HEADER_LENGTH, Version};
 
 /// Plan A of document 01.
 pub fn plan_a() -> Plan {
@@ -155,8 +156,38 @@ pub fn any_topology(dice: &mut Dice) -> Topology {
     }
 }
 
+/// Mostly the only account of older books, otherwise up to 32 that can pay.
+pub fn any_accounts(dice: &mut Dice) -> Vec<Account> {
+    if dice.chance(60) {
+        return vec![ONLY_ACCOUNT];
+    }
+    let count = dice.pick(&[1, 2, 3, 4, MAX_ACCOUNTS]);
+    let mut numbers: Vec<u16> = (0..count).map(|_| dice.bits() as u16).collect();
+    numbers.sort();
+    numbers.dedup();
+    numbers.into_iter().map(|number| Account { number, bought: 10_000_000 }).collect()
+}
+
+/// Leaves an account no more than a few uses.
+pub fn tighten(dice: &mut Dice, book: &mut Book) {
+    let account = dice.below(book.accounts.len());
+    let drawn = book.drawn(book.accounts[account].number) as u32;
+    book.accounts[account].bought = drawn + dice.pick(&[0, 1, 10, 100, 500, 3000]);
+}
+
+/// The account that pays for a stream: a different one from id to id.
+pub fn payer(book: &Book, id: u16) -> u16 {
+    book.accounts[usize::from(id) % book.accounts.len()].number
+}
+
+/// The bytes before the rows of this image.
+pub fn before_rows(version: Version, image: &[u8]) -> usize {
+    let accounts = if version.stores_accounts() { image[HEADER_LENGTH] } else { 0 };
+    version.image_length(usize::from(accounts), image[11], 0, 0)
+}
+
 pub fn empty_book(plan: Plan, topology: Topology) -> Book {
-    Book { plan, topology, rows: Vec::new() }
+    Book { plan, topology, accounts: vec![ONLY_ACCOUNT], rows: Vec::new() }
 }
 
 /// The versions that can hold the book.
@@ -187,13 +218,15 @@ pub fn add_stream(book: &mut Book, id: u16, source: u8, destination: u8, period:
         return false;
     };
     let Some(offsets) = first_placing(book, &nodes, period) else { return false };
-    book.add(Row { id, route: FIRST_ROUTE, period, nodes, offsets });
+    let account = payer(book, id);
+    book.add(Row { id, route: FIRST_ROUTE, period, nodes, offsets, account });
     true
 }
 
 /// Opens a stream with a second route; false where it is refused.
 pub fn add_with_second(book: &mut Book, id: u16, source: u8, destination: u8, period: u16) -> bool {
-    let asked = Open { id, source, destination, period, second: true };
+    let account = payer(book, id);
+    let asked = Open { id, source, destination, period, second: true, account };
     let opened = change::open(book, NodeSet::all(book.topology.nodes()), asked);
     let done = opened.is_ok();
     *book = opened.unwrap_or_else(|_| book.clone());

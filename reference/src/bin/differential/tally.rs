@@ -1,5 +1,6 @@
 //! How often each answer number of each call was reached.
 
+use crate::account_events::ACCOUNT_EVENTS;
 use crate::events::EVENTS;
 use crate::posting_events::POSTING_EVENTS;
 use crate::second_events::SECOND_EVENTS;
@@ -31,7 +32,7 @@ impl Giver {
     fn possible(self) -> &'static [u8] {
         match self {
             Giver::Call(call) => possible(call),
-            Giver::Record => &[0, 1, 2, 3, 4, 5, 6, 7, 8, 9, 17, 18],
+            Giver::Record => &[0, 1, 2, 3, 4, 5, 6, 7, 8, 9, 17, 18, 22, 23],
         }
     }
 }
@@ -42,13 +43,14 @@ fn possible(call: Call) -> &'static [u8] {
         Call::New => &[0, 10, 11, 12],
         Call::Check => &[0, 10, 11, 13, 14, 15, 16],
         Call::Rewrite => &[0, 10, 11, 12, 13, 14, 15, 16],
-        Call::Open => &[0, 1, 2, 4, 5, 6, 7, 8, 9, 10, 11, 12, 13, 14, 15, 16, 17, 18],
+        Call::Open => &[0, 1, 2, 4, 5, 6, 7, 8, 9, 10, 11, 12, 13, 14, 15, 16, 17, 18, 22, 23],
         Call::Close => &[0, 1, 3, 10, 11, 12, 13, 14, 15, 16],
         Call::Expand => &[0, 4, 10, 11, 12, 13, 14, 15, 16, 21],
         Call::Balance => &[0, 4, 10, 11, 13, 14, 15, 16],
         Call::Routes => &[0, 4, 5, 10, 11, 12, 13, 14, 15, 16, 25],
         Call::Post => &[0, 10, 11, 12, 13, 14, 15, 16, 25, 26],
         Call::KeepsTo => &[0, 10, 11, 13, 14, 15, 16, 25],
+        Call::Purchase => &[0, 10, 11, 12, 13, 14, 15, 16, 22, 24],
         Call::Links => &[0, 4, 10, 11, 13, 14, 15, 16],
         Call::Salvage => &[0, 10, 11, 12, 13, 14],
     }
@@ -65,7 +67,7 @@ pub struct Tally {
 
 /// The events that every run must reach.
 fn all_events() -> impl Iterator<Item = &'static str> {
-    EVENTS.into_iter().chain(SECOND_EVENTS).chain(POSTING_EVENTS)
+    EVENTS.into_iter().chain(SECOND_EVENTS).chain(POSTING_EVENTS).chain(ACCOUNT_EVENTS)
 }
 
 impl Tally {

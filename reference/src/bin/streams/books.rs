@@ -3,7 +3,10 @@
 use crate::Kind;
 use crate::damage::{damaged, of_rows, scratched};
 use crate::dice::Dice;
-use crate::site::{add_stream, any_plan, any_topology, empty_book, images, line, load, open_plan};
+use crate::site::{
+    add_stream, any_accounts, any_plan, any_topology, empty_book, images, line, load, open_plan,
+    tighten,
+};
 use reference::book::Book;
 use reference::row::Row;
 use reference::salvage::lines;
@@ -70,10 +73,14 @@ fn many_rows(dice: &mut Dice, book: &Book, count: usize) -> Vec<Row> {
 /// A book of some streams, damaged.
 fn thrown(dice: &mut Dice) -> Vec<u8> {
     let mut one = empty_book(any_plan(dice), any_topology(dice));
+    one.accounts = any_accounts(dice);
     let mut two = one.clone();
     for book in [&mut one, &mut two] {
         let tries = dice.pick(&[0, 3, 8, 20, 120]);
         load(dice, book, tries);
+    }
+    if dice.chance(30) {
+        tighten(dice, &mut one);
     }
     damaged(dice, &one, &two)
 }

@@ -2,7 +2,9 @@
 
 use crate::Kind;
 use crate::dice::Dice;
-use crate::site::{any_image, any_plan, any_topology, empty_book, line, load, plan_a};
+use crate::site::{
+    any_accounts, any_image, any_plan, any_topology, empty_book, line, load, plan_a,
+};
 use reference::book::Book;
 use reference::statement::statement;
 
@@ -97,6 +99,7 @@ fn month(dice: &mut Dice, book: &Book) -> Vec<u8> {
 /// A book with some streams.
 fn any_book(dice: &mut Dice) -> Book {
     let mut book = empty_book(any_plan(dice), any_topology(dice));
+    book.accounts = any_accounts(dice);
     let tries = dice.pick(&[0, 3, 8, 20]);
     load(dice, &mut book, tries);
     book

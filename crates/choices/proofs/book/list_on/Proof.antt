@@ -10,6 +10,7 @@ use borrow.Author.Needs.{needs}
 use borrow.Author.Tests.{not-true, not-false}
 use Rattle.rules.proofs.Tests.{fails}
 use Rattle.image.proofs.Stands.{stored-length}
+use Rattle.image.proofs.Topologies.{links-sets}
 use Rattle.choices.proofs.Books.{nodes-most, links-inside, beyond, unknown-end, one-node, asked, listed}
 use Rattle.choices.proofs.book.list_on.Statement.{statement}
 use Rattle.choices.proofs.book.list_on.Tie as tie
@@ -57,13 +58,13 @@ returns-4 c =
 
 sets-requires : tie.Need-sets-requires
 sets-requires c κs =
-    let b = c .before .before .before .before .before .before .before .before .before in
+    let b = c .before .before .before .before .before .before .before .before .before .before in
     let h = b .before .before .before .pre in
-    (nodes-most h (b .read .ensures), links-inside h (b .read .ensures))
+    (nodes-most h (b .read .ensures), links-inside h (b .read .ensures) (c .links-place .ensures))
 
 array-share-prefix-links : tie.Need-array-share-prefix-links
 array-share-prefix-links c =
-    let b = c .before .before .before .before .before .before .before .before .before .before in
+    let b = c .before .before .before .before .before .before .before .before .before .before .before in
     let rows : List ℕ = c .sets .result in
     let ok = c .sets .ok in
     let n : length rows ≡ 64 = search needs in
@@ -71,7 +72,7 @@ array-share-prefix-links c =
 
 slice-aggregate-list : tie.Need-slice-aggregate-list
 slice-aggregate-list c =
-    let b = c .before .before .before .before .before .before .before .before .before .before .before in
+    let b = c .before .before .before .before .before .before .before .before .before .before .before .before in
     let rows : List ℕ = c .before .sets .result in
     let ok = c .before .sets .ok in
     let n : length rows ≡ 64 = search needs in
@@ -79,22 +80,23 @@ slice-aggregate-list c =
 
 list-requires : tie.Need-list-requires
 list-requires c κs =
-    let d = c .before .before .before in
+    let d = c .before .before .before .before in
     let t = d .before .before .before in
     let l = t .before .before .before .before in
     let w = l .before in
     let b = w .before in
     asked (b .before .before .before .pre) (b .read .ensures) _ _ _ (w .within .ensures .yes (not-false _ (l .if1 .left))) (t .before .before .if2 .left) (t .if3 .left)
-    (d .if4 .left) (c .before .before .sets .ensures)
+    (d .if4 .left) (links-sets (b .read .ensures) (c .before .before .before .links-place .ensures) (c .before .before .sets .ensures))
 
 returns-5 : tie.Need-returns-5
 returns-5 c =
-    let d = c .before .before .before .before .before .before in
+    let d = c .before .before .before .before .before .before .before in
     let t = d .before .before .before in
     let l = t .before .before .before .before in
     let w = l .before in
     let b = w .before in
-    let sets = c .before .before .before .before .before .sets .ensures in
+    let place = c .before .before .before .before .before .before .links-place .ensures in
+    let sets = links-sets (b .read .ensures) place (c .before .before .before .before .before .sets .ensures) in
     listed (b .before .before .before .pre) (b .read .ensures) _ _ _ (w .within .ensures .yes (not-false _ (l .if1 .left))) (t .before .before .if2 .left) (t .if3 .left)
     (d .if4 .left) sets (c .before .before .list .ensures)
 
@@ -114,6 +116,7 @@ list-on-spec =
     returns-3
     (λ c κs. search needs)
     returns-4
+    (λ c κs. search needs)
     sets-requires
     array-share-prefix-links
     slice-aggregate-list

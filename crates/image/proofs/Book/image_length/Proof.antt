@@ -1,6 +1,6 @@
 -- The rows start behind the topologies, and each is as long as the version says.
 use mathlib.Core.Path.{ap₂}
-use Prim.Native.Nat.{ℕ, _+_, _*_, _≤_}
+use Prim.Native.Nat.{ℕ, _+_, _*_, _<_, _≤_}
 use native.Mathlib.Nat.{mul-le-mul}
 use native.Mathlib.Omega.{arith}
 use borrow.Author.Needs.{needs}
@@ -8,7 +8,7 @@ use Rattle.image.proofs.Places.{rows-most}
 use Rattle.image.proofs.Book.image_length.Statement.{statement}
 use Rattle.image.proofs.Book.image_length.Tie as tie
 
-few : (row n : ℕ) → row ≤ 7 → n ≤ 255 → row * n ≤ 1785
+few : (row n : ℕ) → row ≤ 9 → n ≤ 255 → row * n ≤ 2295
 few row n l m = mul-le-mul l m
 
 mul-result : tie.Need-mul-result
@@ -21,15 +21,17 @@ add-result : tie.Need-add-result
 add-result c =
     let start = c .before .before .before in
     let n : start .args .self .streams ≤ 255 = omega (arith, start .pre) in
+    let held : start .args .self .accounts < 256 = search needs in
     let l = few (c .before .row-length .result) (start .args .self .streams) (c .before .row-length .ensures .1) n in
-    omega (arith, start .pre, c .before .before .rows-start .ensures, rows-most (start .args .self .version) (start .args .self .nodes), l)
+    omega (arith, held, start .pre, c .before .before .rows-start .ensures, rows-most (start .args .self .version) (start .args .self .accounts) (start .args .self .nodes), l)
 
 add-result-2 : tie.Need-add-result-2
 add-result-2 c =
     let start = c .before .before .before .before in
     let n : start .args .self .streams ≤ 255 = omega (arith, start .pre) in
+    let held : start .args .self .accounts < 256 = search needs in
     let l = few (c .before .before .row-length .result) (start .args .self .streams) (c .before .before .row-length .ensures .1) n in
-    omega (arith, start .pre, c .before .before .before .rows-start .ensures, rows-most (start .args .self .version) (start .args .self .nodes), l)
+    omega (arith, held, start .pre, c .before .before .before .rows-start .ensures, rows-most (start .args .self .version) (start .args .self .accounts) (start .args .self .nodes), l)
 
 returns : tie.Need-returns
 returns c =

@@ -11,7 +11,8 @@ returns c =
       plan = cc;
       nodes = search needs;
       streams = search needs;
-      hops = c .long .ensures .0 ∙ c .before .word-at3 .ensures .0;
+      hops = c .before .long .ensures .0 ∙ c .before .before .word-at3 .ensures .0;
+      accounts = c .account-count .ensures;
       small-nodes = search needs;
       small-streams = search needs;
       small-hops = search needs;
@@ -34,6 +35,7 @@ read-spec =
     (λ c. search needs)
     (λ c κs. search needs)
     (λ c. search needs)
+    (λ c κs. search needs)
     (λ c κs. search needs)
     (λ c κs. search needs)
     (λ c κs. search needs)

@@ -1,26 +1,67 @@
--- The rows are put in, and both are marked.
+-- Refused by 23 where the account does not pay; otherwise the rows are put in, and both are marked.
+use mathlib.Core.Bool.{not}
+use mathlib.Core.List.{[], _∷_}
+use Prim.Native.Nat.{_+_}
+use native.Mathlib.Omega.{arith}
+use lib.ListN.{length}
 use borrow.Author.Needs.{needs}
+use Rattle.rules.specs.Words.{Tests}
+use Rattle.rules.specs.Periods.{theAsked}
+use Rattle.rules.specs.Placing.{NotPaid}
+use Rattle.rules.proofs.Tests.{fails}
+use Rattle.rules.proofs.Reading.{bookIn}
+use Rattle.opening.proofs.Outcomes.{out-refused}
+use Rattle.opening.proofs.Costs.{tests-short}
 use Rattle.opening.proofs.Keeping.{first-marked, keep-two}
 use Rattle.opening.proofs.ways.keep_two.Statement.{statement}
 use Rattle.opening.proofs.ways.keep_two.Tie as tie
 
-mark-requires : tie.Need-mark-requires
-mark-requires c κs = let p = c .before .before .before .before .before .before .before .before .pre .marked in (p .markable, p .index .size)
+add-hops : tie.Need-add-hops
+add-hops c = let p = c .before .before .before .before .before .pre in omega (arith, p .put .1 .few, p .put .2 .few)
 
-mark-requires-2 : tie.Need-mark-requires-2
-mark-requires-2 c κs = let f = first-marked (c .before .before .before .before .before .before .before .before .before .before .pre) (c .before .mark .ensures) in (f .markable, f .index .size)
+is-paid-requires : tie.Need-is-paid-requires
+is-paid-requires c κs =
+    let p = c .before .before .before .before .before .pre in
+    (p .new .asked .image .newest .lawful, p .new .asked .header, p .new .account, p .new .asked .period, omega (arith, p .put .1 .few, p .put .2 .few))
+
+-- whether it does not pay
+short : (c : tie.After-is-paid) → let a = c .before .before .before .before .before .before in
+    Tests (not (c .is-paid .result)) (NotPaid (bookIn (a .args .image .now)) (theAsked (a .args .q)) (a .args .first .now ∷ a .args .second .now ∷ []))
+short c =
+    let a = c .before .before .before .before .before .before in
+    tests-short (a .args .image .now) (theAsked (a .args .q)) (a .args .first .now ∷ a .args .second .now ∷ []) (length (a .args .offsets .now) + length (a .args .others .now)) (a .args .place)
+    (omega (arith, a .pre .put .1 .count, a .pre .put .2 .count)) (a .pre .marked .period-is) (c .is-paid .ensures)
 
 returns : tie.Need-returns
 returns c =
-    keep-two (c .done .ensures .0) (c .done .ensures .1) (c .before .before .before .before .before .before .before .before .before .before .before .before .pre) (c .before .before .before .mark .ensures)
-    (c .before .before .before .before .before .put-two .ensures) (c .before .mark2 .ensures)
+    out-refused (short (c .before .before) .yes (c .before .if1 .taken)) (λ z. omega arith) (c .refused .ensures .0)
+    (c .before .before .before .before .before .before .before .before .pre .new .asked .image .index)
+
+mark-requires : tie.Need-mark-requires
+mark-requires c κs = let p = c .before .before .before .before .before .before .before .before .before .before .pre .marked in (p .markable, p .index .size)
+
+mark-requires-2 : tie.Need-mark-requires-2
+mark-requires-2 c κs =
+    let a = c .before .before .before .before .before .before .before .before .before .before .before .before in
+    let f = first-marked (a .pre) (c .before .mark .ensures) in
+    (f .markable, f .index .size)
+
+returns-2 : tie.Need-returns-2
+returns-2 c =
+    let tested = c .before .before .before .before .before .before .before in
+    keep-two (c .done .ensures .0) (c .done .ensures .1) (tested .before .before .before .before .before .before .before .pre) (c .before .before .before .mark .ensures)
+    (fails (short (tested .before)) (tested .if1 .left)) (c .before .before .before .before .before .put-two .ensures) (c .before .mark2 .ensures)
 
 pub keep-two-spec : {M : Type 1} → statement M
 keep-two-spec =
     tie.close
     (tie.spec
+    add-hops
+    is-paid-requires
+    (λ c κs. search needs)
+    returns
     (λ c κs. search needs)
     mark-requires
     mark-requires-2
     (λ c κs. search needs)
-    returns)
+    returns-2)

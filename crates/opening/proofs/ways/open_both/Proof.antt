@@ -48,16 +48,16 @@ returns c = out-refused (full (c .before .before) .yes (c .before .if1 .taken)) 
     (c .before .before .before .before .before .before .before .pre .first-route .new .asked .image .index)
 
 place-alone-requires : tie.Need-place-alone-requires
-place-alone-requires c κs = asked-route (c .before .before .before .before .before .before .before .before .pre .first-route)
+place-alone-requires c κs = asked-route (c .before .before .before .before .before .before .before .pre .first-route)
 
 array-share-prefix-offsets : tie.Need-array-share-prefix-offsets
 array-share-prefix-offsets c =
     let n : length (c .before .before .before .before .place-alone .result .offsets) ≡ 15 = search needs in
-    omega (arith, c .before .before .before .before .before .before .before .before .before .before .before .before .before .pre .first-route .few)
+    omega (arith, c .before .before .before .before .before .before .before .before .before .before .before .before .pre .first-route .few)
 
 slice-aggregate-place-second : tie.Need-slice-aggregate-place-second
 slice-aggregate-place-second c =
-    let a = c .before .before .before .before .before .before .before .before .before .before .before .before .before .before in
+    let a = c .before .before .before .before .before .before .before .before .before .before .before .before .before in
     let offsets : List ℕ = c .before .before .before .before .before .place-alone .result .offsets in
     let ok = c .before .before .before .before .before .place-alone .ok in
     let n : length offsets ≡ 15 = search needs in
@@ -65,19 +65,19 @@ slice-aggregate-place-second c =
 
 place-second-requires : tie.Need-place-second-requires
 place-second-requires c κs =
-    let a = c .before .before .before .before .before .before .before .before .before .before .before .before .before .before .before in
+    let a = c .before .before .before .before .before .before .before .before .before .before .before .before .before .before in
     let found = c .before .before .before .before .before .before .place-alone in
     record {
       routes = a .pre;
       placed = found .ensures .placed (c .before .before .before .enum-told2 .given .1);
-      room = room (c .before .before .before .before .before .before .before .before .before);
+      room = room (c .before .before .before .before .before .before .before .before);
     }
 
 returns-2 : tie.Need-returns-2
 returns-2 c =
-    let a = c .before .before .before .before .before .before .before .before .before .before .before .before .before in
+    let a = c .before .before .before .before .before .before .before .before .before .before .before .before in
     let found = c .before .before .before .before .place-alone in
-    out-next (room (c .before .before .before .before .before .before .before))
+    out-next (room (c .before .before .before .before .before .before))
     (out-refused (inl (found .ensures .none (c .before .enum-told .given .1))) (λ z. omega arith) (c .refused2 .ensures .0) (a .pre .first-route .new .asked .image .index))
 
 returns-3 : tie.Need-returns-3

@@ -39,16 +39,16 @@ returns c = out-refused (full (c .before .before) .yes (c .before .if1 .taken)) 
     (c .before .before .before .before .before .before .pre .new .asked .image .index)
 
 place-alone-requires : tie.Need-place-alone-requires
-place-alone-requires c κs = asked-route (c .before .before .before .before .before .before .before .pre)
+place-alone-requires c κs = asked-route (c .before .before .before .before .before .before .pre)
 
 array-share-prefix-offsets : tie.Need-array-share-prefix-offsets
 array-share-prefix-offsets c =
     let n : length (c .before .before .before .before .place-alone .result .offsets) ≡ 15 = search needs in
-    omega (arith, c .before .before .before .before .before .before .before .before .before .before .before .before .pre .few)
+    omega (arith, c .before .before .before .before .before .before .before .before .before .before .before .pre .few)
 
 slice-aggregate-keep-one : tie.Need-slice-aggregate-keep-one
 slice-aggregate-keep-one c =
-    let a = c .before .before .before .before .before .before .before .before .before .before .before .before .before in
+    let a = c .before .before .before .before .before .before .before .before .before .before .before .before in
     let offsets : List ℕ = c .before .before .before .before .before .place-alone .result .offsets in
     let ok = c .before .before .before .before .before .place-alone .ok in
     let n : length offsets ≡ 15 = search needs in
@@ -56,25 +56,25 @@ slice-aggregate-keep-one c =
 
 keep-one-requires : tie.Need-keep-one-requires
 keep-one-requires c κs =
-    let a = c .before .before .before .before .before .before .before .before .before .before .before .before .before .before in
+    let a = c .before .before .before .before .before .before .before .before .before .before .before .before .before in
     let found = c .before .before .before .before .before .before .place-alone in
     let first = found .ensures .placed (c .before .before .before .enum-told2 .given .1) in
-    one-kept (a .pre) first (room (c .before .before .before .before .before .before .before .before .before))
+    one-kept (a .pre) first (room (c .before .before .before .before .before .before .before .before))
 
 returns-2 : tie.Need-returns-2
 returns-2 c =
-    let a = c .before .before .before .before .before .before .before .before .before .before .before .before in
+    let a = c .before .before .before .before .before .before .before .before .before .before .before in
     let found = c .before .before .before .before .place-alone in
-    out-next (room (c .before .before .before .before .before .before .before))
+    out-next (room (c .before .before .before .before .before .before))
     (out-refused (inl (found .ensures .none (c .before .enum-told .given .1))) (λ z. omega arith) (c .refused2 .ensures .0) (a .pre .new .asked .image .index))
 
 returns-3 : tie.Need-returns-3
 returns-3 c =
-    let a = c .before .before .before .before .before .before .before .before .before .before .before .before .before .before .before in
+    let a = c .before .before .before .before .before .before .before .before .before .before .before .before .before .before in
     let found = c .before .before .before .before .before .before .before .place-alone in
     let first = found .ensures .placed (c .before .before .before .before .enum-told2 .given .1) in
     routed-in (a .args .image .now) (theAsked (a .args .q)) _ _ (new-row (theAsked (a .args .q)) 1 _ _ first, tt)
-    (room (c .before .before .before .before .before .before .before .before .before .before)) (c .keep-one .ensures)
+    (room (c .before .before .before .before .before .before .before .before .before)) (c .keep-one .ensures)
 
 pub open-one-spec : {M : Type 1} → statement M
 open-one-spec =

@@ -14,7 +14,7 @@ use Rattle.placing.proofs.marking.mark.Tie as tie
 abbrev Inv-loop : tie.InvT-loop
 Inv-loop place route offsets index₀ repeats i₀ index i =
     (i ≤ length offsets)
-    × ((S : ℕ) → RepeatsOf S (periodAt place) repeats → (id way : ℕ) → Adds (HopsTake S (rowOn id way (periodAt place) route offsets) i) index₀ index)
+    × ((S : ℕ) → RepeatsOf S (periodAt place) repeats → (id way account : ℕ) → Adds (HopsTake S (rowOn id way account (periodAt place) route offsets) i) index₀ index)
 
 abbrev μ-loop : tie.MeasureT-loop
 μ-loop place route offsets index₀ repeats i₀ index i = length offsets - i
@@ -23,7 +23,7 @@ repeats-of-requires : tie.Need-repeats-of-requires Inv-loop μ-loop
 repeats-of-requires c κs = (c .before .before .pre .0 .few, c .before .before .pre .0 .period)
 
 loop-holds : tie.Need-loop-holds Inv-loop μ-loop
-loop-holds c = (omega arith, λ S w id way. hops-none _ _ _)
+loop-holds c = (omega arith, λ S w id way account. hops-none _ _ _)
 
 shared-slice-read-t16 : tie.Need-shared-slice-read-t16 Inv-loop μ-loop
 shared-slice-read-t16 c = omega (arith, c .before .before .before .before .before .before .before .before .pre .0 .count, c .before .before .before .loop-test .taken)
@@ -39,7 +39,7 @@ mark-requires c κs =
     let i = loop .loop .i in
     let l = c .before .before .before .before .loop-test .taken in
     let v = loop .before .repeats-of .ensures in
-    let kept = loop .loop .inv .1 _ v 0 0 .size in
+    let kept = loop .loop .inv .1 _ v 0 0 0 .size in
     (omega (arith, kept, start .pre .1), hop-inside (start .pre .0) v i l, node-small (start .pre .0) v i (omega arith), node-small (start .pre .0) v _ (omega arith))
 
 loop-again : tie.Need-loop-again Inv-loop μ-loop
@@ -47,21 +47,21 @@ loop-again c =
     let loop = c .before .before .before .before .before .before in
     let start = loop .before .before .before .before in (
       omega (arith, c .before .before .before .before .before .loop-test .taken),
-      λ S w id way. marked-more w (loop .loop .i) id way (loop .loop .inv .1 S w id way) (c .mark .ensures),
+      λ S w id way account. marked-more w (loop .loop .i) id way account (loop .loop .inv .1 S w id way account) (c .mark .ensures),
     )
 
 note-requires : tie.Need-note-requires Inv-loop μ-loop
 note-requires c κs =
     let loop = c .before .before .before in
-    omega (arith, loop .before .before .before .before .pre .1, loop .loop .inv .1 _ (loop .before .repeats-of .ensures) 0 0 .size)
+    omega (arith, loop .before .before .before .before .pre .1, loop .loop .inv .1 _ (loop .before .repeats-of .ensures) 0 0 0 .size)
 
 returns : tie.Need-returns Inv-loop μ-loop
 returns c =
     let loop = c .before .before .before .before in
     let start = loop .before .before .before .before in
     marked
-    (λ id way.
-    hops-done _ _ (omega (arith, loop .loop .inv .0, c .before .before .before .loop-test .left, start .pre .0 .count)) (loop .loop .inv .1 _ (loop .before .repeats-of .ensures) id way))
+    (λ id way account.
+    hops-done _ _ (omega (arith, loop .loop .inv .0, c .before .before .before .loop-test .left, start .pre .0 .count)) (loop .loop .inv .1 _ (loop .before .repeats-of .ensures) id way account))
     (c .before .period-at .ensures .0) (c .note .ensures)
 
 pub mark-spec : {M : Type 1} → statement M

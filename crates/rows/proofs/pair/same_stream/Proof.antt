@@ -1,4 +1,4 @@
--- The id, the way and the period.
+-- The id, the way, the account and the period.
 use native.Mathlib.Omega.{arith}
 use borrow.Author.Needs.{needs}
 use Rattle.rules.proofs.Tests.{said-no}
@@ -20,7 +20,12 @@ returns-2 c =
 
 returns-3 : tie.Need-returns-3
 returns-3 c =
-    tests-stream-rest (omega arith) (omega arith) (c .before .before .before .period-at .ensures .0) (c .before .before .period-at2 .ensures .0)
+    let start = c .before .before .before .before .before .before .before .before .before in
+    said-no (λ (h : SameStream (rowAt (start .args .image .now) (start .args .before)) (rowAt (start .args .image .now) (start .args .at))). omega (arith, h .account))
+
+returns-4 : tie.Need-returns-4
+returns-4 c =
+    tests-stream-rest (omega arith) (omega arith) (omega arith) (c .before .before .before .period-at .ensures .0) (c .before .before .period-at2 .ensures .0)
 
 pub same-stream-spec : {M : Type 1} → statement M
 same-stream-spec =
@@ -33,4 +38,7 @@ same-stream-spec =
     returns-2
     (λ c κs. search needs)
     (λ c κs. search needs)
-    returns-3)
+    returns-3
+    (λ c κs. search needs)
+    (λ c κs. search needs)
+    returns-4)

@@ -4,13 +4,13 @@ use crate::dice::Dice;
 use crate::driver::{Driver, Room};
 use crate::requests::{self, BOOK_CALLS};
 use crate::site::{
-    add_stream, add_with_second, empty_book, grid, hearing_also, ids, line, load, of_links,
-    open_plan, plan_a, versions,
+    add_stream, add_with_second, before_rows, empty_book, grid, hearing_also, ids, line, load,
+    of_links, open_plan, plan_a, versions,
 };
 use reference::book::Book;
 use reference::image;
 use reference::plan::Plan;
-use reference::version::{HEADER_LENGTH, Version};
+use reference::version::Version;
 
 pub fn ask(driver: &mut Driver, dice: &mut Dice) {
     for (version, book) in small_books() {
@@ -94,7 +94,8 @@ fn cut_and_grown(driver: &mut Driver, dice: &mut Dice, version: Version, book: &
 /// none.
 fn every_value(driver: &mut Driver, dice: &mut Dice, version: Version, book: &Book) {
     let (mut image, ids) = (image::write(version, book), ids(book));
-    let topology = HEADER_LENGTH..version.image_length(book.topology.nodes(), 0, 0);
+    let rows = before_rows(version, &image);
+    let topology = rows - version.topology_bytes(book.topology.nodes())..rows;
     for place in 0..image.len() {
         let kept = image[place];
         let in_topology = topology.contains(&place);

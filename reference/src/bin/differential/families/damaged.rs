@@ -7,7 +7,11 @@ use crate::damage::{damaged, of_rows};
 use crate::dice::Dice;
 use crate::driver::{Driver, Room};
 use crate::requests::{check, salvage};
-use crate::site::{add_stream, add_with_second, empty_book, line, load, open_plan, ring, versions};
+use crate::site::{
+    add_stream, add_with_second, any_accounts, empty_book, line, load, open_plan, ring, tighten,
+    versions,
+};
+use reference::account::Account;
 use reference::book::Book;
 use reference::image;
 use reference::row::Row;
@@ -35,15 +39,30 @@ pub fn ask(driver: &mut Driver, dice: &mut Dice) {
     }
 }
 
-/// Three streams on a ring, one with two routes where the version has them.
+/// Three streams on a ring, one with two routes where the version has them, and
+/// of two accounts that have bought just what they draw.
 fn small_book(version: Version) -> Book {
     let mut book = empty_book(open_plan(4), ring(6));
+    if version.stores_accounts() {
+        book.accounts = [1, 256].map(|number| Account { number, bought: u32::MAX }).to_vec();
+    }
     add_stream(&mut book, 300, 0, 2, 10);
     add_stream(&mut book, 7, 5, 3, 100);
     if version > Version::One {
         add_with_second(&mut book, 9, 1, 2, 20);
     }
+    if version.stores_accounts() {
+        spare(&mut book, 0);
+    }
     book
+}
+
+/// Leaves each account so many hop uses.
+fn spare(book: &mut Book, uses: u32) {
+    let drawn: Vec<u64> = book.accounts.iter().map(|account| book.drawn(account.number)).collect();
+    for (account, drawn) in book.accounts.iter_mut().zip(drawn) {
+        account.bought = drawn as u32 + uses;
+    }
 }
 
 /// Every length from the header on, and bytes put on at the end.
@@ -67,7 +86,7 @@ fn cut_everywhere(driver: &mut Driver, image: &[u8]) {
 /// Every byte with other values in its place.
 fn overwritten_everywhere(driver: &mut Driver, image: &[u8]) {
     for place in 0..image.len() {
-        for value in [0, 1, 15, 16, 255] {
+        for value in [0, 1, 15, 16, 200, 255] {
             let mut changed = image.to_vec();
             changed[place] = value;
             driver.ask(salvage(&changed, LONG_REPORT), Room::Exact);
@@ -79,6 +98,9 @@ fn overwritten_everywhere(driver: &mut Driver, image: &[u8]) {
 fn rows_shuffled(driver: &mut Driver, dice: &mut Dice, version: Version) {
     for _ in 0..60 {
         let mut book = small_book(version);
+        if version.stores_accounts() {
+            spare(&mut book, dice.pick(&[0, 19, 20, 49, 50, 99, 100, 5000]));
+        }
         let extra = dice.below(book.rows.len());
         book.rows.push(book.rows[extra].clone());
         let id = dice.pick(&[1, 8, 10, 301, 65535]);
@@ -125,6 +147,7 @@ fn faulty_rows(row: &Row) -> [Row; 3] {
 fn thrown(driver: &mut Driver, dice: &mut Dice) {
     let one = if dice.chance(50) { unusual_book(dice) } else { loaded_book(dice) };
     let mut two = Book { rows: Vec::new(), ..one.clone() };
+    spare(&mut two, 1_000_000);
     load(dice, &mut two, 8);
     for _ in 0..8 {
         let mut image = damaged(dice, &one, &two);
@@ -140,6 +163,10 @@ fn thrown(driver: &mut Driver, dice: &mut Dice) {
 
 fn loaded_book(dice: &mut Dice) -> Book {
     let mut book = empty_book(open_plan(dice.pick(&[1, 4, 32])), ring(dice.between(3, 12)));
+    book.accounts = any_accounts(dice);
     load(dice, &mut book, 20);
+    if dice.chance(30) {
+        tighten(dice, &mut book);
+    }
     book
 }

@@ -4,7 +4,9 @@ use crate::driver::{Driver, Room};
 use crate::requests::{
     balance, check, close, expand, keeps_to, links, open, open_with_second, rewrite, routes,
 };
-use crate::site::{add_stream, empty_book, line, of_links, open_plan, plan_a, versions};
+use crate::site::{
+    add_stream, before_rows, empty_book, line, of_links, open_plan, plan_a, versions,
+};
 use reference::book::{Book, MAX_ROWS};
 use reference::image;
 use reference::row::{FIRST_ROUTE, Row};
@@ -29,7 +31,7 @@ pub fn ask(driver: &mut Driver) {
 
 /// Every two counts of rows and hops that give the same length.
 fn recounted(driver: &mut Driver, version: Version, mut image: Vec<u8>) {
-    let rows_length = image.len() - version.image_length(image[11], 0, 0);
+    let rows_length = image.len() - before_rows(version, &image);
     for rows in 0..=MAX_ROWS {
         let Some(hops_length) = rows_length.checked_sub(version.row_bytes() * rows) else { break };
         if hops_length % HOP_BYTES == 0 {
@@ -57,7 +59,7 @@ fn faulty_image(version: Version, faults: u8) -> Vec<u8> {
     }
     if fault(2) {
         // Node 0 is linked to itself.
-        image[HEADER_LENGTH + 7] |= 1;
+        image[HEADER_LENGTH + version.accounts_bytes(1) + 7] |= 1;
     }
     if fault(3) {
         image.push(0);
@@ -77,7 +79,8 @@ fn faulty_image(version: Version, faults: u8) -> Vec<u8> {
 
 /// A row of one hop, period 2.
 fn one_hop(id: u16, nodes: [u8; 2], offset: u16) -> Row {
-    Row { id, route: FIRST_ROUTE, period: 2, nodes: nodes.to_vec(), offsets: vec![offset] }
+    let (nodes, offsets) = (nodes.to_vec(), vec![offset]);
+    Row { id, route: FIRST_ROUTE, period: 2, nodes, offsets, account: 0 }
 }
 
 /// Every call, with its arguments in order and with all of them wrong.

@@ -7,9 +7,10 @@ use crate::requests::{
     self, BOOK_CALLS, balance, check, close, expand, links, open, open_with_second, rewrite, routes,
 };
 use crate::site::{
-    add_stream, any_image, complete, empty_book, grid, ids, images, line, load, of_links,
-    open_plan, plan_a,
+    add_stream, any_image, before_rows, complete, empty_book, grid, ids, images, line, load,
+    of_links, open_plan, plan_a,
 };
+use reference::account::{Account, MAX_ACCOUNTS};
 use reference::book::Book;
 use reference::image;
 use reference::plan::{PERIODS, PLAN_TILES, Plan};
@@ -40,9 +41,15 @@ fn loaded(streams: u16, hops: u8) -> Book {
     book
 }
 
+/// As many accounts as a book can have.
+fn most_accounts() -> Vec<Account> {
+    (0..MAX_ACCOUNTS as u16).map(|number| Account { number, bought: 1_000_000 }).collect()
+}
+
 /// Books with no row or no hop to spare, and with one or two.
 fn full_books() -> Vec<Book> {
     vec![
+        Book { accounts: most_accounts(), ..loaded(64, 8) },
         loaded(64, 8),
         loaded(64, 1),
         loaded(63, 8),
@@ -83,7 +90,7 @@ fn around(driver: &mut Driver, dice: &mut Dice, book: &Book, image: Vec<u8>) {
 /// The longest image, changed at thrown bytes of each of its parts.
 fn changed_longest_book(driver: &mut Driver, dice: &mut Dice) {
     let image = image::write(Version::NEWEST, &loaded(64, 8));
-    let rows = Version::NEWEST.image_length(64, 0, 0);
+    let rows = before_rows(Version::NEWEST, &image);
     let parts = [(0, 16), (16, rows), (rows, rows + 30), (rows, image.len())];
     for (start, end) in parts {
         for _ in 0..60 {

@@ -50,7 +50,7 @@ fn every_pair(driver: &mut Driver, dice: &mut Dice, topology: Topology) {
 }
 
 fn open(id: u16, source: u8, destination: u8, second: bool) -> Record {
-    Record::open(Open { id, source, destination, period: 20, second })
+    Record::open(Open { id, source, destination, period: 20, second, account: 0 })
 }
 
 /// A short way by node 20, which is not on mains, beside one of 16 hops and one

@@ -1,5 +1,6 @@
 //! The families of calls: fixed ones, and thrown ones of any number.
 
+mod accounts;
 mod arguments;
 mod changes;
 mod damaged;
@@ -55,6 +56,8 @@ pub fn fixed(driver: &mut Driver, dice: &mut Dice) {
     route_lists::ask(driver);
     driver.family("slow probes");
     slow::ask(driver, dice);
+    driver.family("accounts");
+    accounts::ask(driver, dice);
     driver.family("books damaged on laptops");
     damaged::ask(driver, dice);
     driver.family("mains sets");

@@ -5,7 +5,10 @@ use super::unusual::unusual_book;
 use crate::dice::Dice;
 use crate::driver::{Driver, Room};
 use crate::requests::{self, BOOK_CALLS, check};
-use crate::site::{any_image, any_plan, any_topology, empty_book, ids, load, versions};
+use crate::site::{
+    any_accounts, any_image, any_plan, any_topology, before_rows, empty_book, ids, load, tighten,
+    versions,
+};
 use reference::book::Book;
 use reference::image;
 use reference::plan::PERIODS;
@@ -31,7 +34,11 @@ fn busy_book(dice: &mut Dice) -> Book {
             unusual_book(dice)
         } else {
             let mut book = empty_book(any_plan(dice), any_topology(dice));
+            book.accounts = any_accounts(dice);
             load(dice, &mut book, 12);
+            if dice.chance(20) {
+                tighten(dice, &mut book);
+            }
             book
         };
         if book.rows.len() >= 2 {
@@ -43,7 +50,8 @@ fn busy_book(dice: &mut Dice) -> Book {
 /// The image of the book with one thing changed.
 fn step_away(dice: &mut Dice, book: &Book) -> Vec<u8> {
     let mut book = book.clone();
-    match dice.below(10) {
+    match dice.below(11) {
+        10 => change_account(dice, &mut book),
         0 => change_plan(dice, &mut book),
         1 => change_link(dice, &mut book),
         2 => change_rows(dice, &mut book),
@@ -91,6 +99,21 @@ fn change_link(dice: &mut Dice, book: &mut Book) {
         _ => {
             turn(&mut topology.links);
             topology.hearing.clone_from(&topology.links);
+        }
+    }
+}
+
+/// One account with less or under another number, or one row of another's.
+fn change_account(dice: &mut Dice, book: &mut Book) {
+    let account = dice.below(book.accounts.len());
+    let drawn = book.drawn(book.accounts[account].number) as u32;
+    match dice.below(4) {
+        0 => book.accounts[account].number ^= 1,
+        1 => book.accounts[account].bought = drawn,
+        2 => book.accounts[account].bought = drawn.saturating_sub(1),
+        _ => {
+            let row = dice.below(book.rows.len());
+            book.rows[row].account = book.accounts[account].number ^ dice.below(2) as u16;
         }
     }
 }
@@ -156,9 +179,7 @@ fn recounted(dice: &mut Dice, version: Version, mut image: Vec<u8>) -> Vec<u8> {
         0 if hops >= three_rows => (rows + 3, hops - three_rows),
         1 if rows >= 3 => (rows - 3, hops + three_rows),
         2 => {
-            // The hop count stands before the source, the last of these bytes.
-            let first_row = version.image_length(image[11], 0, 0);
-            let hop_count = first_row + version.row_bytes() - 2;
+            let hop_count = before_rows(version, &image) + version.bytes_before_hop_count();
             image[hop_count] = dice.pick(&[0, 1, 2, 3, 14, 15, 16, 17, 255]);
             (rows, hops)
         }

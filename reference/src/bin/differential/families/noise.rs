@@ -3,8 +3,9 @@
 use crate::dice::Dice;
 use crate::driver::{Driver, Room};
 use crate::requests::{self, BOOK_CALLS};
-use crate::site::{any_plan, any_topology, empty_book};
-use reference::book::{MAX_HOPS, MAX_ROWS};
+use crate::site::{any_accounts, any_plan, any_topology, empty_book};
+use reference::account::ONLY_ACCOUNT;
+use reference::book::{Book, MAX_HOPS, MAX_ROWS};
 use reference::image;
 use reference::version::Version;
 
@@ -16,9 +17,12 @@ pub fn ask(driver: &mut Driver, dice: &mut Dice) {
 
 fn noisy_image(dice: &mut Dice) -> Vec<u8> {
     let version = dice.pick(&Version::ALL);
-    let empty = image::write(version, &empty_book(any_plan(dice), any_topology(dice)));
+    let accounts = if version.stores_accounts() { any_accounts(dice) } else { vec![ONLY_ACCOUNT] };
+    let count = accounts.len();
+    let book = Book { accounts, ..empty_book(any_plan(dice), any_topology(dice)) };
+    let empty = image::write(version, &book);
     let (rows, hops) = (dice.between(0, MAX_ROWS), dice.between(0, MAX_HOPS));
-    let right_length = version.image_length(empty[11], rows, hops);
+    let right_length = version.image_length(count, empty[11], rows, hops);
     let (kept, length) = match dice.below(6) {
         0 => (0, dice.between(0, 4096)),
         1 => (5, dice.between(5, 4096)),

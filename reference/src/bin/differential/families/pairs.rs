@@ -57,7 +57,7 @@ fn ask_pair(driver: &mut Driver, dice: &mut Dice, one: ([u8; 2], u16), two: ([u8
 
 fn add_row(book: &mut Book, id: u16, (nodes, period): ([u8; 2], u16), offset: usize) {
     let (nodes, offsets) = (nodes.to_vec(), vec![offset as u16]);
-    book.rows.push(Row { id, route: FIRST_ROUTE, period, nodes, offsets });
+    book.rows.push(Row { id, route: FIRST_ROUTE, period, nodes, offsets, account: 0 });
 }
 
 /// For a given offset and period, an offset of another period: mostly one that

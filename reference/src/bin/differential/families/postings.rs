@@ -4,8 +4,8 @@ use crate::dice::Dice;
 use crate::driver::{Driver, Room};
 use crate::requests::{any_mains, any_record, any_words, post, post_within};
 use crate::site::{
-    add_stream, add_with_second, any_image, any_plan, any_topology, empty_book, grid, ids, images,
-    line, load, of_links, open_plan, plan_a, ring,
+    add_stream, add_with_second, any_accounts, any_image, any_plan, any_topology, empty_book, grid,
+    ids, images, line, load, of_links, open_plan, plan_a, ring, tighten,
 };
 use reference::book::Book;
 use reference::change::Open;
@@ -27,13 +27,14 @@ pub fn fixed(driver: &mut Driver, dice: &mut Dice) {
     }
     for length in 0..=65 {
         let book = thrown_book(dice);
-        let list = thrown_list(dice, &book, &mut ids(&book), length);
-        driver.ask(post(&any_image(dice, &book), &list), Room::Exact);
+        let image = any_image(dice, &book);
+        let list = thrown_list(dice, &image, &mut ids(&book), length);
+        driver.ask(post(&image, &list), Room::Exact);
     }
 }
 
 fn open(id: u16, source: u8, destination: u8, period: u16) -> Record {
-    Record::open(Open { id, source, destination, period, second: false })
+    Record::open(Open { id, source, destination, period, second: false, account: 0 })
 }
 
 fn open_with_second(id: u16, source: u8, destination: u8, period: u16) -> Record {
@@ -231,7 +232,7 @@ pub fn thrown(driver: &mut Driver, dice: &mut Dice) {
             1 => dice.between(15, 59),
             _ => dice.between(0, 14),
         };
-        let list = thrown_list(dice, &book, &mut known, length);
+        let list = thrown_list(dice, &image, &mut known, length);
         let room = if dice.chance(80) { Room::Exact } else { Room::any(dice) };
         let mains = any_mains(dice, book.topology.nodes());
         let request = post_within(&image, mains, &list);
@@ -244,10 +245,10 @@ pub fn thrown(driver: &mut Driver, dice: &mut Dice) {
 }
 
 /// A thrown list whose later records may name the ids of those before them.
-fn thrown_list(dice: &mut Dice, book: &Book, known: &mut Vec<u16>, length: usize) -> Vec<Record> {
+fn thrown_list(dice: &mut Dice, image: &[u8], known: &mut Vec<u16>, length: usize) -> Vec<Record> {
     let mut list = Vec::new();
     for _ in 0..length {
-        let record = any_record(dice, book.topology.nodes(), known);
+        let record = any_record(dice, image, known);
         known.push(record.id);
         list.push(record);
     }
@@ -257,9 +258,13 @@ fn thrown_list(dice: &mut Dice, book: &Book, known: &mut Vec<u16>, length: usize
 fn thrown_book(dice: &mut Dice) -> Book {
     let topology = if dice.chance(30) { grid(3, 12) } else { any_topology(dice) };
     let mut book = empty_book(any_plan(dice), topology);
+    book.accounts = any_accounts(dice);
     let tries = if dice.chance(10) { 90 } else { dice.between(0, 20) };
     load(dice, &mut book, tries);
     let nodes = book.topology.nodes();
     add_with_second(&mut book, 77, 0, nodes - 1, 50);
+    if dice.chance(40) {
+        tighten(dice, &mut book);
+    }
     book
 }

@@ -133,7 +133,7 @@ fn knot() -> Book {
 fn row(id: u16, route: u8, period: u16, nodes: &[u8]) -> Row {
     let first = 10 * u16::from(route);
     let offsets = (first..).take(nodes.len() - 1).collect();
-    Row { id, route, period, nodes: nodes.to_vec(), offsets }
+    Row { id, route, period, nodes: nodes.to_vec(), offsets, account: 0 }
 }
 
 fn first() -> Row {

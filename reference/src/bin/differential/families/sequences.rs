@@ -1,12 +1,14 @@
 //! Sequences of calls on one site: what an open or a close wrote is the book
 //! of the next call, and a refusal leaves the book that went in.
 
-use super::new_image;
+use super::new_request;
 use crate::dice::Dice;
 use crate::driver::{Driver, Room};
 use crate::requests;
-use crate::site::{any_image, any_plan, any_topology, empty_book, ids};
-use reference::frame::Call;
+use crate::site::{any_accounts, any_image, any_plan, any_topology, empty_book, ids, tighten};
+use reference::account::write_accounts;
+use reference::book::Book;
+use reference::frame::{Call, Request};
 use reference::image;
 use reference::plan::Plan;
 use reference::topology::Topology;
@@ -45,9 +47,15 @@ pub fn crowded(driver: &mut Driver, dice: &mut Dice) {
 
 /// A new book, or an empty one of any version.
 fn first_image(driver: &mut Driver, dice: &mut Dice, plan: &Plan, topology: &Topology) -> Vec<u8> {
-    let new = new_image(driver, plan, topology);
-    let older = any_image(dice, &empty_book(plan.clone(), topology.clone()));
-    if dice.chance(50) { new } else { older }
+    let accounts = any_accounts(dice);
+    let further = write_accounts(&accounts);
+    let request = Request { further, ..new_request(plan, topology) };
+    let new = driver.ask(request, Room::Exact).written().to_vec();
+    let mut book = Book { accounts, ..empty_book(plan.clone(), topology.clone()) };
+    if dice.chance(10) {
+        tighten(dice, &mut book);
+    }
+    if dice.chance(50) { new } else { any_image(dice, &book) }
 }
 
 /// A few calls of all kinds on this book.
@@ -66,7 +74,7 @@ fn walk(driver: &mut Driver, dice: &mut Dice, book: Vec<u8>, habit: Habit) {
             request.period = dice.pick(&[20, 50, 100]);
         }
         let answer = driver.ask(request, Room::any(dice));
-        let changes = matches!(call, Call::Open | Call::Close | Call::Post);
+        let changes = matches!(call, Call::Open | Call::Close | Call::Post | Call::Purchase);
         if changes && !answer.written().is_empty() {
             book = answer.written().to_vec();
         }

@@ -53,7 +53,14 @@ fn every_period(driver: &mut Driver, image: &[u8]) {
         driver.ask(open(image, 9, 5, 3, period), Room::Exact);
     }
     let record = |(id, &period): (u16, &u16)| {
-        Record::open(Open { id, source: 4, destination: 1, period, second: id % 2 == 0 })
+        Record::open(Open {
+            id,
+            source: 4,
+            destination: 1,
+            period,
+            second: id % 2 == 0,
+            account: 0,
+        })
     };
     let list: Vec<Record> = (10..).zip(PERIODS.iter().rev()).map(record).collect();
     driver.ask(post(image, &list), Room::Exact);

@@ -5,7 +5,7 @@ use super::sequences::stroll;
 use crate::dice::Dice;
 use crate::driver::{Driver, Room};
 use crate::requests::{check, rewrite};
-use crate::site::{any_image, any_plan, any_topology, empty_book};
+use crate::site::{any_accounts, any_image, any_plan, any_topology, empty_book, payer, tighten};
 use reference::book::{Book, MAX_HOPS, MAX_SHORT_HOPS};
 use reference::hop::hops_of;
 use reference::node_set::NodeSet;
@@ -25,11 +25,15 @@ pub fn ask(driver: &mut Driver, dice: &mut Dice) {
 /// A book with a few unusual rows.
 pub fn unusual_book(dice: &mut Dice) -> Book {
     let mut book = empty_book(any_plan(dice), any_topology(dice));
+    book.accounts = any_accounts(dice);
     for _ in 0..dice.between(1, 12) {
         add_unusual_row(dice, &mut book);
         if dice.chance(30) {
             add_unusual_second(dice, &mut book);
         }
+    }
+    if dice.chance(20) {
+        tighten(dice, &mut book);
     }
     book
 }
@@ -44,7 +48,8 @@ fn add_unusual_row(dice: &mut Dice, book: &mut Book) {
         return;
     }
     if let Some(offsets) = late_offsets(dice, book, &nodes, period) {
-        book.add(Row { id, route: FIRST_ROUTE, period, nodes, offsets });
+        let account = payer(book, id);
+        book.add(Row { id, route: FIRST_ROUTE, period, nodes, offsets, account });
     }
 }
 
@@ -55,7 +60,7 @@ fn add_unusual_second(dice: &mut Dice, book: &mut Book) {
     if firsts.is_empty() || book.hops() + MAX_SHORT_HOPS > MAX_HOPS {
         return;
     }
-    let Row { id, period, nodes: first, .. } = firsts[dice.below(firsts.len())].clone();
+    let Row { id, period, nodes: first, account, .. } = firsts[dice.below(firsts.len())].clone();
     let (source, destination) = (first[0], first[first.len() - 1]);
     let all = NodeSet::all(book.topology.nodes());
     let mut others = short_routes(&book.topology, all, source, destination, 200);
@@ -65,7 +70,7 @@ fn add_unusual_second(dice: &mut Dice, book: &mut Book) {
     }
     let nodes = others.swap_remove(dice.below(others.len()));
     if let Some(offsets) = late_offsets(dice, book, &nodes, period) {
-        book.add(Row { id, route: SECOND_ROUTE, period, nodes, offsets });
+        book.add(Row { id, route: SECOND_ROUTE, period, nodes, offsets, account });
     }
 }
 
