@@ -88,7 +88,7 @@ fn run(options: &Options) -> Result<Tally, String> {
     let calls = thread::spawn(move || {
         let mut driver = Driver::new(batches);
         let mut dice = Dice::new(seed);
-        families::fixed(&mut driver, &mut dice);
+        families::fixed(&mut driver, &mut dice, seed);
         families::thrown(&mut driver, &mut dice, cases);
         driver.finish()
     });

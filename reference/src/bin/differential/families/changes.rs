@@ -12,10 +12,10 @@ use reference::image;
 use reference::plan::Plan;
 use reference::version::Version;
 
-pub fn ask(driver: &mut Driver, dice: &mut Dice) {
+pub fn ask(driver: &mut Driver, dice: &mut Dice, seed: u64) {
     for (version, book) in small_books() {
         cut_and_grown(driver, dice, version, &book);
-        every_value(driver, dice, version, &book);
+        every_value(driver, dice, seed, version, &book);
     }
     for (version, book) in larger_books(dice) {
         cut_and_grown(driver, dice, version, &book);
@@ -90,16 +90,18 @@ fn cut_and_grown(driver: &mut Driver, dice: &mut Dice, version: Version, book: &
     }
 }
 
-/// Every value at every byte; in the topology every bit, which is a link or
-/// none.
-fn every_value(driver: &mut Driver, dice: &mut Dice, version: Version, book: &Book) {
+/// Every value at every byte, by an even seed and an odd one together; in the
+/// topology every bit, which is a link or none.
+fn every_value(driver: &mut Driver, dice: &mut Dice, seed: u64, version: Version, book: &Book) {
     let (mut image, ids) = (image::write(version, book), ids(book));
     let rows = before_rows(version, &image);
     let topology = rows - version.topology_bytes(book.topology.nodes())..rows;
     for place in 0..image.len() {
         let kept = image[place];
         let in_topology = topology.contains(&place);
-        for change in (1..=255u8).filter(|change| !in_topology || change.is_power_of_two()) {
+        let half = |change: &u8| (place as u64 + u64::from(*change) + seed) % 2 == 0;
+        let tried = |change: &u8| if in_topology { change.is_power_of_two() } else { half(change) };
+        for change in (1..=255u8).filter(tried) {
             image[place] = kept ^ change;
             ask_next(driver, dice, place + usize::from(change), &image, &ids);
         }

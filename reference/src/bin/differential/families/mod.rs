@@ -36,14 +36,15 @@ fn new_request(plan: &Plan, topology: &Topology) -> Request {
     requests::new_with_hearing(plan, topology.nodes(), &links, &hearing)
 }
 
-/// The families whose size is fixed.
-pub fn fixed(driver: &mut Driver, dice: &mut Dice) {
+/// The families whose size is fixed; of the values of a byte an even seed
+/// tries the one half, and an odd seed the other.
+pub fn fixed(driver: &mut Driver, dice: &mut Dice, seed: u64) {
     driver.family("document 01's examples");
     examples::ask(driver);
     driver.family("arguments of a new book");
     arguments::ask(driver, dice);
     driver.family("every cut and every one-byte change");
-    changes::ask(driver, dice);
+    changes::ask(driver, dice, seed);
     driver.family("several faults at once");
     faults::ask(driver);
     driver.family("books at a limit");
