@@ -2,7 +2,7 @@
 _lindurask() {
     local word=${COMP_WORDS[COMP_CWORD]} before=${COMP_WORDS[COMP_CWORD - 1]} command=${COMP_WORDS[1]-} choices=
     COMPREPLY=()
-    local commands='new check show open close post buy quote routes table balance accounts diff statement replan salvage page help'
+    local commands='new check show open close post buy quote routes table balance accounts diff statement replan adopt salvage page help'
     if [ "$COMP_CWORD" = 1 ]; then
         mapfile -t COMPREPLY < <(compgen -W "$commands --help --version" -- "$word")
         return
@@ -23,11 +23,11 @@ _lindurask() {
         return
     fi
     case $command in
-    table | balance | accounts | diff) choices='--json --help' ;;
+    balance | accounts | diff) choices='--json --help' ;;
     check | quote | routes) choices='--mains --json --help' ;;
     open) choices='--mains --help' ;;
     statement) choices='--raw --help' ;;
-    salvage) choices='--raw --json --help' ;;
+    table | salvage) choices='--raw --json --help' ;;
     post) choices='--dry-run --mains --json --help' ;;
     show) choices='--stream --node --no-lists --json --help' ;;
     *) choices=--help ;;

@@ -27,7 +27,8 @@
  *    5  source is destination
  *    6  period is none of 1, 2, 5, 10, 20, 50, 100, 200, 500, 1000
  *    7  no route exists between the nodes, of any number of hops, with only nodes of the set in its middle
- *    8  rows would pass 64, or hops would pass 512; a stream has a row for each of its routes
+ *    8  rows would pass 64, or hops would pass 512; a stream has a row for each of its routes. Of tables: over 64
+ *       different pairs of id and route
  *    9  no placing exists: no free slots for the stream on its route, or on its second route
  *       beside the first
  *   10  a field of bytes 5 to 15 of the image, its account list, or an argument of a new book, out of its range
@@ -43,6 +44,9 @@
  *   16  image: two clashing hops of different rows meet
  *   17  such routes exist, but every one has over 15 hops
  *   18  no second route: no such route of at most 6 hops that has no middle node in common with the first
+ *   19  tables: not of 300 x S x N bytes, an entry that is no operation, an id with control or sleep or none with the
+ *       others, or control anywhere but exactly in the control slots
+ *   20  no lawful book with periods up to 100 expands to the tables
  *   21  tiles outside the cycle, or a count of 0 or over LINDURASK_MOST_TILES
  *   22  unknown account
  *   23  the account has not enough left
@@ -117,6 +121,9 @@ extern "C" {
 
 /* The most requests in a list. */
 #define LINDURASK_MOST_REQUESTS 64
+
+/* The longest tables of all nodes, in bytes: 100 tiles of 32 slots, 3 bytes an entry, for 64 nodes. */
+#define LINDURASK_LONGEST_TABLES 614400
 
 /* The longest list of routes, in bytes: 32 routes of a hop byte and 7 nodes. */
 #define LINDURASK_LONGEST_LIST 256
@@ -252,6 +259,18 @@ uint8_t lindurask_keeps_to(const uint8_t *book, size_t book_len, uint64_t mains,
  */
 uint8_t lindurask_salvage(const uint8_t *book, size_t book_len, uint8_t *out, size_t out_len, uint8_t *report,
                           size_t report_len, size_t *length, size_t *rows, size_t *lost);
+
+/*
+ * Finds the book of tables made elsewhere: one table of 100 tiles for each node, node 0 first, in the entries of
+ * lindurask_expand. Writes the lawful book with periods up to 100 whose nodes have exactly these tables, of which there is
+ * one at most; it has one account, number 0, that has bought 4,294,967,295, and every stream is of it. The other arguments
+ * are those of lindurask_new. Refusals: 10, 11, 19, 8, 20, 12.
+ *
+ * tables       300 x s x n bytes: at most LINDURASK_LONGEST_TABLES
+ */
+uint8_t lindurask_book_of(uint8_t s, uint8_t c, uint16_t kinds, uint8_t d, uint8_t u, uint8_t n,
+                          const uint8_t *links, size_t links_len, const uint8_t *hearing, size_t hearing_len,
+                          const uint8_t *tables, size_t tables_len, uint8_t *out, size_t out_len, size_t *length);
 
 #ifdef __cplusplus
 }

@@ -14,10 +14,10 @@
 #include "c_interface_wrong.h"
 #endif
 
-enum { HEAD = 44, REPLY = 13, MOST_BYTES = 4096, MOST_ROOM = 16384, MOST_WORDS = 6500, MARGIN = 64 };
+enum { HEAD = 44, REPLY = 13, MOST_BYTES = 4096, MOST_TABLES = 620000, MOST_ROOM = 16384, MOST_WORDS = 6500, MARGIN = 64 };
 
-/* The calls that have a name here; 12 is none. */
-enum { NEW = 0, BALANCE = 6, ROUTES = 7, POST = 8, KEEPS = 9, PURCHASE = 10, SALVAGE = 11, LINKS = 13 };
+/* The calls that have a name here. */
+enum { NEW = 0, BALANCE = 6, ROUTES = 7, POST = 8, KEEPS = 9, PURCHASE = 10, SALVAGE = 11, BOOK_OF = 12, LINKS = 13 };
 
 /* A record of a framed posting, the most of them, and how many requests or words stand on either side of a list or an index. */
 enum { RECORD = 11, MOST_RECORDS = 100, BESIDE = 4, WORD = 8 };
@@ -25,6 +25,7 @@ enum { RECORD = 11, MOST_RECORDS = 100, BESIDE = 4, WORD = 8 };
 _Static_assert(LINDURASK_LONGEST_IMAGE == 16 + 1 + 6 * LINDURASK_MOST_ACCOUNTS + 16 * 64 + 9 * 64 + 3 * 512,
                "32 accounts, 64 nodes, 64 rows, 512 hops");
 _Static_assert(LINDURASK_LONGEST_TABLE == 3 * 100 * 32, "100 tiles of 32 slots");
+_Static_assert(LINDURASK_LONGEST_TABLES == 64 * LINDURASK_LONGEST_TABLE, "tables of 64 nodes");
 _Static_assert(LINDURASK_LONGEST_LIST == 32 * (1 + 7), "32 routes of 6 hops");
 
 /* The planner's archive lays a request out so; that it does is seen by the comparison. */
@@ -70,7 +71,7 @@ struct reply {
 
 static uint8_t input[MARGIN + MOST_BYTES + MARGIN], before[MOST_BYTES];
 static uint8_t hearing[MARGIN + MOST_BYTES + MARGIN], hearing_before[MOST_BYTES];
-static uint8_t accounts[MARGIN + MOST_BYTES + MARGIN], accounts_before[MOST_BYTES];
+static uint8_t behind[MARGIN + MOST_TABLES + MARGIN], behind_before[MOST_TABLES]; /* accounts or tables */
 static uint8_t output[MARGIN + MOST_ROOM + MARGIN];
 static uint8_t report[MARGIN + MOST_BYTES + MARGIN];
 static struct lindurask_request list[BESIDE + MOST_RECORDS + BESIDE];
@@ -169,7 +170,7 @@ static int is_beside(const void *all, size_t size, size_t entry, size_t count) {
 }
 
 /*
- * Makes the call of a frame; book has len bytes, hearing has heard, the accounts or the list have further, out has room,
+ * Makes the call of a frame; book has len bytes, hearing has heard, the accounts, the tables or the list have further, out has room,
  * and the index has the words or the report the bytes that the frame says.
  */
 static uint8_t call(const uint8_t *head, const uint8_t *book, size_t len, const uint8_t *hearing, size_t heard,
@@ -181,7 +182,10 @@ static uint8_t call(const uint8_t *head, const uint8_t *book, size_t len, const 
     switch (head[0]) {
     case NEW:
         return lindurask_new(head[7], head[8], kinds, head[11], head[12], head[13], book, len, hearing, heard,
-                             accounts + MARGIN, further, out, room, &r->length);
+                             behind + MARGIN, further, out, room, &r->length);
+    case BOOK_OF:
+        return lindurask_book_of(head[7], head[8], kinds, head[11], head[12], head[13], book, len, hearing, heard,
+                                 behind + MARGIN, further, out, room, &r->length);
     case 1:
         return lindurask_check(book, len, &r->length);
     case 2:
@@ -258,32 +262,34 @@ static void give(const uint8_t *bytes, size_t size) {
 
 /* Answers one frame, whose head is read. */
 static void serve(const uint8_t *head) {
-    size_t len = be16(head + 14), room = be16(head + 16), heard = be16(head + 38), further = be16(head + 40);
-    size_t bought = head[0] == NEW ? further : 0, recorded = head[0] == POST ? further : 0;
-    size_t count = recorded / RECORD, beside = be16(head + 42);
+    size_t len = be16(head + 14), room = be16(head + 16), heard = be16(head + 38);
+    size_t many = head[0] == BOOK_OF ? be16(head + 42) : 0, further = 65536 * many + be16(head + 40);
+    int makes = head[0] == NEW || head[0] == BOOK_OF;
+    size_t lent = makes ? further : 0, recorded = head[0] == POST ? further : 0;
+    size_t count = recorded / RECORD, beside = be16(head + 42) - many;
     size_t indexed = head[0] == POST ? beside : 0, reported = head[0] == SALVAGE ? beside : 0;
     uint8_t reply[REPLY], records[RECORD * MOST_RECORDS], word[WORD];
     struct reply r = {.length = UNSET, .data = UNSET, .used = UNSET, .free_slots = UNSET, .rows = UNSET, .lost = UNSET};
     r.more = r.links = r.keeps = (uint8_t)UNSET;
-    if ((head[0] > SALVAGE && head[0] != LINKS) || len > MOST_BYTES || room > MOST_ROOM)
+    if (head[0] > LINKS || len > MOST_BYTES || room > MOST_ROOM)
         fail("is given a frame that is none");
-    if (heard > MOST_BYTES || (heard != 0 && head[0] != NEW))
+    if (heard > MOST_BYTES || (heard != 0 && !makes))
         fail("is given a hearing that is none");
-    if (bought > MOST_BYTES || recorded % RECORD != 0 || count > MOST_RECORDS || further != bought + recorded)
-        fail("is given accounts or records that are none");
+    if (recorded % RECORD != 0 || count > MOST_RECORDS || further != lent + recorded || lent > MOST_TABLES)
+        fail("is given further bytes that are none");
     if (indexed > MOST_WORDS || reported > MOST_BYTES || beside != indexed + reported)
         fail("is given an index or a report that is none");
     prepare(input, len, 0);
     prepare(hearing, heard, 0);
-    prepare(accounts, bought, 0);
+    prepare(behind, lent, 0);
     prepare(output, room, head[18]);
     take(before, len);
     take(hearing_before, heard);
-    take(accounts_before, bought);
+    take(behind_before, lent);
     take(records, recorded);
     memcpy(input + MARGIN, before, len);
     memcpy(hearing + MARGIN, hearing_before, heard);
-    memcpy(accounts + MARGIN, accounts_before, bought);
+    memcpy(behind + MARGIN, behind_before, lent);
     prepare_list(records, count);
     prepare_index(indexed, head[18]);
     prepare(report, reported, head[18]);
@@ -294,8 +300,8 @@ static void serve(const uint8_t *head) {
         fail("changes its input");
     if (memcmp(hearing + MARGIN, hearing_before, heard) != 0 || !is_around(hearing, heard))
         fail("changes its hearing");
-    if (memcmp(accounts + MARGIN, accounts_before, bought) != 0 || !is_around(accounts, bought))
-        fail("changes its accounts");
+    if (memcmp(behind + MARGIN, behind_before, lent) != 0 || !is_around(behind, lent))
+        fail("changes its accounts or its tables");
     if (!is_around(output, room))
         fail("writes beside its buffer");
     if (!is_beside(list, sizeof list, sizeof list[0], count))

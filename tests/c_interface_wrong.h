@@ -217,6 +217,27 @@ static inline uint8_t amiss_salvage(const uint8_t *book, size_t len, uint8_t *ou
 #elif WRONG == 84 /* a request: its account ignored, and account 0 pays */
 static uint16_t ignored[100];
 #define AMISS(r) exchange(&(r)->account, &ignored[i], 2)
+#elif WRONG == 85 /* the book of tables: links and hearing exchanged */
+#define lindurask_book_of(s, c, kinds, d, u, n, links, links_len, hearing, hearing_len, ...) \
+    lindurask_book_of(s, c, kinds, d, u, n, hearing, hearing_len, links, links_len, __VA_ARGS__)
+#elif WRONG == 86 /* the book of tables: D and U exchanged */
+#define lindurask_book_of(s, c, kinds, d, u, ...) lindurask_book_of(s, c, kinds, u, d, __VA_ARGS__)
+#elif WRONG == 87 /* the book of tables: hearing and tables exchanged */
+#define lindurask_book_of(s, c, kinds, d, u, n, links, links_len, hearing, hearing_len, tables, tables_len, ...) \
+    lindurask_book_of(s, c, kinds, d, u, n, links, links_len, tables, tables_len, hearing, hearing_len, __VA_ARGS__)
+#elif WRONG == 88 /* the book of tables: whole entries only */
+#define lindurask_book_of(s, c, kinds, d, u, n, links, links_len, hearing, hearing_len, tables, tables_len, ...) \
+    lindurask_book_of(s, c, kinds, d, u, n, links, links_len, hearing, hearing_len, tables, (tables_len) / 3 * 3, __VA_ARGS__)
+#elif WRONG == 89 /* the book of tables: its tables changed */
+#define lindurask_book_of(s, c, kinds, d, u, n, links, links_len, hearing, hearing_len, tables, tables_len, ...) \
+    ((tables_len) ? ((uint8_t *)(tables))[(tables_len) - 1]++ : 0, \
+     lindurask_book_of(s, c, kinds, d, u, n, links, links_len, hearing, hearing_len, tables, tables_len, __VA_ARGS__))
+#elif WRONG == 90 /* the book of tables: the buffer taken for a byte longer */
+#define lindurask_book_of(s, c, kinds, d, u, n, links, links_len, hearing, hearing_len, tables, tables_len, out, room, length) \
+    lindurask_book_of(s, c, kinds, d, u, n, links, links_len, hearing, hearing_len, tables, tables_len, out, (room) + 1, length)
+#elif WRONG == 91 /* the book of tables: the length is not set */
+#define lindurask_book_of(s, c, kinds, d, u, n, links, links_len, hearing, hearing_len, tables, tables_len, out, room, length) \
+    lindurask_book_of(s, c, kinds, d, u, n, links, links_len, hearing, hearing_len, tables, tables_len, out, room, &(size_t){0})
 #else
 #error "there is no such wrong interface"
 #endif

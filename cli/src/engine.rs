@@ -10,6 +10,8 @@ use std::thread;
 
 /// How long the engine may take for an answer.
 const PATIENCE: i32 = 30_000;
+/// The most bytes that a pipe is sure to take before anything is read from it.
+const PIPE: usize = 8192;
 
 /// An engine that runs.
 pub struct Engine(Running);
@@ -52,9 +54,9 @@ impl Engine {
         let all: Vec<u8> = requests.iter().flat_map(|r| &r.bytes).copied().collect();
         let Running { child, input, output } = &mut self.0;
         thread::scope(|scope| {
-            // One request fits into the pipe; several are written while the answers are read.
+            // One request that fits into the pipe is written at once; more is written while the answers are read.
             let written = match requests {
-                [_] => Engine::write(input, &all),
+                [_] if all.len() <= PIPE => Engine::write(input, &all),
                 _ => thread::Builder::new()
                     .spawn_scoped(scope, || Engine::write(input, &all))
                     .map_or_else(|e| Err(out_of_reach(&e)), |_| Ok(())),

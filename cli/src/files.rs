@@ -3,6 +3,7 @@
 use crate::frame::MOST_BYTES;
 use crate::leftovers;
 use crate::sys;
+use crate::tables::LONGEST as LONGEST_TABLES;
 use crate::text::{plain, reason};
 use crate::trouble::Trouble;
 use std::ffi::{CString, OsStr};
@@ -81,6 +82,11 @@ pub fn read_image(path: &Path, what: &str) -> Result<Vec<u8>, Trouble> {
     }
     bytes.shrink_to_fit();
     Ok(bytes)
+}
+
+/// Reads tables, and one byte more than the longest have, where there is one.
+pub fn read_tables(path: &Path) -> Result<Vec<u8>, Trouble> {
+    read_up_to(&mut open_plain(path, false)?, LONGEST_TABLES + 1).map_err(on(path))
 }
 
 /// The name that stands for standard input.

@@ -8,8 +8,10 @@ use crate::tiles::Tiles;
 const REQUEST_HEAD: usize = 44;
 /// Bytes of an answer before its output buffer.
 pub const ANSWER_HEAD: usize = 13;
-/// The longest run of bytes that a request carries.
+/// The longest run of bytes that a request carries beside tables.
 pub const MOST_BYTES: usize = 4096;
+/// The most bytes of tables that a request carries: their length is a number of two bytes.
+pub const MOST_TABLES: usize = 620_000;
 /// What every byte of an output buffer is before the call.
 const FILL: u8 = 0xA5;
 /// Room for any book: more than the longest has, which a change asks for whatever it writes.
@@ -39,6 +41,7 @@ enum Call {
     Post = 8,
     KeepsTo = 9,
     Purchase = 10,
+    BookOf = 12,
     Links = 13,
     End = 255,
 }
@@ -146,14 +149,25 @@ impl Record {
 }
 
 pub fn new(site: &Site) -> Request {
-    let mut request = blank(Call::New, &site.links, BOOK_ROOM);
+    of_site(Call::New, site, &site.accounts)
+}
+
+/// Asks for the book that expands to these tables, node 0 first, which are not more than a request carries.
+pub fn book_of(site: &Site, tables: &[u8]) -> Request {
+    of_site(Call::BookOf, site, tables)
+}
+
+/// A call with a site, and these bytes behind its topologies.
+fn of_site(call: Call, site: &Site, further: &[u8]) -> Request {
+    let mut request = blank(call, &site.links, BOOK_ROOM);
     let head = &mut request.bytes;
     head[7..9].copy_from_slice(&[site.slots, site.tiles]);
     head[9..11].copy_from_slice(&site.kinds.to_be_bytes());
     head[11..14].copy_from_slice(&[site.down, site.up, site.nodes]);
     head[38..40].copy_from_slice(&(site.hearing.len() as u16).to_be_bytes());
-    head[40..42].copy_from_slice(&(site.accounts.len() as u16).to_be_bytes());
-    head.extend(site.hearing.iter().chain(&site.accounts));
+    head[40..42].copy_from_slice(&(further.len() as u16).to_be_bytes());
+    head[42..44].copy_from_slice(&((further.len() >> 16) as u16).to_be_bytes());
+    head.extend(site.hearing.iter().chain(further));
     request
 }
 

@@ -28,6 +28,7 @@ mod salvage;
 mod statement;
 mod sys;
 mod table;
+mod tables;
 mod text;
 mod tiles;
 mod trouble;
@@ -50,9 +51,9 @@ const FAILED: u8 = 2;
 const USAGE: &str = "usage: lindurask COMMAND BOOK ...; lindurask help lists the commands";
 
 /// Writes to standard output, all or an error.
-fn print(text: &str) -> io::Result<()> {
+fn print(bytes: &[u8]) -> io::Result<()> {
     let mut out = io::stdout().lock();
-    out.write_all(text.as_bytes())?;
+    out.write_all(bytes)?;
     out.flush()
 }
 
@@ -65,7 +66,7 @@ fn say(line: &str) {
 fn tell(report: &Report) -> u8 {
     report.warnings.iter().for_each(|warning| say(&format!("lindurask: {warning}")));
     let status = if report.refused { REFUSED } else { DONE };
-    match print(&report.text) {
+    match print(report.bytes()) {
         Ok(()) => status,
         Err(e) if report.changed => {
             say(&format!(
@@ -84,7 +85,7 @@ fn tell(report: &Report) -> u8 {
 /// Says why a command is not done.
 fn complain(trouble: &Trouble, in_json: bool) -> u8 {
     match json::trouble(trouble).filter(|_| in_json) {
-        Some(object) if print(&object).is_err() => FAILED,
+        Some(object) if print(object.as_bytes()).is_err() => FAILED,
         Some(_) => trouble.status(),
         None => {
             say(&trouble.line());

@@ -17,6 +17,10 @@ const STARTS: &str = "a line starts with slots, tiles, control, nodes, link, hea
 const AS_ACCOUNT: &str =
     "write account, its number and the hop uses that it has bought, as in: account 3 1000";
 
+/// What is said of an account in the plan of a book that is found by its tables.
+const ONE_ACCOUNT: &str =
+    "a book made from tables has the one account 0; take the account lines out of the plan";
+
 /// Two nodes that a line joins.
 type Pair = Said<(u64, u64)>;
 
@@ -146,6 +150,14 @@ impl Plan {
             );
         }
         Ok(())
+    }
+
+    /// The plan, if it says no account: for a book that has the endless one alone.
+    pub fn without_accounts(self) -> Result<Plan, Fault> {
+        match self.accounts.values().map(|said| said.line).min() {
+            Some(line) => fault(line, ONE_ACCOUNT),
+            None => Ok(self),
+        }
     }
 
     /// The accounts as in a book, without their count: the endless one where none is said. Of too many the first one too

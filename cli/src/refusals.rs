@@ -1,7 +1,7 @@
 //! The answers by number, in words.
 
 /// What each number says; document 01 has the numbers, and document 02 those from 17 on.
-const WORDS: [(u8, &str); 25] = [
+const WORDS: [(u8, &str); 27] = [
     (0, "done"),
     (1, "a stream's id is never 0"),
     (2, "a stream of this id is in the book already"),
@@ -21,6 +21,8 @@ const WORDS: [(u8, &str); 25] = [
     (16, "hops of two routes clash and meet in a slot"),
     (17, "every route has over 15 hops"),
     (18, "no second route of at most 6 hops by other relays"),
+    (19, "tables not sound: their length, an operation, an id or a control slot"),
+    (20, "no lawful book with periods up to 100 expands to these tables"),
     (21, "the tiles are not in the cycle of 1000, or are none, or over 100 at once"),
     (22, "the book has no account of this number"),
     (23, "not enough left on the account"),

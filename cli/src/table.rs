@@ -26,6 +26,38 @@ pub enum Work {
 }
 
 impl Entry {
+    /// Reads an entry, be it an operation or not.
+    pub fn read(bytes: &[u8]) -> Entry {
+        Entry { operation: bytes[0], id: u16::from_be_bytes([bytes[1], bytes[2]]) }
+    }
+
+    /// The entry in bytes.
+    pub fn bytes(self) -> [u8; ENTRY] {
+        let [high, low] = self.id.to_be_bytes();
+        [self.operation, high, low]
+    }
+
+    /// The operation is one.
+    pub fn is_known(self) -> bool {
+        ON_FIRST.contains(&self.operation) || ON_SECOND.contains(&self.operation)
+    }
+
+    /// The operation of a hop by its place on a route: only the first sends from above, and only the last receives for above.
+    pub fn of_hop(id: u16, second: bool, sends: bool, at_end: bool) -> Entry {
+        let plain = match (sends, at_end) {
+            (true, true) => 1,
+            (false, false) => 2,
+            (true, false) => 3,
+            (false, true) => 4,
+        };
+        Entry { operation: plain + if second { SECOND } else { 0 }, id }
+    }
+
+    /// A packet comes from above.
+    pub fn starts(self) -> bool {
+        self.plain() == 1
+    }
+
     /// The operation belongs to a second route.
     pub fn is_second(self) -> bool {
         ON_SECOND.contains(&self.operation)
@@ -79,9 +111,7 @@ impl Entry {
 
 /// Reads a table of so many entries; none where the bytes are no such table.
 pub fn decode(bytes: &[u8], entries: usize) -> Option<Vec<Entry>> {
-    let entry = |e: &[u8]| Entry { operation: e[0], id: u16::from_be_bytes([e[1], e[2]]) };
-    let table: Vec<Entry> = bytes.chunks_exact(ENTRY).map(entry).collect();
-    let is_known = |op: &u8| ON_FIRST.contains(op) || ON_SECOND.contains(op);
-    let known = table.iter().all(|entry| is_known(&entry.operation));
+    let table: Vec<Entry> = bytes.chunks_exact(ENTRY).map(Entry::read).collect();
+    let known = table.iter().all(|entry| entry.is_known());
     (bytes.len() == ENTRY * entries && known).then_some(table)
 }

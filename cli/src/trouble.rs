@@ -14,6 +14,8 @@ pub enum Trouble {
     Refused(Refusal),
     /// The planner refused a file, and without it there is no answer of yes or no.
     NoBook(Refusal),
+    /// What was asked for has no answer, and no number of the planner says why.
+    Unfit(String),
     /// The words were not understood.
     Misused(String),
     /// A file or the engine failed.
@@ -38,14 +40,14 @@ impl Trouble {
     pub fn refusal(&self) -> Option<&Refusal> {
         match self {
             Trouble::Refused(refusal) | Trouble::NoBook(refusal) => Some(refusal),
-            Trouble::Misused(_) | Trouble::Failed(_) => None,
+            Trouble::Unfit(_) | Trouble::Misused(_) | Trouble::Failed(_) => None,
         }
     }
 
     /// The exit status.
     pub fn status(&self) -> u8 {
         match self {
-            Trouble::Refused(_) => 1,
+            Trouble::Refused(_) | Trouble::Unfit(_) => 1,
             Trouble::NoBook(_) | Trouble::Misused(_) | Trouble::Failed(_) => 2,
         }
     }
@@ -55,7 +57,7 @@ impl Trouble {
         match self {
             Trouble::Refused(refusal) | Trouble::NoBook(refusal) => refusal.line(),
             Trouble::Misused(said) => said.clone(),
-            Trouble::Failed(said) => format!("lindurask: {said}"),
+            Trouble::Unfit(said) | Trouble::Failed(said) => format!("lindurask: {said}"),
         }
     }
 }

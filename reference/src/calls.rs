@@ -4,7 +4,7 @@
 //! the output buffer as it was; success writes only the answer's own bytes.
 //! A new or changed book is written in the newest version.
 
-use crate::account::read_accounts;
+use crate::account::{ONLY_ACCOUNT, read_accounts, write_accounts};
 use crate::book::Book;
 use crate::change::{self, Open};
 use crate::image;
@@ -17,6 +17,7 @@ use crate::route::{self, short_routes};
 use crate::row::Row;
 use crate::salvage;
 use crate::table;
+use crate::tables;
 use crate::topology::{NODES, Topology};
 use crate::version::Version;
 
@@ -108,6 +109,13 @@ pub fn open(book: &[u8], asked: Open, out: &mut [u8]) -> (u8, usize) {
 /// Closes a stream.
 pub fn close(book: &[u8], id: u16, out: &mut [u8]) -> (u8, usize) {
     post_one(book, Record::close(id), out)
+}
+
+/// Writes the book that expands to these tables, one for each node.
+pub fn book_of(site: &Site, tables: &[u8], out: &mut [u8]) -> (u8, usize) {
+    let empty = new_book(site, &write_accounts(&[ONLY_ACCOUNT]));
+    let book = empty.and_then(|empty| tables::book_of(empty, tables));
+    deliver(book.map(in_newest_version), out)
 }
 
 /// Raises what an account has bought.

@@ -11,16 +11,16 @@
 //! |-------|----------------------------------------------------------------|
 //! | 0     | call: 0 new, 1 check, 2 rewrite, 3 open, 4 close, 5 expand,    |
 //! |       | 6 balance, 7 routes, 8 post, 9 keeps to, 10 purchase,          |
-//! |       | 11 salvage, 13 links, 255 end                                  |
+//! |       | 11 salvage, 12 book of, 13 links, 255 end                      |
 //! | 1–2   | id (open, close)                                               |
 //! | 3     | source (open, routes) or node (expand, balance, links)         |
 //! | 4     | destination (open, routes)                                     |
 //! | 5–6   | period (open)                                                  |
-//! | 7, 8  | S, C (new)                                                     |
-//! | 9–10  | tile kinds (new)                                               |
-//! | 11–13 | D, U, N (new)                                                  |
-//! | 14–15 | length of the links (new), at most 1,024, or of the book (all  |
-//! |       | others), at most 4,096                                         |
+//! | 7, 8  | S, C (new, book of)                                            |
+//! | 9–10  | tile kinds (new, book of)                                      |
+//! | 11–13 | D, U, N (new, book of)                                         |
+//! | 14–15 | length of the links (new, book of), at most 1,024, or of the   |
+//! |       | book (all others), at most 4,096                               |
 //! | 16–17 | length of the output buffer, at most 16,384; 0 for check,      |
 //! |       | balance, keeps to and links, which have none                   |
 //! | 18    | fill byte of the output buffer                                 |
@@ -30,11 +30,13 @@
 //! | 24–25 | number of tiles (expand)                                       |
 //! | 26–33 | mains set (routes, post, keeps to)                             |
 //! | 34–37 | amount (purchase)                                              |
-//! | 38–39 | length of the hearing (new), at most 1,024                     |
+//! | 38–39 | length of the hearing (new, book of), at most 1,024            |
 //! | 40–41 | length of the further bytes, which are the accounts (new), at  |
-//! |       | most 1,024, or the records (post)                              |
+//! |       | most 1,024, the records (post) or the tables (book of), at     |
+//! |       | most 620,000                                                   |
 //! | 42–43 | length of the index (post), in words of 8 bytes, at most       |
-//! |       | 6,500, or of the report (salvage), in bytes, at most 4,096     |
+//! |       | 6,500, or of the report (salvage), in bytes, at most 4,096, or |
+//! |       | how many 65,536s the tables have beside 40–41 (book of)        |
 //!
 //! A field that the call does not use is 0. The planner is called with an
 //! output buffer and an index or a report of the stated lengths, each byte of
@@ -66,8 +68,7 @@
 //! | then  | the records, then the index (post), or the report (salvage)    |
 //!
 //! The accounts of a new book are 6 bytes each, as they stand in an image
-//! without the count. Call 12, book of, is for document 02's request W9; its
-//! further bytes are the tables.
+//! without the count. The tables are those of node 0 first, 300×S bytes each.
 //!
 //! A request with call 255 is a header only, has no answer and ends the
 //! stream, as does the end of the input between two frames. Answers may be
@@ -105,11 +106,12 @@ pub enum Call {
     KeepsTo = 9,
     Purchase = 10,
     Salvage = 11,
+    BookOf = 12,
     Links = 13,
 }
 
 impl Call {
-    pub const ALL: [Call; 13] = [
+    pub const ALL: [Call; 14] = [
         Call::New,
         Call::Check,
         Call::Rewrite,
@@ -122,6 +124,7 @@ impl Call {
         Call::KeepsTo,
         Call::Purchase,
         Call::Salvage,
+        Call::BookOf,
         Call::Links,
     ];
 

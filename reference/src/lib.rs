@@ -11,7 +11,8 @@
 //! `version`, `image` (the image); `refusal`, `change`, `record`, `index`,
 //! `calls` (what each call says back); `table`, `listing` (a node's table and
 //! balance); document 02's `statement` (many sites) and `salvage` (damaged
-//! books). `frame` and `request` carry calls between programs.
+//! books) and `tables` (tables made elsewhere). `frame` and `request` carry calls
+//! between programs.
 
 pub mod account;
 pub mod book;
@@ -35,5 +36,6 @@ pub mod salvage;
 pub mod slots;
 pub mod statement;
 pub mod table;
+pub mod tables;
 pub mod topology;
 pub mod version;

@@ -47,6 +47,11 @@ pub enum Refusal {
     TooFar = 17,
     /// No such second route.
     NoSecondRoute = 18,
+    /// Tables of the wrong length, with an entry that is no operation, an id
+    /// where there is none or none where there is one, or control out of place.
+    UnsoundTables = 19,
+    /// No lawful book expands to the tables.
+    NoSuchBook = 20,
     /// Tiles outside the cycle, or a count of 0 or over 100.
     TilesOutOfRange = 21,
     /// The account is unknown.

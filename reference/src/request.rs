@@ -36,7 +36,7 @@ pub struct Request {
     pub bytes: Vec<u8>,
     /// The hearing of a new book.
     pub hearing: Vec<u8>,
-    /// The accounts of a new book, the records of a posting.
+    /// The accounts of a new book, the records of a posting, tables.
     pub further: Vec<u8>,
     /// Length of the output buffer.
     pub room: u16,
@@ -99,7 +99,7 @@ impl Request {
         put(34, &self.amount.to_be_bytes());
         put(38, &(self.hearing.len() as u16).to_be_bytes());
         put(40, &(self.further.len() as u16).to_be_bytes());
-        put(42, &self.beside.to_be_bytes());
+        put(42, &(self.beside + (self.further.len() / 65_536) as u16).to_be_bytes());
         output.write_all(&header)?;
         output.write_all(&self.bytes)?;
         output.write_all(&self.hearing)?;
@@ -113,9 +113,10 @@ impl Request {
             return Ok(None);
         }
         let number = |place: usize| u16::from_be_bytes([header[place], header[place + 1]]);
-        let bytes = read_bytes(input, number(14))?;
-        let hearing = read_bytes(input, number(38))?;
-        let further = read_bytes(input, number(40))?;
+        let bytes = read_bytes(input, usize::from(number(14)))?;
+        let hearing = read_bytes(input, usize::from(number(38)))?;
+        let more = if header[0] == Call::BookOf as u8 { usize::from(number(42)) } else { 0 };
+        let further = read_bytes(input, more * 65_536 + usize::from(number(40)))?;
         Ok(Some(Request {
             call: Call::of_number(header[0])?,
             id: number(1),
@@ -138,7 +139,7 @@ impl Request {
             hearing,
             further,
             room: number(16),
-            beside: number(42),
+            beside: if more == 0 { number(42) } else { 0 },
             fill: header[18],
         }))
     }
@@ -175,6 +176,7 @@ impl Request {
         let book = &self.bytes;
         let (number, length) = match self.call {
             Call::New => calls::new(&self.site(), &self.further, out),
+            Call::BookOf => calls::book_of(&self.site(), &self.further, out),
             Call::Check => calls::check(book),
             Call::Rewrite => calls::rewrite(book, out),
             Call::Open => calls::open(book, self.open(), out),
@@ -241,8 +243,8 @@ impl Request {
     }
 }
 
-fn read_bytes(input: &mut impl Read, length: u16) -> io::Result<Vec<u8>> {
-    let mut bytes = vec![0; usize::from(length)];
+fn read_bytes(input: &mut impl Read, length: usize) -> io::Result<Vec<u8>> {
+    let mut bytes = vec![0; length];
     input.read_exact(&mut bytes)?;
     Ok(bytes)
 }

@@ -30,7 +30,35 @@ pub struct Entry {
 /// What an operation's number gains on a second route.
 const SECOND_ROUTE_GAIN: u8 = 16;
 
+impl Operation {
+    const ALL: [Operation; 6] = [
+        Operation::Sleep,
+        Operation::SendFromAbove,
+        Operation::ReceiveToBuffer,
+        Operation::ForwardFromBuffer,
+        Operation::ReceiveForAbove,
+        Operation::ControlSlot,
+    ];
+
+    /// The operation may be one of a second route.
+    fn has_second(self) -> bool {
+        !matches!(self, Operation::Sleep | Operation::ControlSlot)
+    }
+}
+
+/// Bytes of an entry: the operation's number and the id.
+pub const ENTRY_BYTES: usize = 3;
+
 impl Entry {
+    /// Reads an entry of 3 bytes; none if it is no operation.
+    pub fn read(bytes: &[u8]) -> Option<Entry> {
+        let id = u16::from_be_bytes([bytes[1], bytes[2]]);
+        let first = Operation::ALL.map(|operation| Entry { operation, second: false, id });
+        let seconds = first.into_iter().filter(|entry| entry.operation.has_second());
+        let mut all = first.into_iter().chain(seconds.map(|entry| Entry { second: true, ..entry }));
+        all.find(|entry| entry.number() == bytes[0])
+    }
+
     /// The number in the table.
     pub fn number(self) -> u8 {
         self.operation as u8 + if self.second { SECOND_ROUTE_GAIN } else { 0 }

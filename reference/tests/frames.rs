@@ -97,12 +97,13 @@ fn check_balance_and_links_are_answered_without_a_buffer() {
 }
 
 #[test]
-fn call_12_is_reserved() {
-    for number in [12, 14, 254] {
+fn calls_have_their_numbers() {
+    for number in [14, 254] {
         assert!(Call::of_number(number).is_err());
     }
     assert_eq!(Call::of_number(9).unwrap(), Call::KeepsTo);
     assert_eq!(Call::of_number(10).unwrap(), Call::Purchase);
+    assert_eq!(Call::of_number(12).unwrap(), Call::BookOf);
     assert_eq!(Call::of_number(13).unwrap(), Call::Links);
 }
 

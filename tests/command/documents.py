@@ -39,7 +39,7 @@ def completion(usages):
         check(name == "help" or got == want, "the completion of %s: %s" % (name, got))
     for typed, want in [("open a 1 2 3 5 s", "second"), ("open a 1 2 3 5 a", "account"), ("open a 1 2 3 5 ''", "second account --mains --help"), ("open a 1 2 3 5 second ''", "account --mains --help"),
                         ("open a 1 2 3 5 account ''", ""), ("open a 1 2 3 5 account 4 ''", "second --mains --help"), ("open a 1 2 3 5 second account ''", ""), ("open a 1 2 3 1", "1 10 100 1000"),
-                        ("quote a 1 2 ''", "account --mains --json --help"), ("quote a 1 2 account ''", ""), ("ch", "check"), ("b", "buy balance"), ("ac", "accounts")]:
+                        ("quote a 1 2 ''", "account --mains --json --help"), ("quote a 1 2 account ''", ""), ("ch", "check"), ("b", "buy balance"), ("ac", "accounts"), ("ad", "adopt")]:
         words = "source '%s'; COMP_WORDS=(lindurask %s); COMP_CWORD=$((${#COMP_WORDS[@]} - 1)); _lindurask; echo \"${COMPREPLY[*]}\"" % (os.path.join(tool.ROOT, "cli/lindurask.bash"), typed)
         check(subprocess.run(["bash", "-c", words], capture_output=True, text=True).stdout == want + "\n", "the completion of %s" % typed)
 
@@ -136,7 +136,7 @@ def test(room):
     names = [words.split()[1] for words in everything.split("\n") if words.startswith("  lindurask ")]
     usages = {name: room.run(name, "--help").out.split("\n")[0].replace("lindurask ", "", 1) for name in names}
     refusals = re.findall(r"^ +(\d+)  (.*)$", everything, re.M)
-    check(len(usages) == 18 and len(refusals) == 24, "help lists %d commands and %d refusals" % (len(usages), len(refusals)))
+    check(len(usages) == 19 and len(refusals) == 26, "help lists %d commands and %d refusals" % (len(usages), len(refusals)))
     check(all(len(line) <= 80 for line in everything.split("\n")), "help is wider than 80 columns")
     man_page(room, usages, refusals)
     completion(usages)

@@ -7,8 +7,8 @@ import tool
 from tool import check
 
 # Answers each call with what the mode says; a call's room stands in bytes 16 and 17, its bytes in 14 and 15, those of its
-# hearing in 38 and 39, those of its records, which have 11 each, or of the accounts of a new book in 40 and 41, and the words
-# of its index in 42 and 43. The index is that of the book which a call leaves, out of a file beside new.image or beside the engine.
+# hearing in 38 and 39, those of its records, which have 11 each, of the accounts of a new book or of tables in 40 and 41, and the words
+# of its index, or the 65,536s of tables, in 42 and 43. The index is that of the book which a call leaves, out of a file beside new.image or beside the engine.
 FAKE = r'''#!/usr/bin/env python3
 import os, sys
 INDEXES = ("indexnone", "indexkept", "indexturned", "indexbefore", "indexonce", "indexbit", "indexwithout", "indexrefused", "indexagain")
@@ -20,8 +20,9 @@ while True:
         break
     data = read(int.from_bytes(head[14:16], "big"))
     hearing = read(int.from_bytes(head[38:40], "big"))
-    further = read(int.from_bytes(head[40:42], "big"))
-    records = further if head[0] else b""
+    more = int.from_bytes(head[42:44], "big") if head[0] == 12 else 0
+    further = read(65536 * more + int.from_bytes(head[40:42], "big"))
+    records = further if head[0] == 8 else b""
     room, words = int.from_bytes(head[16:18], "big"), int.from_bytes(head[42:44], "big")
     number, counts, out = 0, [0, 0, 0], bytes([head[18]]) * room
     sent = records
@@ -51,6 +52,15 @@ while True:
         table = open(os.path.join(os.path.dirname(sys.argv[0]), "tables"), "rb").read()[3000 * data[5] * head[3] + first:][:part]
         forwards = bytes(3 if place % 3 == 0 and byte == 1 else byte for place, byte in enumerate(table))
         counts[0], out = part, (forwards if data[4] == 1 else table) + out[part:]
+    if mode.startswith("adopt") and head[0] == 12:
+        number = {"adoptunsound": 19, "adoptfull": 8, "adoptnone": 20, "adoptbeside": 20, "adoptwritten": 20}.get(mode, 0)
+        image = open(os.path.join(os.path.dirname(sys.argv[0]), "new.image"), "rb").read()
+        if number == 0 or mode == "adoptwritten": out = image + out[len(image):]
+        counts[0] = len(image) if number == 0 else int(mode == "adoptbeside")
+        if mode == "adoptempty": counts[0], out = 0, bytes([head[18]]) * room
+    if mode.startswith("adopt") and head[0] == 5:
+        table = open(os.path.join(os.path.dirname(sys.argv[0]), "lent"), "rb").read()[300 * data[5] * head[3]:][:part]
+        counts[0], out = part, table + out[part:]
     if mode.startswith("list") and head[0] == 7:
         said = {"listnode": b"\2\3\x0c\0", "listhops": b"\7\3\2\1\4\5\6\7\0", "listnone": b"\0\3", "listcut": b"\3\3\2\1", "listends": b"\3\3\2\1\4", "listfar": b"\3\3\2\1\0"}.get(mode, b"")
         counts, out = [len(said), 2 if mode == "listmark" else 0, 0], said + out[len(said):]
@@ -112,7 +122,7 @@ def no_engines(room, engines):
     """What is missing, is no program, or ends before it has answered."""
     nowhere, ends = engines.at("nowhere"), program(engines, "ends", b"#!/bin/sh\nexit 0\n")
     loud = program(engines, "loud", b"#!/bin/sh\nexec head -c 300000 /dev/zero | tr '\\0' 'Z'\n")
-    for words in COMMANDS + [["accounts", "kiln.book"]]:
+    for words in COMMANDS + [["accounts", "kiln.book"], ["adopt", "kiln.plan", "kiln.tables", "n.book"], ["table", "kiln.book", "--raw"]]:
         hold(room, nowhere, words, "could not be started: %s: No such file or directory" % os.fsdecode(nowhere))
         hold(room, ends, words, "ended before it answered")
         hold(room, loud, words, "says what is no answer")
@@ -145,6 +155,7 @@ def nonsense(room, engines):
     links(room, engines)
     mains(room, engines)
     accounts(room, engines)
+    adoptions(room, engines)
     # Tables that are not those of the streams in the book make no page, and are not compared.
     for words in [COMMANDS[9], COMMANDS[11]]:
         hold(room, fake["sleepy"], words, "says what is no answer")
@@ -215,6 +226,38 @@ def accounts(room, engines):
         holds(book, 2, no_answer, "post", "mill.book", "-", data=b"open 9 7 3 100 account 1\n")
     check(room.get("mill.book") == mill.image(), "a wrong account changed the book")
     engines.put("old.index", tool.work_out.sample("kiln").index())
+    put_new(engines, right)
+
+
+def adoptions(room, engines):
+    """A book with other tables, of another plan, other links or hearing, or with accounts; no book; a refusal with bytes beside it; a refusal
+    of sound tables, of which the tool can point to no entry; and an engine that reads no tables."""
+    right, kiln = tool.work_out.Book.read(engines.get("new.image")), tool.work_out.sample("kiln")
+    tables, words = tool.work_out.raw(kiln), ["adopt", "kiln.plan", "kiln.tables", "n.book"]
+    wrong = "says what is no answer; nothing is changed"
+
+    def gives(mode, book, lent=tables):
+        engines.put("new.image", book.image())
+        engines.put("lent", lent)
+        return program(engines, "engine-" + mode, FAKE.encode())
+    for book in [kiln.without(3), kiln.but(kinds=[not down for down in kiln.kinds]), kiln.but(down=kiln.u), kiln.but(rows=[row | 1 << 7 if node == 0 else row | 1 if node == 7 else row for node, row in enumerate(kiln.rows)]),
+                 kiln.but(heard=[(0, 7)]), kiln.but(accounts=[(0, 5000)])]:
+        lent = tool.work_out.raw(book) if book.ways != kiln.ways else tables
+        hold(room, gives("adopt", book, lent), words, wrong)
+    hold(room, gives("adopt", kiln, tables[:-3] + b"\1\0\1"), words, wrong)
+    for mode in ["adoptempty", "adoptbeside", "adoptwritten"]:
+        hold(room, gives(mode, kiln), words, wrong)
+    untold = "; no entry by itself shows why (kiln.tables)\n"
+    for mode, number in [("adoptunsound", 19), ("adoptfull", 8), ("adoptnone", 20)]:
+        got = room.run(*words, env={"LINDURASK_ENGINE": os.fsdecode(gives(mode, kiln))})
+        check((got.status, got.all) == (1, "refused " + tool.refusal(number) + untold), "adopt with engine %s: %s" % (mode, got.all))
+    # Whatever the tool thinks of tables, the engine decides: these are of no book, and this engine says that they are.
+    odd = tables[:-3] + b"\1\0\1"
+    room.put("odd.tables", odd)
+    got = room.run("adopt", "kiln.plan", "odd.tables", "odd.book", env={"LINDURASK_ENGINE": os.fsdecode(gives("adopt", kiln, odd))})
+    check((got.status, got.all) == (0, tool.work_out.adopted(kiln)), "adopt refused what the engine accepts: %s" % got.all)
+    check(room.get("odd.book") == kiln.image(), "adopt made another book than the engine gave")
+    os.remove(room.at("odd.tables")), os.remove(room.at("odd.book"))
     put_new(engines, right)
 
 
@@ -321,6 +364,7 @@ def alone(room, engines):
 
 def test(room):
     room.put("a.list", b"open 8 1 2 5\n")
+    room.put("kiln.tables", tool.work_out.raw(tool.work_out.sample("kiln")))
     book, before = room.get("kiln.book"), room.names()
     with tool.Room() as engines:
         no_engines(room, engines)

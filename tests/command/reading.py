@@ -64,8 +64,8 @@ def closed(room):
 def mute(room):
     """Standard output that is closed, or open for reading alone: nothing is done."""
     before, books = room.names(), [room.get("kiln.book"), room.get("yard.book")]
-    words = READERS + CHANGERS + [["page", "m.html"], ["replan", "yard.plan", "m.book"], ["salvage", "m.book"]]
-    commands = [asked(command, "kiln.book") for command in words] + [["new", "m.book", "kiln.plan"], ["help"], ["--version"], ["frob"]]
+    words = READERS + CHANGERS + [["page", "m.html"], ["replan", "yard.plan", "m.book"], ["salvage", "m.book"], ["table", "--raw"]]
+    commands = [asked(command, "kiln.book") for command in words] + [["new", "m.book", "kiln.plan"], ["adopt", "kiln.plan", "kiln.tables", "m.book"], ["help"], ["--version"], ["frob"]]
     for closing in [">&-", "1</dev/null", "<&- >&-"]:
         for command in commands if closing == ">&-" else commands[len(READERS):][:5]:
             done = subprocess.run(["sh", "-c", 'exec "$0" "$@" ' + closing, tool.TOOL, *command], cwd=room.path, stderr=subprocess.PIPE, timeout=20)
@@ -90,7 +90,7 @@ def gone(room):
         finally:
             os.close(writer)
     before = room.get("kiln.book")
-    for words in READERS + [["show", "--json"], ["check", "--json"]]:
+    for words in READERS + [["show", "--json"], ["check", "--json"], ["table", "--raw"]]:
         got = into_nothing(*asked(words, "kiln.book"))
         check(got == (2, "lindurask: standard output: Broken pipe\n"), "%s into nothing: %s" % (words, got))
     check(into_nothing("help")[0] == 2 and into_nothing("--version")[0] == 2, "help into nothing")
@@ -118,6 +118,7 @@ def rights(room):
 
 def test(room):
     room.put("a.list", b"close 1\nopen 8 1 2 5\n")
+    room.put("kiln.tables", tool.work_out.raw(tool.work_out.sample("kiln")))
     kinds(room)
     closed(room)
     mute(room)

@@ -91,12 +91,12 @@ class Room:
             return file.read()
 
     def put_others(self):
-        """Adds the further books that diff is tried on, the lists that post is, and the damaged books that salvage is."""
+        """Adds the further books that diff is tried on, the lists that post is, the damaged books that salvage is, and the tables that adopt is."""
         for name, book in work_out.others().items():
             self.put(name, book.image())
         for name, text in work_out.lists().items():
             self.put(name, text.encode())
-        for name, image in work_out.spoilt().items():
+        for name, image in [*work_out.spoilt().items(), *work_out.lent().items()]:
             self.put(name, image)
 
     def names(self, folder="."):

@@ -1,6 +1,7 @@
 //! The commands: how each is written, what it says of itself, and what it does.
 
 mod accounts;
+mod adopt;
 mod balance;
 mod buy;
 mod check;
@@ -26,11 +27,24 @@ use crate::words::{Choice, Words};
 #[derive(Default)]
 pub struct Report {
     pub text: String,
+    /// Bytes for a program, in the place of the text.
+    pub raw: Vec<u8>,
     pub warnings: Vec<String>,
     /// A file was made or changed.
     pub changed: bool,
     /// The answer is no, in full or in part, and was given.
     pub refused: bool,
+}
+
+impl Report {
+    /// What is written to standard output.
+    pub fn bytes(&self) -> &[u8] {
+        if self.raw.is_empty() {
+            self.text.as_bytes()
+        } else {
+            &self.raw
+        }
+    }
 }
 
 impl From<String> for Report {
@@ -52,7 +66,7 @@ pub struct Command {
 }
 
 /// All commands, in the order in which help lists them.
-pub const COMMANDS: [Command; 18] = [
+pub const COMMANDS: [Command; 19] = [
     new::NEW,
     check::CHECK,
     show::SHOW,
@@ -68,6 +82,7 @@ pub const COMMANDS: [Command; 18] = [
     diff::DIFF,
     statement::STATEMENT,
     replan::REPLAN,
+    adopt::ADOPT,
     salvage::SALVAGE,
     page::PAGE,
     help::HELP,

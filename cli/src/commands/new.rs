@@ -38,7 +38,7 @@ at most 32 accounts; without one the book has account 0 with 4294967295.",
 };
 
 /// A refusal of a plan, with the line that it is about.
-fn refused(path: &Path, plan: &Plan, number: u8) -> Trouble {
+pub fn refused(path: &Path, plan: &Plan, number: u8) -> Trouble {
     match plan.explain(number) {
         None => Trouble::refused(number, files::called(path)),
         Some(fault) => {
@@ -48,10 +48,15 @@ fn refused(path: &Path, plan: &Plan, number: u8) -> Trouble {
     }
 }
 
+/// Reads a plan.
+pub fn read_plan(path: &Path) -> Result<Plan, Trouble> {
+    let plan = Plan::read(&files::read_text(path, "plan")?);
+    plan.map_err(|fault| Trouble::Misused(fault.said_of(path)))
+}
+
 /// Reads a plan, and has the engine make the bytes of its book.
 pub fn planned(engine: &mut Engine, path: &Path) -> Result<Vec<u8>, Trouble> {
-    let plan = Plan::read(&files::read_text(path, "plan")?);
-    let plan = plan.map_err(|fault| Trouble::Misused(fault.said_of(path)))?;
+    let plan = read_plan(path)?;
     let answer = engine.ask(frame::new(&plan.site()))?;
     match answer.number {
         0 => Ok(answer.bytes),

@@ -91,5 +91,6 @@ fn run(words: &Words) -> Result<Report, Trouble> {
     let kept = format!("{placed} of {} have a place\n", count(all, "stream"));
     let text = format!("{said}{kept}made: {}", describe::counts(&book));
     let refused = placed < all;
-    Ok(Report { text, warnings: warnings(&book), changed: true, refused })
+    let warnings = warnings(&book);
+    Ok(Report { text, warnings, changed: true, refused, ..Report::default() })
 }

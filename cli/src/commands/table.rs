@@ -5,20 +5,26 @@ use crate::book::{Book, CYCLE};
 use crate::json;
 use crate::loaded::Loaded;
 use crate::table::Entry;
+use crate::tables::TILES;
 use crate::text::{self, count};
 use crate::tiles::Tiles;
 use crate::trouble::Trouble;
-use crate::words::{Number, Words, JSON};
+use crate::words::{Number, Words, JSON, RAW};
+use std::io::{self, IsTerminal};
 
 pub const TABLE: Command = Command {
     name: "table",
     operands: "BOOK [NODE [TILE [COUNT]]]",
     takes: [1, 4],
-    choices: &[JSON],
+    choices: &[RAW, JSON],
     summary: "print the slot table of a node, or of all",
     explains: "\
 Prints what a node, or every node, does in each slot of the 1000 tiles of a
-cycle, or of those from TILE on, or of COUNT tiles from TILE on.",
+cycle, or of those from TILE on, or of COUNT tiles from TILE on.
+With --raw it writes the first 100 tiles as bytes, to a file or a program, node
+0 first: 3 for each slot, the operation and the stream's id, as adopt reads
+them. These say all of a book in which no period is over 100; of another nothing
+is written, and the exit status is 1.",
     example: "lindurask table kiln.book 2 0 20",
     run,
 };
@@ -72,7 +78,39 @@ fn tiles(words: &Words) -> Result<(Tiles, String), Trouble> {
     Ok((Tiles { first: first.tiles(), count: wanted as u16 }, about))
 }
 
+/// Why a book's first 100 tiles do not say all of it.
+fn slow(book: &Book) -> Option<Trouble> {
+    let way = book.ways.iter().find(|way| TILES < way.period)?;
+    let period = format!("stream {} has period {}", way.id, way.period);
+    let said = format!("{period}, so the book does not repeat after {TILES} tiles");
+    Some(Trouble::Unfit(format!("{said}, and has no such tables")))
+}
+
+/// The first 100 tiles of a node, or of all, in bytes.
+fn raw(words: &Words) -> Result<Report, Trouble> {
+    if words.has(&JSON) || 2 < words.operands.len() {
+        return Err(TABLE.misused());
+    }
+    let one = words.node_if(1)?;
+    if io::stdout().is_terminal() {
+        let said = "standard output is a terminal; bytes go to a file or a program";
+        return Err(Trouble::Failed(format!("{said}, as in: > kiln.tables")));
+    }
+    let mut loaded = Loaded::read(words.path(0))?;
+    let nodes = loaded.nodes(one)?;
+    if let Some(trouble) = slow(&loaded.book) {
+        return Err(trouble);
+    }
+    let tables = loaded.tables(&nodes, Tiles { first: 0, count: TILES }, "")?;
+    loaded.engine.finish()?;
+    let raw = tables.iter().flatten().flat_map(|entry| entry.bytes()).collect();
+    Ok(Report { raw, ..Report::default() })
+}
+
 fn run(words: &Words) -> Result<Report, Trouble> {
+    if words.has(&RAW) {
+        return raw(words);
+    }
     let (one, (tiles, about)) = (words.node_if(1)?, tiles(words)?);
     let mut loaded = Loaded::read(words.path(0))?;
     let nodes = loaded.nodes(one)?;

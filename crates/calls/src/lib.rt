@@ -15,6 +15,9 @@ const KEEPS: u8 = frames::KEEPS;
 // the one that buys hop uses for an account,
 const PURCHASE: u8 = frames::PURCHASE;
 
+// the one that finds the book of tables made elsewhere,
+const BOOK_OF: u8 = frames::BOOK_OF;
+
 // and the one that gives a node's links.
 const LINKS: u8 = frames::LINKS;
 
@@ -22,20 +25,35 @@ fn wide(x: u8) -> u16 {
     x as u16
 }
 
-// Makes a new book.
-fn new_book(frame: &[u8], links: &[u8], out: &mut [u8]) -> Reply
+// The tile plan of a site.
+fn plan(frame: &[u8]) -> Plan
     requires { ⌜ headLength ≤ length (now frame) ⌝ }
 {
-    let plan = Plan {
+    Plan {
         slots: Slot(wide(frame[7])),
         tiles: Tile(wide(frame[8])),
         kinds: image::word_at(frame, 9),
         down: Slot(wide(frame[11])),
         up: Slot(wide(frame[12])),
-    };
+    }
+}
+
+// Makes a new book.
+fn new_book(frame: &[u8], links: &[u8], out: &mut [u8]) -> Reply
+    requires { ⌜ headLength ≤ length (now frame) ⌝ }
+{
     let hearing = frames::hearing(frame);
     let accounts = frames::further(frame);
-    frames::answered(planner::new_book(plan, frame[13], links, hearing, accounts, out))
+    frames::answered(planner::new_book(plan(frame), frame[13], links, hearing, accounts, out))
+}
+
+// Finds the book of tables made elsewhere.
+fn book_of(frame: &[u8], links: &[u8], out: &mut [u8]) -> Reply
+    requires { ⌜ headLength ≤ length (now frame) ⌝ }
+{
+    let hearing = frames::hearing(frame);
+    let tables = frames::tables(frame);
+    frames::answered(planner::book_of(plan(frame), frame[13], links, hearing, tables, out))
 }
 
 // Opens a stream.
@@ -182,6 +200,7 @@ pub fn call(frame: &[u8], book: &[u8], out: &mut [u8]) -> Reply
         7 => routes_between(frame, book, out),
         KEEPS => keeps_to(frame, book),
         PURCHASE => purchase(frame, book, out),
+        BOOK_OF => book_of(frame, book, out),
         LINKS => links(frame, book),
         _ => balance(frame, book),
     }

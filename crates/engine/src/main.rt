@@ -10,6 +10,9 @@ use streams::Streams;
 // The most frames of a run.
 const FRAMES: u64 = 4_000_000;
 
+// Room for the longest frame, which has tables.
+const INPUT: usize = 655_360;
+
 // Answers a call that is no posting, behind the answers that are held; says how many bytes are held then.
 fn answer_call(frame: &[u8], answers: &mut [u8], held: usize) -> usize
     requires { ⌜ (headLength ≤ length (now frame)) × (held ≤ length (now answers)) × (mostPart ≤ length (now answers)) ⌝ }
@@ -159,8 +162,13 @@ fn serve(input: &mut [u8], answers: &mut [u8]) -> usize
     streams.held
 }
 
+// The buffer of the input, before anything is read.
+fn input_buffer() -> [u8; INPUT] {
+    [0u8; INPUT]
+}
+
 fn main() {
-    let mut input = io::large_buffer();
+    let mut input = input_buffer();
     let mut answers = io::large_buffer();
     let held = serve(&mut input, &mut answers);
     io::write_all(STDOUT_FILENO, &answers[..held]);

@@ -20,6 +20,10 @@ recordLength = 11
 abbrev pub mostFurther : ℕ
 mostFurther = 1100
 
+-- the longest further bytes that a header can state, in 4 bytes
+abbrev pub mostLength : ℕ
+mostLength = 4294967295
+
 -- words of the longest index, bytes of a word, and those of the index, which is the longest part of an answer
 abbrev pub mostWords : ℕ
 mostWords = 6500

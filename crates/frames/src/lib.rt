@@ -1,7 +1,7 @@
 // A framed call and its answer: where their parts stand.
 ghost use Prim.Native.Nat.{_+_, _*_, _≤_};
 ghost use lib.ListN.{length};
-ghost use Rattle.frames.specs.Lengths.{headLength, replyLength, mostRoom, mostFurther, mostWords, wordLength, mostReport};
+ghost use Rattle.frames.specs.Lengths.{headLength, replyLength, mostRoom, mostFurther, mostLength, mostWords, wordLength, mostReport};
 use answers::Answer;
 
 // Bytes of a call before its book or topology.
@@ -22,7 +22,10 @@ pub const PURCHASE: u8 = 10;
 // the one that salvages a damaged book,
 pub const SALVAGE: u8 = 11;
 
-// and the one that gives a node's links; the number between is for a later call.
+// the one that finds the book of tables made elsewhere,
+pub const BOOK_OF: u8 = 12;
+
+// and the one that gives a node's links.
 pub const LINKS: u8 = 13;
 
 // The longest book.
@@ -34,8 +37,11 @@ const MOST_ROOM: usize = 16384;
 // Bytes of a record of a list,
 pub const RECORD: usize = 11;
 
-// and of the longest further bytes, a hundred records.
+// and of the longest further bytes, a hundred records,
 const MOST_FURTHER: usize = 1100;
+
+// but for tables: some more than 64 nodes with 32 slots a tile have.
+const MOST_TABLES: usize = 620_000;
 
 // Words of the longest index: some more than 100 tiles of 32 slots take,
 const MOST_WORDS: usize = 6500;
@@ -111,15 +117,30 @@ pub fn report_room(frame: &[u8]) -> usize
 
 // Whether a number is that of a call; any other ends the stream.
 fn is_call(number: u8) -> bool {
-    number <= SALVAGE || number == LINKS
+    number <= LINKS
 }
 
-// Whether a call may have so many further bytes: those of a posting are whole records.
+// Whether a call may have so many further bytes: tables are longer than others, and those of a posting are whole records.
 fn is_further(call: u8, further: usize) -> bool {
+    if call == BOOK_OF {
+        return further <= MOST_TABLES;
+    }
     if MOST_FURTHER < further {
         return false;
     }
     call != POST || further % RECORD == 0
+}
+
+// How many further bytes a call has; of tables the 65,536s stand where other calls have an index or a report.
+fn further_length(frame: &[u8]) -> usize
+    requires { ⌜ headLength ≤ length (now frame) ⌝ }
+    ensures { λ r. ⌜ r ≤ mostLength ⌝ }
+{
+    let further = long(image::word_at(frame, 40));
+    if frame[0] != BOOK_OF {
+        return further;
+    }
+    further + 65536 * long(image::word_at(frame, 42))
 }
 
 // The length of the frame, 0 if it ends the stream.
@@ -137,7 +158,7 @@ pub fn size(frame: &[u8]) -> usize
     if MOST_BYTES < heard {
         return 0;
     }
-    let further = long(image::word_at(frame, 40));
+    let further = further_length(frame);
     if !is_further(frame[0], further) {
         return 0;
     }
@@ -193,6 +214,14 @@ pub fn further(frame: &[u8]) -> &[u8]
         return &frame[start..];
     }
     &frame[start..end]
+}
+
+// The tables, which are all that stands behind the hearing.
+pub fn tables(frame: &[u8]) -> &[u8]
+    requires { ⌜ headLength ≤ length (now frame) ⌝ }
+{
+    let start = hearing_end(frame);
+    &frame[start..]
 }
 
 // The number of the account.

@@ -33,10 +33,10 @@ const SECOND_WAY: u8 = 2;
 const GAIN: u8 = 16;
 
 // so that they go from send
-const SECOND_SEND: u8 = 17;
+pub const SECOND_SEND: u8 = 17;
 
 // to receive for above.
-const SECOND_DELIVER: u8 = 20;
+pub const SECOND_DELIVER: u8 = 20;
 
 // Where a node stands in a route: at the place of its list of nodes, or nowhere.
 pub enum Stop {

@@ -9,24 +9,13 @@ use Rattle.rules.specs.Topology.{NodesInRange}
 use Rattle.rules.specs.Book.{Book, mostAccounts}
 use Rattle.rules.specs.Image.{newest, headerLength, word64, inTurn, encodeAccount, encodeAccounts, encodeHeader, encode, setsAt}
 use Rattle.rules.specs.Calls.{givenAccounts, AccountsGiven, TopologiesGiven, New, newBook, newRefusals}
-use Rattle.rules.proofs.Written.{Bytes, sets-written, accounts-written, length-sets-at, length-accounts-at}
+use Rattle.rules.proofs.Written.{Bytes, drop-all, given-back, accounts-written, length-sets-at, length-accounts-at}
 use Rattle.writer.specs.Over.{over}
 use Rattle.writer.proofs.Laws.{over-front}
 use Rattle.answers.specs.Reply.{Reply}
 use Rattle.answers.proofs.Replies.{reply-refused, reply-next, reply-done}
 
-drop-all : (l : List ℕ) → drop (length l) l ≡ []
-drop-all [] = refl
-drop-all (x ∷ l) = drop-all l
-
--- the rows of a topology that is given are written as they are given
-given-back : (N : ℕ) (rows : List ℕ) → length rows ≡ 8 * N → Bytes rows → inTurn word64 (setsAt rows 0 N) ≡ rows
-given-back N rows long bytes =
-    let sets : List ℕ = inTurn word64 (setsAt rows 0 N) in
-    let e : 0 + 8 * N ≡ length rows = omega arith in
-    sym (sets-written rows bytes N 0 (omega arith) ∙ ap (λ (k : ℕ). sets ++ drop k rows) e ∙ ap (λ (l : List ℕ). sets ++ l) (drop-all rows) ∙ append-nil sets)
-
--- and so are the accounts, behind their count
+-- the accounts that are given are written as they are given, behind their count
 accounts-back : (accounts : List ℕ) → AccountsGiven accounts → Bytes accounts → encodeAccounts (givenAccounts accounts) ≡ length accounts / 6 ∷ accounts
 accounts-back accounts given bytes =
     let n : ℕ = length accounts / 6 in

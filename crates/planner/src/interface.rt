@@ -1,6 +1,7 @@
-// The C interface: the thirteen calls over bare numbers.
+// The C interface: the fourteen calls over bare numbers.
 ghost use mathlib.Core.Path.{_≡_};
 ghost use Rattle.rules.specs.Salvage.{Salvage};
+ghost use Rattle.rules.specs.Tables.{BookOf};
 ghost use Rattle.rules.specs.Calls.{New, Check, Rewrite, Serve, Purchase, Expand, Balance, Links};
 ghost use Rattle.rules.specs.Calls.Request.{Open, Close};
 ghost use Rattle.posting.specs.Posting.{Posts};
@@ -205,6 +206,36 @@ pub extern "C" fn lindurask_keeps_to(book: &[u8], mains: u64, keeps: &mut u8) ->
 {
     let answer = crate::keeps_to(book, mains);
     *keeps = answer.keeps as u8;
+    answer.number
+}
+
+// Finds the book of tables made elsewhere.
+#[no_mangle]
+pub extern "C" fn lindurask_book_of(
+    s: u8,
+    c: u8,
+    kinds: u16,
+    d: u8,
+    u: u8,
+    n: u8,
+    links: &[u8],
+    hearing: &[u8],
+    tables: &[u8],
+    out: &mut [u8],
+    length: &mut usize,
+) -> u8
+    ensures { λ r. ⌜ BookOf (record { slots = s; tiles = c; kinds = kinds; down = d; up = u }) n (now (links .entry)) (now (hearing .entry)) (now (tables .entry)) (now (out .entry))
+        r (now (length .exit)) (now (out .exit)) ⌝ }
+{
+    let plan = Plan {
+        slots: Slot(s as u16),
+        tiles: Tile(c as u16),
+        kinds,
+        down: Slot(d as u16),
+        up: Slot(u as u16),
+    };
+    let answer = crate::book_of(plan, n, links, hearing, tables, out);
+    *length = answer.length;
     answer.number
 }
 

@@ -6,6 +6,7 @@ ghost use Rattle.rules.specs.Calls.{New, Check, Rewrite, Serve, Purchase, Expan
 ghost use Rattle.rules.specs.Calls.Request.{Open, Close};
 ghost use Rattle.rules.specs.Image.{nodesOf};
 ghost use Rattle.rules.specs.Salvage.{Salvage};
+ghost use Rattle.rules.specs.Tables.{BookOf};
 ghost use Rattle.rules.proofs.Reading.{bookIn, LawfulImage};
 ghost use Rattle.image.specs.Header.{HeaderOf};
 ghost use Rattle.posting.specs.Posting.{Posts};
@@ -290,6 +291,21 @@ pub fn keeps_to(image: &[u8], mains: u64) -> Kept
         number: 0,
         keeps: keeping::rows_keep(image, book, mains),
     }
+}
+
+// Finds the book that expands to exactly these tables, made elsewhere: one lent slice, node 0 first, of 100 tiles each; the
+// links, and who hears whom, are given as they stand in an image.
+pub fn book_of(
+    plan: Plan,
+    nodes: u8,
+    links: &[u8],
+    hearing: &[u8],
+    tables: &[u8],
+    out: &mut [u8],
+) -> Answer
+    ensures { λ r. ⌜ BookOf (thePlan plan) nodes (now (links .entry)) (now (hearing .entry)) (now (tables .entry)) (now (out .entry)) (r .number) (r .length) (now (out .exit)) ⌝ }
+{
+    adopting::book_of(plan, nodes, links, hearing, tables, out)
 }
 
 // Salvages what can be kept of a damaged image: writes the book of the rows kept, in its own version, and reports each row cut.

@@ -29,7 +29,7 @@ module _ {s : List ℕ} {v : ℕ} {b : Book} (h : Stored s v b) where
   version-of = ap versionOf (h .bytes) ∙ version-back v b
 
   site-of : siteOf s ≡ b .site
-  site-of = ap siteOf (h .bytes) ∙ site-back v b (h .lawful) (h .fits)
+  site-of = ap siteOf (h .bytes) ∙ site-back v b (h .lawful .site .topologies .even) (h .fits)
 
   nodes-of : nodesOf s ≡ nodes (b .site .links)
   nodes-of = ap nodesOf (h .bytes)

@@ -3,7 +3,6 @@ pub mod Changes
 pub mod Placings
 pub mod Routes
 pub mod Balance
-pub mod Air
 pub mod OnAir
 pub mod Expanding
 pub mod Needed

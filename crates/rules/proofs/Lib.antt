@@ -36,3 +36,7 @@ pub mod Accounts
 pub mod Lawful
 pub mod Mains
 pub mod Saved
+pub mod Air
+pub mod Alike
+pub mod Shown
+pub mod Seen

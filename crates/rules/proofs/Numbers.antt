@@ -9,12 +9,13 @@ use Rattle.rules.specs.Placing.{Asked}
 use Rattle.rules.specs.Image.{imageRefusals}
 use Rattle.rules.specs.Calls.{newRefusals, checkRefusals, rewriteRefusals, postRefusals, openRefusals, closeRefusals, expandRefusals, balanceRefusals}
 use Rattle.rules.specs.Calls.{routesRefusals, purchaseRefusals, keepsRefusals}
+use Rattle.rules.specs.Tables.{tablesRefusals}
 
 abbrev numbers : List Refusal → List ℕ
 numbers [] = []
 numbers (r ∷ rs) = r .number ∷ numbers rs
 
--- image; then post, and of its records open and close; rewrite, expand, balance, routes between, purchase, keeps to; new book
+-- image; then post, and of its records open and close; rewrite, expand, balance, routes between, purchase, keeps to; new book, book of tables
 pub record Ordered : Type 0 where
   pub image : (s : List ℕ) → numbers (imageRefusals s) ≡ 14 ∷ 13 ∷ 10 ∷ 14 ∷ 10 ∷ 14 ∷ 11 ∷ 15 ∷ 16 ∷ []
   pub posts : (mains count room indexRoom v : ℕ) (b : Book) → numbers (postRefusals mains count room indexRoom v b) ≡ 25 ∷ 26 ∷ 12 ∷ []
@@ -27,6 +28,7 @@ pub record Ordered : Type 0 where
   pub purchases : (n amount room v : ℕ) (b : Book) → numbers (purchaseRefusals n amount room v b) ≡ 22 ∷ 24 ∷ 12 ∷ []
   pub keeps : (mains v : ℕ) (b : Book) → numbers (keepsRefusals mains v b) ≡ 25 ∷ []
   pub news : (plan : Plan) (N : ℕ) (links hearing accounts : List ℕ) (room : ℕ) → numbers (newRefusals plan N links hearing accounts room) ≡ 10 ∷ 11 ∷ 12 ∷ []
+  pub tables : (plan : Plan) (N : ℕ) (links hearing tables : List ℕ) (room : ℕ) → numbers (tablesRefusals plan N links hearing tables room) ≡ 10 ∷ 11 ∷ 19 ∷ 8 ∷ 20 ∷ 12 ∷ []
   pub checks : (v : ℕ) (b : Book) → numbers (checkRefusals v b) ≡ []
 
 pub ordered : Ordered
@@ -42,5 +44,6 @@ ordered = record {
   purchases = λ n amount room v b. refl;
   keeps = λ mains v b. refl;
   news = λ plan N links hearing accounts room. refl;
+  tables = λ plan N links hearing tables room. refl;
   checks = λ v b. refl;
 }

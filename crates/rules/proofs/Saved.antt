@@ -272,7 +272,7 @@ pub stored-salvaged : (s : List ℕ) (v : ℕ) (b : Book) → Stored s v b → S
 stored-salvaged s v b g = subst (λ (t : List ℕ). Salvaged t (b .rows) (zeros (b .rows)) [] b) (sym (g .bytes)) here
   where
     site : siteOf (encode v b) ≡ b .site
-    site = site-back v b (g .lawful) (g .fits)
+    site = site-back v b (g .lawful .site .topologies .even) (g .fits)
 
     same : versionOf (encode v b) ≡ v
     same = version-back v b
@@ -283,7 +283,7 @@ stored-salvaged s v b g = subst (λ (t : List ℕ). Salvaged t (b .rows) (zeros 
     here : Salvaged (encode v b) (b .rows) (zeros (b .rows)) [] b
     here = record {
       cut = subst (λ (u : ℕ). CutAll u (drop (rowsPlace (encode v b)) (encode v b)) (b .rows) []) (sym same)
-          (subst (λ (t : List ℕ). CutAll v t (b .rows) []) (sym (rows-back v b (g .lawful))) (cut-rows v (b .rows) (all-sized b (g .lawful)) (g .fits .rows) few));
+          (subst (λ (t : List ℕ). CutAll v t (b .rows) []) (sym (rows-back v b (g .lawful .site .topologies .even))) (cut-rows v (b .rows) (all-sized b (g .lawful)) (g .fits .rows) few));
       keep = subst (λ (u : ℕ). InOrder (Keep u) (bookOf (encode v b) []) (b .rows) (zeros (b .rows)) b) (sym same)
           (subst (λ (p : Site). InOrder (Keep v) (record { site = p; rows = [] }) (b .rows) (zeros (b .rows)) b) (sym site)
           (keep-rows v b (g .lawful) (g .fits .rows) [] (b .rows) refl));

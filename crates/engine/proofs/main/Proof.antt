@@ -6,11 +6,11 @@ use borrow.Author.Needs.{needs}
 use Rattle.engine.proofs.main.Statement.{statement}
 use Rattle.engine.proofs.main.Tie as tie
 
+input-buffer-requires : tie.Need-input-buffer-requires
+input-buffer-requires c κs = search needs
+
 large-buffer-requires : tie.Need-large-buffer-requires
 large-buffer-requires c κs = search needs
-
-large-buffer-requires-2 : tie.Need-large-buffer-requires-2
-large-buffer-requires-2 c κs = search needs
 
 slice-aggregate-serve : tie.Need-slice-aggregate-serve
 slice-aggregate-serve c = search needs
@@ -37,8 +37,8 @@ pub main-spec : {M : Type 1} → statement M
 main-spec =
     tie.close
     (tie.spec
+    input-buffer-requires
     large-buffer-requires
-    large-buffer-requires-2
     slice-aggregate-serve
     slice-aggregate-serve-2
     serve-requires

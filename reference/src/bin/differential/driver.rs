@@ -90,7 +90,7 @@ fn needed(request: &Request) -> u16 {
 
 /// The longest topology or book a frame may have.
 fn most_bytes(call: Call) -> usize {
-    if call == Call::New { 1024 } else { 4096 }
+    if matches!(call, Call::New | Call::BookOf) { 1024 } else { 4096 }
 }
 
 pub struct Driver {

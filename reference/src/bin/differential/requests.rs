@@ -3,12 +3,13 @@
 use crate::dice::Dice;
 use crate::site::open_plan;
 use reference::account::{ACCOUNT_BYTES, ONLY_ACCOUNT, write_accounts};
+use reference::book::Book;
 use reference::frame::{Call, Request};
 use reference::index::index_words;
 use reference::node_set::NodeSet;
 use reference::plan::{PERIODS, Plan, TILE_SLOTS};
 use reference::record::Record;
-use reference::topology::NODES;
+use reference::topology::{NODES, write_rows};
 use reference::version::{HEADER_LENGTH, Version};
 
 /// A new book whose hearing is its links.
@@ -50,6 +51,13 @@ pub fn open(book: &[u8], id: u16, source: u8, destination: u8, period: u16) -> R
 /// An open that also asks for a second route.
 pub fn open_with_second(book: &[u8], id: u16, source: u8, destination: u8, period: u16) -> Request {
     Request { second: true, ..open(book, id, source, destination, period) }
+}
+
+/// The book of these tables.
+pub fn book_of(book: &Book, tables: Vec<u8>) -> Request {
+    let (links, hearing) = (write_rows(&book.topology.links), write_rows(&book.topology.hearing));
+    let new = new_with_hearing(&book.plan, book.topology.nodes(), &links, &hearing);
+    Request { call: Call::BookOf, further: tables, ..new }
 }
 
 /// A salvage with a report of so many bytes.
@@ -151,7 +159,7 @@ fn nodes_of(book: &[u8]) -> u8 {
 pub fn any(dice: &mut Dice, call: Call, book: &[u8], ids: &[u16]) -> Request {
     let nodes = nodes_of(book);
     match call {
-        Call::New => unreachable!("a new book is not made from a book"),
+        Call::New | Call::BookOf => unreachable!("it is not asked of a book"),
         Call::Check => check(book),
         Call::Rewrite => rewrite(book),
         Call::Open => any_open(dice, book, nodes, ids),

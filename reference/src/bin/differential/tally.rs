@@ -53,6 +53,7 @@ fn possible(call: Call) -> &'static [u8] {
         Call::Purchase => &[0, 10, 11, 12, 13, 14, 15, 16, 22, 24],
         Call::Links => &[0, 4, 10, 11, 13, 14, 15, 16],
         Call::Salvage => &[0, 10, 11, 12, 13, 14],
+        Call::BookOf => &[0, 8, 10, 11, 12, 19, 20],
     }
 }
 

@@ -16,6 +16,7 @@ mod route_lists;
 mod second_routes;
 mod sequences;
 mod slow;
+mod tables;
 mod unusual;
 
 use crate::dice::Dice;
@@ -61,6 +62,8 @@ pub fn fixed(driver: &mut Driver, dice: &mut Dice, seed: u64) {
     accounts::ask(driver, dice);
     driver.family("books damaged on laptops");
     damaged::ask(driver, dice);
+    driver.family("tables made elsewhere");
+    tables::ask(driver, dice);
     driver.family("mains sets");
     mains::ask(driver, dice);
     driver.family("postings around their limits");

@@ -1,0 +1,4 @@
+pub mod Ways
+pub mod Seeking
+pub mod Collecting
+pub mod Holding
