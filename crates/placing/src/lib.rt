@@ -73,6 +73,7 @@ fn is_free(
 fn next_free(
     plan: Plan,
     place: usize,
+    repeats: Repeats,
     index: &[u64; index::WORDS],
     image: &[u8],
     start: usize,
@@ -83,10 +84,10 @@ fn next_free(
     reach: Reach,
     lo: u16,
 ) -> Next
-    requires { ⌜ PlanInRange (thePlan plan) × InList place × Standing (around (now index) (now image) start rows (now moduli) (now first) (now taken)) ⌝ }
+    requires { ⌜ PlanInRange (thePlan plan) × InList place × RepeatsOf (plan .slots .0) (periodAt place) repeats
+        × Standing (around (now index) (now image) start rows (now moduli) (now first) (now taken)) ⌝ }
     ensures { λ r. ⌜ Searched (FreeBy (InReach reach) (thePlan plan) (around (now (index .entry)) (now (image .entry)) start rows (now (moduli .entry)) (now (first .entry)) (now (taken .entry))) (periodAt place)) lo (periodAt place * plan .slots .0) r ⌝ }
 {
-    let repeats = index::repeats_of(plan.slots, place);
     let mut o = lo;
     while o < repeats.span.0 {
         if is_free(
@@ -117,6 +118,7 @@ fn next_offset(
     from: Node,
     to: Node,
     place: usize,
+    repeats: Repeats,
     index: &[u64; index::WORDS],
     image: &[u8],
     start: usize,
@@ -126,7 +128,7 @@ fn next_offset(
     taken: &[u16],
     lo: u16,
 ) -> Next
-    requires { ⌜ PlanInRange (thePlan plan) × InList place × Between (topology (now hearing)) (hop from to)
+    requires { ⌜ PlanInRange (thePlan plan) × InList place × RepeatsOf (plan .slots .0) (periodAt place) repeats × Between (topology (now hearing)) (hop from to)
         × Standing (around (now index) (now image) start rows (now moduli) (now first) (now taken)) ⌝ }
     ensures { λ r. ⌜ Searched (FreeBy (Clashes (topology (now (hearing .entry))) (hop from to)) (thePlan plan) (around (now (index .entry)) (now (image .entry)) start rows (now (moduli .entry)) (now (first .entry)) (now (taken .entry))) (periodAt place)) lo
         (periodAt place * plan .slots .0) r ⌝ }
@@ -135,6 +137,7 @@ fn next_offset(
     next_free(
         plan,
         place,
+        repeats,
         index,
         image,
         start,
@@ -165,6 +168,7 @@ pub fn first_placing(
     ensures { λ r. ⌜ AnswersBy (thePlan plan) (topology (now (hearing .entry))) (around (now (index .entry)) (now (image .entry)) start rows (now (moduli .entry)) (now (first .entry)) (now (taken .entry))) (periodAt place) (now (route .entry)) (r .found) (r .offsets) ⌝ }
 {
     let hops = route.len() - 1;
+    let repeats = index::repeats_of(plan.slots, place);
     let mut offsets = [0u16; 15];
     let mut lo: u16 = 0;
     let mut h = 0;
@@ -177,6 +181,7 @@ pub fn first_placing(
             from,
             to,
             place,
+            repeats,
             index,
             image,
             start,
