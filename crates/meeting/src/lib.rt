@@ -1,18 +1,36 @@
 // Whether clashing hops of different rows meet: each row is compared with the index of the rows before it, and by the plain
 // test with those that the index leaves out.
-ghost use Prim.Native.Nat.{_<_};
+ghost use Prim.Native.Nat.{_+_, _<_, _≤_};
 ghost use mathlib.Core.Path.{_≡_};
-ghost use lib.ListN.{length};
-ghost use Rattle.rules.specs.Book.{hops};
-ghost use Rattle.rules.specs.Image.{planOf};
+ghost use lib.ListN.{length, getD};
+ghost use Rattle.rules.specs.Words.{TwoBytes};
+ghost use Rattle.rules.specs.Book.{hops, rowOffset};
+ghost use Rattle.rules.specs.Image.{planOf, versionOf, hopsPlace};
 ghost use Rattle.index.specs.Index.{indexLength};
-ghost use Rattle.image.specs.Places.{rowAt};
+ghost use Rattle.image.specs.Places.{rowAt, Whole};
 ghost use Rattle.plain.specs.Plain.{RowsThere};
 ghost use Rattle.meeting.specs.Meeting.{HopMarked, RowMarked, RowCompared, RowsIndexed, RowPlaced, RowBehind, HearingRead, HopsRead};
 use image::Book;
 use index::Repeats;
+use rules::Node;
 use rules::Place;
 use rules::Slot;
+
+// Node i of the row, whose nodes stand so many bytes behind its start: the layout is read once for all its hops.
+fn node_in(image: &[u8], at: usize, nodes: usize, i: usize) -> Node
+    requires { ⌜ Whole (now image) at × (nodes ≡ hopsPlace (versionOf (now image)) + 1) × (i ≤ hops (rowAt (now image) at)) ⌝ }
+    ensures { λ r. ⌜ (r .0 ≡ getD (rowAt (now (image .entry)) at .route) i 0) × (r .0 < 256) ⌝ }
+{
+    Node(image[at + nodes + i])
+}
+
+// The offset of hop i of its h hops: the offsets stand behind the nodes.
+fn offset_in(image: &[u8], at: usize, nodes: usize, h: usize, i: usize) -> Slot
+    requires { ⌜ Whole (now image) at × (nodes ≡ hopsPlace (versionOf (now image)) + 1) × (h ≡ hops (rowAt (now image) at)) × (i < h) ⌝ }
+    ensures { λ r. ⌜ (r .0 ≡ rowOffset (rowAt (now (image .entry)) at) i) × TwoBytes (r .0) ⌝ }
+{
+    Slot(image::word_at(image, at + (nodes + 1) + h + 2 * i))
+}
 
 // Marks hop i of the row; whether a node that clashes with it was at work in a slot that it takes, or it agrees with a
 // clashing hop of the rows that have moduli.
@@ -20,6 +38,8 @@ fn hop_meets(
     image: &[u8],
     hearing: &[u64],
     at: usize,
+    nodes: usize,
+    h: usize,
     i: usize,
     repeats: Repeats,
     start: usize,
@@ -28,12 +48,12 @@ fn hop_meets(
     index: &mut [u64; index::WORDS],
 ) -> bool
     requires { ⌜ RowPlaced (now image) at repeats × HearingRead (now image) (now hearing) × (i < hops (rowAt (now image) at)) × (length (now index) ≡ indexLength)
-        × RowsThere (now image) start rows ⌝ }
+        × RowsThere (now image) start rows × (nodes ≡ hopsPlace (versionOf (now image)) + 1) × (h ≡ hops (rowAt (now image) at)) ⌝ }
     ensures { λ r. ⌜ HopMarked (now (image .entry)) start rows (now (moduli .entry)) at i repeats (now (index .entry)) (now (index .exit)) r ⌝ }
 {
-    let from = image::node_at(image, at, i);
-    let to = image::node_at(image, at, i + 1);
-    let offset = image::offset_at(image, at, i);
+    let from = node_in(image, at, nodes, i);
+    let to = node_in(image, at, nodes, i + 1);
+    let offset = offset_in(image, at, nodes, h, i);
     let reach = clash::reach_of(hearing, from, to);
     if index::mark(index, repeats, offset, from, to, reach) {
         return true;
@@ -56,9 +76,22 @@ pub fn row_meets(
     ensures { λ r. ⌜ RowMarked (now (image .entry)) start rows (now (moduli .entry)) at (now (index .entry)) (now (index .exit)) r ⌝ }
 {
     let h = image::hops_at(image, at);
+    let nodes = image::hops_place_in(image) + 1;
     let mut i = 0;
     while i < h {
-        if hop_meets(image, hearing, at, i, repeats, start, rows, moduli, index) {
+        if hop_meets(
+            image,
+            hearing,
+            at,
+            nodes,
+            h,
+            i,
+            repeats,
+            start,
+            rows,
+            moduli,
+            index,
+        ) {
             return true;
         }
         i += 1;

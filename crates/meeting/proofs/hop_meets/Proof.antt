@@ -10,14 +10,14 @@ use Rattle.meeting.proofs.hop_meets.Tie as tie
 reach-of-requires : tie.Need-reach-of-requires
 reach-of-requires c κs =
     let p = c .before .before .before .before .before .pre in
-    between-here (p .0) (p .1) _ (c .before .before .node-at .ensures .0) (c .before .node-at2 .ensures .0) (p .2)
+    between-here (p .0) (p .1) _ (c .before .before .node-in .ensures .0) (c .before .node-in2 .ensures .0) (p .2)
 
 mark-requires : tie.Need-mark-requires
 mark-requires c κs =
     let a = c .before .before .before .before .before .before .before in
     let p = a .pre in (
       p .3,
-      hop-in-index (p .0) (p .2) (c .before .before .offset-at .ensures .0),
+      hop-in-index (p .0) (p .2) (c .before .before .offset-in .ensures .0),
       omega (arith, node-small (p .0 .fields) (p .0 .row) (a .args .i) (omega arith)),
       omega (arith, node-small (p .0 .fields) (p .0 .row) (a .args .i + 1) (omega arith)),
     )
@@ -25,14 +25,14 @@ mark-requires c κs =
 returns : tie.Need-returns
 returns c =
     let p = c .before .before .before .before .before .before .before .before .before .pre in
-    hop-met (p .0) (p .1) _ (c .before .before .before .before .before .before .node-at .ensures .0) (c .before .before .before .before .before .node-at2 .ensures .0)
-    (c .before .before .before .reach-of .ensures) (c .before .before .before .before .offset-at .ensures .0) (c .before .mark .ensures) (c .if1 .taken)
+    hop-met (p .0) (p .1) _ (c .before .before .before .before .before .before .node-in .ensures .0) (c .before .before .before .before .before .node-in2 .ensures .0)
+    (c .before .before .before .reach-of .ensures) (c .before .before .before .before .offset-in .ensures .0) (c .before .mark .ensures) (c .if1 .taken)
 
 returns-2 : tie.Need-returns-2
 returns-2 c =
     let p = c .before .before .before .before .before .before .before .before .before .before .pre in
-    hop-marked (p .0) (p .1) _ (c .before .before .before .before .before .before .before .node-at .ensures .0) (c .before .before .before .before .before .before .node-at2 .ensures .0)
-    (c .before .before .before .before .reach-of .ensures) (c .before .before .before .before .before .offset-at .ensures .0) (c .before .before .mark .ensures) (c .before .if1 .left)
+    hop-marked (p .0) (p .1) _ (c .before .before .before .before .before .before .before .node-in .ensures .0) (c .before .before .before .before .before .before .node-in2 .ensures .0)
+    (c .before .before .before .before .reach-of .ensures) (c .before .before .before .before .before .offset-in .ensures .0) (c .before .before .mark .ensures) (c .before .if1 .left)
     (c .agrees .ensures)
 
 pub hop-meets-spec : {M : Type 1} → statement M

@@ -3,6 +3,7 @@ use mathlib.Core.Path.{sym}
 use Prim.Native.Nat.{ℕ, _<_, _≤_, _-_}
 use native.Mathlib.Omega.{arith}
 use borrow.Author.Count.{below-more}
+use borrow.Author.Needs.{needs}
 use Rattle.rules.specs.Image.{planOf}
 use Rattle.rules.proofs.Tests.{never, fails, said-yes, said-no}
 use Rattle.index.specs.Marks.{Adds, HopsTake}
@@ -14,11 +15,11 @@ use Rattle.meeting.proofs.row_meets.Statement.{statement}
 use Rattle.meeting.proofs.row_meets.Tie as tie
 
 abbrev Inv-loop : tie.InvT-loop
-Inv-loop image hearing at repeats start rows moduli index₀ h i₀ index i =
+Inv-loop image hearing at repeats start rows moduli index₀ h nodes i₀ index i =
     (i ≤ h) × Adds (HopsTake (planOf image .slots) (rowAt image at) i) index₀ index × ((j : ℕ) → j < i → HopAgrees index₀ image start rows moduli at j → ⊥)
 
 abbrev μ-loop : tie.MeasureT-loop
-μ-loop image hearing at repeats start rows moduli index₀ h i₀ index i = h - i
+μ-loop image hearing at repeats start rows moduli index₀ h nodes i₀ index i = h - i
 
 hops-at-requires : tie.Need-hops-at-requires Inv-loop μ-loop
 hops-at-requires c κs = c .before .before .pre .0 .row .whole
@@ -28,19 +29,20 @@ loop-holds c = (omega arith, hops-none _ _ _, λ j l. absurd (omega arith))
 
 hop-meets-requires : tie.Need-hop-meets-requires Inv-loop μ-loop
 hop-meets-requires c κs =
-    let p = c .before .before .before .before .before .before .pre in
-    (p .0, p .1, omega arith, omega (arith, p .2, c .before .before .loop .inv .1 .size), p .3)
+    let e = c .before .before .before in
+    let p = e .before .before .before .before .pre in
+    (p .0, p .1, omega arith, omega (arith, p .2, c .before .before .loop .inv .1 .size), p .3, omega (arith, e .hops-place-in .ensures .0), e .before .hops-at .ensures .0)
 
 returns : tie.Need-returns Inv-loop μ-loop
 returns c =
-    let p = c .before .before .before .before .before .before .before .before .pre in
+    let p = c .before .before .before .before .before .before .before .before .before .pre in
     let l = c .before .before .before .before .loop in
     let t = own-apart (p .0) (omega arith) (l .inv .1) (c .before .hop-meets .ensures .met) in
     record { adds = λ e. never (sym e); met = said-yes (l .i, omega arith, t .yes (c .if1 .taken)) }
 
 loop-again : tie.Need-loop-again Inv-loop μ-loop
 loop-again c =
-    let p = c .before .before .before .before .before .before .before .before .pre in
+    let p = c .before .before .before .before .before .before .before .before .before .pre in
     let l = c .before .before .before .before .loop in
     let t = own-apart (p .0) (omega arith) (l .inv .1) (c .before .hop-meets .ensures .met) in
     (omega arith, hops-more _ _ (l .i) (p .0 .repeats-are) (l .inv .1) (c .before .hop-meets .ensures .adds), below-more _ _ (l .inv .2) (fails t (c .if1 .left)))
@@ -57,6 +59,8 @@ row-meets-spec =
     Inv-loop
     μ-loop
     hops-at-requires
+    (λ c κs. search needs)
+    (λ c. search needs)
     loop-holds
     hop-meets-requires
     returns
