@@ -1,4 +1,4 @@
-/* The ten calls of include/lindurask.h under other names, and the figures of a statement. */
+/* The eleven calls of include/lindurask.h under other names, and the figures of a statement. */
 #ifndef FAST_H
 #define FAST_H
 
@@ -35,6 +35,9 @@ uint8_t fast_expand(const uint8_t *book, size_t book_len, uint8_t node, uint16_t
 uint8_t fast_balance(const uint8_t *book, size_t book_len, uint8_t node, uint32_t *data, uint32_t *used, uint32_t *free_slots);
 uint8_t fast_routes(const uint8_t *book, size_t book_len, uint64_t mains, uint8_t source, uint8_t destination, uint8_t *out,
                     size_t out_len, size_t *length, uint8_t *more);
+uint8_t fast_book_of(uint8_t s, uint8_t c, uint16_t kinds, uint8_t d, uint8_t u, uint8_t n, const uint8_t *links,
+                     size_t links_len, const uint8_t *hearing, size_t hearing_len, const uint8_t *tables, size_t tables_len,
+                     uint8_t *out, size_t out_len, size_t *length);
 
 /* Of an accepted image: each node's free slots, the fewest of them, the sum of used, the longest latency. */
 struct fast_figures {

@@ -1,8 +1,9 @@
 //! The jobs: each makes its calls, and shows what every call gave back.
 
-use crate::planners::{Planner, Request, Said, Stream};
+use crate::planners::{Plan, Planner, Request, Said, Stream};
 use crate::site::{
-    NODES, PLAN, doubled_streams, hearing, linked_topology, slow_streams, streams, topology,
+    NODES, PLAN, SMALL_PLAN, doubled_streams, hearing, linked_topology, slow_streams,
+    small_streams, small_topology, streams, topology,
 };
 use reference::image;
 use reference::version::Version;
@@ -44,6 +45,10 @@ pub struct Site {
     /// Streams of which some are slow, and the book of them.
     slow: Vec<Stream>,
     slow_full: Vec<u8>,
+    /// The tables of the full book, and those of a small site with its links.
+    tables: Vec<u8>,
+    small_tables: Vec<u8>,
+    small_topology: Vec<u8>,
     /// The index that is lent to postings.
     index: RefCell<Vec<u64>>,
 }
@@ -60,19 +65,26 @@ impl Site {
             older: Vec::new(),
             months: [Vec::new(), Vec::new()],
             both: Vec::new(),
-            linked: empty_book(planner, &linked_topology(), &linked_topology()),
-            heard: empty_book(planner, &topology(), &hearing()),
+            linked: empty_book(planner, &PLAN, &linked_topology(), &linked_topology()),
+            heard: empty_book(planner, &PLAN, &topology(), &hearing()),
             nearly: Vec::new(),
             slow: slow_streams(),
             slow_full: Vec::new(),
+            tables: Vec::new(),
+            small_tables: Vec::new(),
+            small_topology: small_topology(),
             index: RefCell::new(vec![0; LONGEST_INDEX]),
         };
-        site.empty = empty_book(planner, &site.topology, &site.topology);
+        site.empty = empty_book(planner, &PLAN, &site.topology, &site.topology);
         let mut done = |number: u8, _: &[u8]| assert_eq!(number, 0, "every stream has a place");
         site.full = open_all(planner, &site.empty, &site.streams, &mut done);
         site.both = open_all(planner, &site.empty, &site.doubled, &mut done);
         site.nearly = open_all(planner, &site.empty, &site.streams[..63], &mut done);
         site.slow_full = open_all(planner, &site.empty, &site.slow, &mut done);
+        site.tables = tables_of(planner, &PLAN, &site.full);
+        let small = empty_book(planner, &SMALL_PLAN, &site.small_topology, &site.small_topology);
+        let small = open_all(planner, &small, &small_streams(), &mut done);
+        site.small_tables = tables_of(planner, &SMALL_PLAN, &small);
         let (_, book) = image::read(&site.full).expect("the full book is lawful");
         site.older = image::write(Version::One, &book);
         site.months = [site.full.clone(), reopened(planner, &site.full, &site.streams[0])];
@@ -80,12 +92,23 @@ impl Site {
     }
 }
 
-/// The empty book of the links and of who hears whom.
-fn empty_book(planner: &dyn Planner, links: &[u8], hearing: &[u8]) -> Vec<u8> {
+/// The empty book of a plan, of the links and of who hears whom.
+fn empty_book(planner: &dyn Planner, plan: &Plan, links: &[u8], hearing: &[u8]) -> Vec<u8> {
     let mut image = [0; LONGEST_IMAGE];
-    let (number, length) = planner.new_book(&PLAN, links, hearing, &mut image);
+    let (number, length) = planner.new_book(plan, links, hearing, &mut image);
     assert_eq!(number, 0, "the empty book is made");
     image[..length].to_vec()
+}
+
+/// The tables of all nodes of a book, node 0 first.
+fn tables_of(planner: &dyn Planner, plan: &Plan, book: &[u8]) -> Vec<u8> {
+    let mut out = [0; LONGEST_TABLE];
+    let mut table = |node| {
+        let (number, length) = planner.expand(book, node, &mut out);
+        assert_eq!(number, 0, "a table is expanded");
+        out[..length].to_vec()
+    };
+    (0..plan.n).flat_map(&mut table).collect()
 }
 
 /// The book with a stream closed, and opened again with half its period.
@@ -114,7 +137,7 @@ pub const POST_OPENS: Job = Job { name: "post: 64 opens in one list", run: post_
 /// The same, one call after the other.
 pub const OPENS: Job = Job { name: "open: 64 streams, one after the other", run: open };
 
-pub const JOBS: [Job; 22] = [
+pub const JOBS: [Job; 24] = [
     Job { name: "new: the empty book", run: new },
     Job { name: "open: the last of 64 streams", run: open_last },
     OPENS,
@@ -137,6 +160,8 @@ pub const JOBS: [Job; 22] = [
     Job { name: "routes: from 32 nodes to one two across and two down", run: routes },
     Job { name: "routes: from every node to one 3 to 6 hops away, empty book", run: far_routes },
     Job { name: "routes: one list of 64 nodes all linked to each other", run: linked_routes },
+    Job { name: "book of: the largest tables", run: book_of },
+    Job { name: "book of: the tables of a small site", run: small_book_of },
 ];
 
 fn new(planner: &dyn Planner, site: &Site, show: Show) {
@@ -292,6 +317,19 @@ fn list(planner: &dyn Planner, book: &[u8], source: u8, destination: u8, show: S
     let ((number, length), more) = planner.routes(book, source, destination, &mut out);
     show(number, &out[..length]);
     show(number, &[u8::from(more)]);
+}
+
+fn book_of(planner: &dyn Planner, site: &Site, show: Show) {
+    let mut out = [0; LONGEST_IMAGE];
+    let said = planner.book_of(&PLAN, &site.topology, &site.topology, &site.tables, &mut out);
+    show_bytes(show, said, &out);
+}
+
+fn small_book_of(planner: &dyn Planner, site: &Site, show: Show) {
+    let mut out = [0; LONGEST_IMAGE];
+    let (links, tables) = (&site.small_topology, &site.small_tables);
+    let said = planner.book_of(&SMALL_PLAN, links, links, tables, &mut out);
+    show_bytes(show, said, &out);
 }
 
 /// Makes a call for each stream, each on the image that the one before wrote.

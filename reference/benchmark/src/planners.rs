@@ -42,6 +42,14 @@ pub trait Planner {
     fn expand(&self, book: &[u8], node: u8, out: &mut [u8]) -> Said;
     fn balance(&self, book: &[u8], node: u8) -> (u8, [u32; 3]);
     fn routes(&self, book: &[u8], source: u8, destination: u8, out: &mut [u8]) -> (Said, bool);
+    fn book_of(
+        &self,
+        plan: &Plan,
+        links: &[u8],
+        hearing: &[u8],
+        tables: &[u8],
+        out: &mut [u8],
+    ) -> Said;
 }
 
 /// The arguments of a new book beside its links and who hears whom.
@@ -93,7 +101,7 @@ impl Request {
 macro_rules! planner_in_c {
     ($planner:ident, $module:ident, $new:literal, $check:literal, $rewrite:literal, $open:literal,
      $close:literal, $post:literal, $purchase:literal, $expand:literal, $balance:literal,
-     $routes:literal) => {
+     $routes:literal, $book_of:literal) => {
         mod $module {
             use super::Request;
 
@@ -203,6 +211,24 @@ macro_rules! planner_in_c {
                     out_len: usize,
                     length: *mut usize,
                     more: *mut u8,
+                ) -> u8;
+                #[link_name = $book_of]
+                pub fn book_of(
+                    s: u8,
+                    c: u8,
+                    kinds: u16,
+                    d: u8,
+                    u: u8,
+                    n: u8,
+                    links: *const u8,
+                    links_len: usize,
+                    hearing: *const u8,
+                    hearing_len: usize,
+                    tables: *const u8,
+                    tables_len: usize,
+                    out: *mut u8,
+                    out_len: usize,
+                    length: *mut usize,
                 ) -> u8;
             }
         }
@@ -342,6 +368,39 @@ macro_rules! planner_in_c {
                 });
                 (said, more == 1)
             }
+
+            fn book_of(
+                &self,
+                plan: &Plan,
+                links: &[u8],
+                hearing: &[u8],
+                tables: &[u8],
+                out: &mut [u8],
+            ) -> Said {
+                let Plan { s, c, kinds, d, u, n } = *plan;
+                let (linked, heard) = (links.as_ptr(), hearing.as_ptr());
+                let (given, size) = (tables.as_ptr(), tables.len());
+                let (room, most) = (out.as_mut_ptr(), out.len());
+                said(|length| unsafe {
+                    $module::book_of(
+                        s,
+                        c,
+                        kinds,
+                        d,
+                        u,
+                        n,
+                        linked,
+                        links.len(),
+                        heard,
+                        hearing.len(),
+                        given,
+                        size,
+                        room,
+                        most,
+                        length,
+                    )
+                })
+            }
         }
     };
 }
@@ -358,7 +417,8 @@ planner_in_c!(
     "lindurask_purchase",
     "lindurask_expand",
     "lindurask_balance",
-    "lindurask_routes"
+    "lindurask_routes",
+    "lindurask_book_of"
 );
 
 planner_in_c!(
@@ -373,7 +433,8 @@ planner_in_c!(
     "fast_purchase",
     "fast_expand",
     "fast_balance",
-    "fast_routes"
+    "fast_routes",
+    "fast_book_of"
 );
 
 planner_in_c!(
@@ -388,7 +449,8 @@ planner_in_c!(
     "fast_purchase",
     "fast_expand",
     "fast_balance",
-    "fast_routes"
+    "fast_routes",
+    "fast_book_of"
 );
 
 /// The number that a call gives, and the length that it sets.
@@ -455,6 +517,19 @@ impl Planner for Reference {
     fn routes(&self, book: &[u8], source: u8, destination: u8, out: &mut [u8]) -> (Said, bool) {
         let (number, length, more) = calls::routes(book, all_nodes(book), source, destination, out);
         ((number, length), more)
+    }
+
+    fn book_of(
+        &self,
+        plan: &Plan,
+        links: &[u8],
+        hearing: &[u8],
+        tables: &[u8],
+        out: &mut [u8],
+    ) -> Said {
+        let Plan { s, c, kinds, d, u, n } = *plan;
+        let plan = reference::plan::Plan { s, c, kinds, d, u };
+        calls::book_of(&Site { plan, nodes: n, links, hearing }, tables, out)
     }
 }
 

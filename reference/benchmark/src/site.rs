@@ -79,3 +79,27 @@ pub fn stream_on(i: u16, across: u8, down: u8, periods: &[u16]) -> Stream {
     let period = periods[usize::from(i) % periods.len()];
     Stream { id: i * 37 % 64 * 5 + 1, source, destination, period, second: false }
 }
+
+/// A small site: nodes in a line, tiles of 8 slots.
+pub const SMALL_PLAN: Plan = Plan { s: 8, c: 4, kinds: 0b0101, d: 2, u: 1, n: 6 };
+
+/// The line's rows: a node is linked to the one before it and the one behind it.
+pub fn small_topology() -> Vec<u8> {
+    let row = |node: u8| (1_u64 << (node + 1) | (1 << node) >> 1) & ((1 << SMALL_PLAN.n) - 1);
+    (0..SMALL_PLAN.n).flat_map(|node| row(node).to_be_bytes()).collect()
+}
+
+/// The streams of the small site: along the line both ways, and on a part of it.
+pub fn small_streams() -> Vec<Stream> {
+    let ends = [(0, 5, 10), (5, 0, 20), (1, 4, 5), (3, 2, 50)];
+    let numbered = (1..).zip(ends);
+    numbered
+        .map(|(id, (source, destination, period))| Stream {
+            id,
+            source,
+            destination,
+            period,
+            second: false,
+        })
+        .collect()
+}
