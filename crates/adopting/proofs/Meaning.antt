@@ -136,7 +136,8 @@ module _ (plan : Plan) (N : ℕ) (links hearing tables out : List ℕ) {len : �
 -- THE CALL
 module _ (plan : Plan) (N : ℕ) (links hearing tables out : List ℕ) {number length′ : ℕ} where
   said : {out′ : List ℕ}
-      → Reply (tablesRefusals plan N links hearing tables (length out)) (λ (bytes : List ℕ). OfShown (siteGiven plan N links hearing) tables (λ (b : Book). bytes ≡ encode newest b)) out number length′ out′
+      → Reply (tablesRefusals plan N links hearing tables (length out))
+      (λ (bytes : List ℕ). OfShown (siteGiven plan N links hearing) tables (λ (b : Book). bytes ≡ encode newest b)) out number length′ out′
       → BookOf plan N links hearing tables out number length′ out′
   said w = record { says = w .says; refused = w .refused; done = w .done }
 

@@ -76,7 +76,8 @@ module _ (keys : List ℕ) {found key place : ℕ} (few : found ≤ length keys)
   pub noted-full : (entries : List ℕ) (i : ℕ) → found ≤ place → found ≡ mostStreams → Noted keys entries found key i (found + 1) keys entries
   noted-full entries i l e = full nonzero (absent l) e
 
-  pub noted-put : (entries : List ℕ) (i : ℕ) → found ≤ place → found < mostStreams → found < length keys → found < length entries → Noted keys entries found key i (found + 1) (set keys found key) (set entries found i)
+  pub noted-put : (entries : List ℕ) (i : ℕ) → found ≤ place → found < mostStreams → found < length keys → found < length entries
+      → Noted keys entries found key i (found + 1) (set keys found key) (set entries found i)
   noted-put entries i l m a b = put nonzero (absent l) m (ap (λ (n : ℕ). take n (set keys found key)) (add-one found) ∙ take-suc-set keys found key a)
       (ap (λ (n : ℕ). take n (set entries found i)) (add-one found) ∙ take-suc-set entries found i b)
 
@@ -157,7 +158,8 @@ module _ {sent : Bool} {tables : List ℕ} where
   -- A TURN
   module _ {i key found : ℕ} (keys entries : List ℕ) (at : KeyAt sent tables i key) (few : found ≤ mostStreams)
       (h : KeysOf sent tables i (take found keys) (take found entries)) where
-    pub keys-more : {found′ : ℕ} {keys′ entries′ : List ℕ} → found′ ≤ mostStreams → Noted keys entries found key i found′ keys′ entries′ → KeysOf sent tables (i + 1) (take found′ keys′) (take found′ entries′)
+    pub keys-more : {found′ : ℕ} {keys′ entries′ : List ℕ} → found′ ≤ mostStreams → Noted keys entries found key i found′ keys′ entries′
+        → KeysOf sent tables (i + 1) (take found′ keys′) (take found′ entries′)
     keys-more l (no-key e) = keys-kept at h (λ m. absurd (omega arith))
     keys-more l (there m) = keys-kept at h (λ k. m)
     keys-more l (full z n e) = absurd (omega arith)
@@ -174,7 +176,8 @@ module _ {sent : Bool} {tables : List ℕ} where
         old : (k : ℕ) → (p : ℕ) × (p < length (take found keys)) × (k ≡ getD (take found keys) p 0) → (j : ℕ) × (j < count) × ShowsKey sent tables j k
         old k (p, m, f) = (getD (take found entries) p 0, omega (arith, h .inside p m), subst (ShowsKey sent tables (getD (take found entries) p 0)) (sym f) (h .shown p m))
 
-    pub keys-over : {count found′ : ℕ} {keys′ entries′ : List ℕ} → i < count → found ≤ length keys → mostStreams < found′ → Noted keys entries found key i found′ keys′ entries′ → Over sent tables count
+    pub keys-over : {count found′ : ℕ} {keys′ entries′ : List ℕ} → i < count → found ≤ length keys → mostStreams < found′
+        → Noted keys entries found key i found′ keys′ entries′ → Over sent tables count
     keys-over l m k (no-key e) = absurd (omega arith)
     keys-over l m k (there n) = absurd (omega arith)
     keys-over {count} l m k (full z n e) = over-one count l m e z n

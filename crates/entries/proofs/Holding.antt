@@ -82,7 +82,8 @@ module _ (plan : Plan) (w : PlanInRange plan) where
     tiles-entries h i l =
         let t : i / S < shortTiles * N = div-lt-iff-lt-mul {k = S} {x = i} {y = shortTiles * N} (w .some) .1 (omega arith) in
         let e : i / S * S + i % S ≡ i = div-add-mod' i S in
-        entry-is plan (i % L) (place-round i) (control-round i) (subst (λ (j : ℕ). EntryIn (ltb (i % S) (controlSlots plan (i / S))) (operationAt tables j) (idAt tables j)) e (h (i / S) t (i % S) (mod-lt i (w .some))))
+        entry-is plan (i % L) (place-round i) (control-round i)
+        (subst (λ (j : ℕ). EntryIn (ltb (i % S) (controlSlots plan (i / S))) (operationAt tables j) (idAt tables j)) e (h (i / S) t (i % S) (mod-lt i (w .some))))
 
     entries-tiles : ((i : ℕ) → i < entriesOf plan N → IsEntry plan (i % L) (operationAt tables i) (idAt tables i)) → Tiles
     entries-tiles h t l p m =

@@ -38,7 +38,8 @@ second-way operation l m = record {
 pub no-way : (operation : ℕ) → (1 ≤ operation → operation ≤ 4 → ⊥) → (17 ≤ operation → operation ≤ 20 → ⊥) → WayOf operation 0
 no-way operation f g = record {
   most = omega arith;
-  is = λ way s. ⊎-elim (λ (r : (way ≡ 1) × (1 ≤ operation) × (operation ≤ 4)). absurd (f (r .1) (r .2))) (λ (r : (way ≡ 2) × (17 ≤ operation) × (operation ≤ 20)). absurd (g (r .1) (r .2))) (stream-range s);
+  is = λ way s. ⊎-elim (λ (r : (way ≡ 1) × (1 ≤ operation) × (operation ≤ 4)). absurd (f (r .1) (r .2)))
+      (λ (r : (way ≡ 2) × (17 ≤ operation) × (operation ≤ 20)). absurd (g (r .1) (r .2))) (stream-range s);
   of-stream = λ k. absurd (omega arith);
 }
 

@@ -229,7 +229,8 @@ module _ {tables : List ℕ} {n L : ℕ} {r : Row} (e : Seen tables n L r) where
         one-hop (e .book) (e .shown .lawful) node (rowOffset r i) r (w .hop) i (w .active) record { row = e .there; hop = inside; takes = first-turn (lawful .period) }
 
     -- who receives in its slot is its end, and whether for above tells whether it is the last
-    pub receiver-is : {o : ℕ} (node : ℕ) → node < n → (o ≡ 2) ⊎ (o ≡ 4) → Has tables (node * L + rowOffset r i) (onWay (r .way) o) (r .id) → (node ≡ to) × ((o ≡ 4) ⊎ (suc i < hops r)) × (o ≡ 4 → suc i ≡ hops r)
+    pub receiver-is : {o : ℕ} (node : ℕ) → node < n → (o ≡ 2) ⊎ (o ≡ 4) → Has tables (node * L + rowOffset r i) (onWay (r .way) o) (r .id)
+        → (node ≡ to) × ((o ≡ 4) ⊎ (suc i < hops r)) × (o ≡ 4 → suc i ≡ hops r)
     receiver-is {o} node k two h =
         let w = seen-works node (rowOffset r i) k (offset-inside i inside) (some two) (most two) h in
         let j = hop-is w in

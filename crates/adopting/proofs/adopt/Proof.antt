@@ -23,7 +23,8 @@ returns : tie.Need-returns
 returns c =
     let at = c .before .before .before in
     let start = at .before .before .before .before .before .before in
-    no-draft (thePlan (start .args .plan)) (start .args .nodes) (start .args .links .now) (start .args .hearing .now) (start .args .tables .now) (start .args .out .now) (at .draft .ensures) (c .before .if1 .taken) (c .refused .ensures .0) (c .refused .ensures .1)
+    no-draft (thePlan (start .args .plan)) (start .args .nodes) (start .args .links .now) (start .args .hearing .now) (start .args .tables .now)
+    (start .args .out .now) (at .draft .ensures) (c .before .if1 .taken) (c .refused .ensures .0) (c .refused .ensures .1)
 
 array-share-prefix-image : tie.Need-array-share-prefix-image
 array-share-prefix-image c = c .before .before .draft .ensures .put (c .if1 .left) .inside
@@ -35,7 +36,8 @@ expands-requires : tie.Need-expands-requires
 expands-requires c κs =
     let at = c .before .before .before in
     let start = at .before .before .before .before .before .before in
-    draft-size (thePlan (start .args .plan)) (start .args .nodes) (start .args .links .now) (start .args .hearing .now) (start .args .tables .now) (at .draft .ensures .put (c .before .if1 .left)) (start .pre .1 .0 .size)
+    draft-size (thePlan (start .args .plan)) (start .args .nodes) (start .args .links .now) (start .args .hearing .now) (start .args .tables .now)
+    (at .draft .ensures .put (c .before .if1 .left)) (start .pre .1 .0 .size)
 
 refused-requires-2 : tie.Need-refused-requires-2
 refused-requires-2 c κs = search needs
@@ -45,7 +47,8 @@ returns-2 c =
     let one = c .before .before .before .before in
     let at = one .before .before in
     let start = at .before .before .before .before .before .before in
-    not-these (thePlan (start .args .plan)) (start .args .nodes) (start .args .links .now) (start .args .hearing .now) (start .args .tables .now) (start .args .out .now) (at .draft .ensures) (one .if1 .left) (fails (c .before .before .expands .ensures) (not-true _ (c .before .if2 .taken)))
+    not-these (thePlan (start .args .plan)) (start .args .nodes) (start .args .links .now) (start .args .hearing .now) (start .args .tables .now)
+    (start .args .out .now) (at .draft .ensures) (one .if1 .left) (fails (c .before .before .expands .ensures) (not-true _ (c .before .if2 .taken)))
     (c .refused2 .ensures .0) (c .refused2 .ensures .1)
 
 refused-requires-3 : tie.Need-refused-requires-3
@@ -57,7 +60,8 @@ returns-3 c =
     let one = two .before .before .before in
     let at = one .before .before in
     let start = at .before .before .before .before .before .before in
-    too-short (thePlan (start .args .plan)) (start .args .nodes) (start .args .links .now) (start .args .hearing .now) (start .args .tables .now) (start .args .out .now) (at .draft .ensures) (one .if1 .left) (two .before .expands .ensures .yes (not-false _ (two .if2 .left)))
+    too-short (thePlan (start .args .plan)) (start .args .nodes) (start .args .links .now) (start .args .hearing .now) (start .args .tables .now)
+    (start .args .out .now) (at .draft .ensures) (one .if1 .left) (two .before .expands .ensures .yes (not-false _ (two .if2 .left)))
     (c .before .if3 .taken) (c .refused3 .ensures .0) (c .refused3 .ensures .1)
 
 put-part-requires : tie.Need-put-part-requires
@@ -65,7 +69,8 @@ put-part-requires c κs =
     let one = c .before .before .before .before .before in
     let at = one .before .before in
     let start = at .before .before .before .before .before .before in
-    part-fits (thePlan (start .args .plan)) (start .args .nodes) (start .args .links .now) (start .args .hearing .now) (start .args .tables .now) (at .draft .ensures .put (one .if1 .left)) _ (c .before .if3 .left)
+    part-fits (thePlan (start .args .plan)) (start .args .nodes) (start .args .links .now) (start .args .hearing .now) (start .args .tables .now)
+    (at .draft .ensures .put (one .if1 .left)) _ (c .before .if3 .left)
 
 done-requires : tie.Need-done-requires
 done-requires c κs = search needs
@@ -80,7 +85,8 @@ returns-4 c =
     let one = two .before .before .before in
     let at = one .before .before in
     let start = at .before .before .before .before .before .before in
-    adopted (thePlan (start .args .plan)) (start .args .nodes) (start .args .links .now) (start .args .hearing .now) (start .args .tables .now) (start .args .out .now) (at .draft .ensures) (one .if1 .left) (two .before .expands .ensures .yes (not-false _ (two .if2 .left)))
+    adopted (thePlan (start .args .plan)) (start .args .nodes) (start .args .links .now) (start .args .hearing .now) (start .args .tables .now)
+    (start .args .out .now) (at .draft .ensures) (one .if1 .left) (two .before .expands .ensures .yes (not-false _ (two .if2 .left)))
     (wrote .before .before .if3 .left) (c .done .ensures .0) (c .done .ensures .1) (wrote .put-part .ensures)
 
 pub adopt-spec : {M : Type 1} → statement M

@@ -19,7 +19,8 @@ returns : tie.Need-returns
 returns c =
     let ranged = c .before .before in
     let start = ranged .before .before .before .before .before in
-    out-of-range (thePlan (start .args .plan)) (start .args .nodes) (start .args .links .now) (start .args .hearing .now) (start .args .tables .now) (start .args .out .now) (λ k. fails (ranged .plan-in-range .ensures) (not-true _ (c .before .if1 .taken)) (k .0)) (c .refused .ensures .0) (c .refused .ensures .1)
+    out-of-range (thePlan (start .args .plan)) (start .args .nodes) (start .args .links .now) (start .args .hearing .now) (start .args .tables .now)
+    (start .args .out .now) (λ k. fails (ranged .plan-in-range .ensures) (not-true _ (c .before .if1 .taken)) (k .0)) (c .refused .ensures .0) (c .refused .ensures .1)
 
 nodes-in-range-requires : tie.Need-nodes-in-range-requires
 nodes-in-range-requires c κs = search needs
@@ -30,7 +31,8 @@ refused-requires-2 c κs = search needs
 returns-2 : tie.Need-returns-2
 returns-2 c =
     let start = c .before .before .before .before .before .before .before .before .before in
-    out-of-range (thePlan (start .args .plan)) (start .args .nodes) (start .args .links .now) (start .args .hearing .now) (start .args .tables .now) (start .args .out .now) (λ k. fails (c .before .before .nodes-in-range .ensures) (not-true _ (c .before .if2 .taken)) (k .1)) (c .refused2 .ensures .0) (c .refused2 .ensures .1)
+    out-of-range (thePlan (start .args .plan)) (start .args .nodes) (start .args .links .now) (start .args .hearing .now) (start .args .tables .now)
+    (start .args .out .now) (λ k. fails (c .before .before .nodes-in-range .ensures) (not-true _ (c .before .if2 .taken)) (k .1)) (c .refused2 .ensures .0) (c .refused2 .ensures .1)
 
 -- plan and nodes are in their ranges
 ranges : (c : tie.Else2) → let a = c .before .before .before .before .before .before .before .before .args in PlanInRange (thePlan (a .plan)) × NodesInRange (a .nodes)
@@ -46,7 +48,8 @@ returns-3 : tie.Need-returns-3
 returns-3 c =
     let two = c .before .before .before in
     let start = two .before .before .before .before .before .before .before .before in
-    unsound (thePlan (start .args .plan)) (start .args .nodes) (start .args .links .now) (start .args .hearing .now) (start .args .tables .now) (start .args .out .now) (ranges two) (fails (c .before .before .given .ensures) (not-true _ (c .before .if3 .taken))) (c .refused3 .ensures .0) (c .refused3 .ensures .1)
+    unsound (thePlan (start .args .plan)) (start .args .nodes) (start .args .links .now) (start .args .hearing .now) (start .args .tables .now)
+    (start .args .out .now) (ranges two) (fails (c .before .before .given .ensures) (not-true _ (c .before .if3 .taken))) (c .refused3 .ensures .0) (c .refused3 .ensures .1)
 
 hold-requires : tie.Need-hold-requires
 hold-requires c κs = ranges (c .before .before)
@@ -59,7 +62,8 @@ returns-4 c =
     let three = c .before .before .before in
     let two = three .before .before in
     let start = two .before .before .before .before .before .before .before .before in
-    no-entries (thePlan (start .args .plan)) (start .args .nodes) (start .args .links .now) (start .args .hearing .now) (start .args .tables .now) (start .args .out .now) (ranges two) (three .before .given .ensures .yes (not-false _ (three .if3 .left))) (fails (c .before .before .hold .ensures) (not-true _ (c .before .if4 .taken)))
+    no-entries (thePlan (start .args .plan)) (start .args .nodes) (start .args .links .now) (start .args .hearing .now) (start .args .tables .now)
+    (start .args .out .now) (ranges two) (three .before .given .ensures .yes (not-false _ (three .if3 .left))) (fails (c .before .before .hold .ensures) (not-true _ (c .before .if4 .taken)))
     (c .refused4 .ensures .0) (c .refused4 .ensures .1)
 
 shows-too-many-requires : tie.Need-shows-too-many-requires
@@ -76,7 +80,8 @@ returns-5 c =
     let three = four .before .before in
     let two = three .before .before in
     let start = two .before .before .before .before .before .before .before .before in
-    too-many (thePlan (start .args .plan)) (start .args .nodes) (start .args .links .now) (start .args .hearing .now) (start .args .tables .now) (start .args .out .now) (ranges two) (three .before .given .ensures .yes (not-false _ (three .if3 .left))) (four .before .hold .ensures .yes (not-false _ (four .if4 .left)))
+    too-many (thePlan (start .args .plan)) (start .args .nodes) (start .args .links .now) (start .args .hearing .now) (start .args .tables .now)
+    (start .args .out .now) (ranges two) (three .before .given .ensures .yes (not-false _ (three .if3 .left))) (four .before .hold .ensures .yes (not-false _ (four .if4 .left)))
     (c .before .before .shows-too-many .ensures .yes (c .before .if5 .taken)) (c .refused5 .ensures .0) (c .refused5 .ensures .1)
 
 adopt-requires : tie.Need-adopt-requires
@@ -99,7 +104,8 @@ returns-6 c =
     let three = four .before .before in
     let two = three .before .before in
     let start = two .before .before .before .before .before .before .before .before in
-    answered (thePlan (start .args .plan)) (start .args .nodes) (start .args .links .now) (start .args .hearing .now) (start .args .tables .now) (start .args .out .now) (ranges two) (three .before .given .ensures .yes (not-false _ (three .if3 .left))) (four .before .hold .ensures .yes (not-false _ (four .if4 .left)))
+    answered (thePlan (start .args .plan)) (start .args .nodes) (start .args .links .now) (start .args .hearing .now) (start .args .tables .now)
+    (start .args .out .now) (ranges two) (three .before .given .ensures .yes (not-false _ (three .if3 .left))) (four .before .hold .ensures .yes (not-false _ (four .if4 .left)))
     (fails (five .before .shows-too-many .ensures) (five .if5 .left)) (done .adopt .ensures)
 
 pub book-of-spec : {M : Type 1} → statement M

@@ -45,7 +45,8 @@ loop-again : tie.Need-loop-again Inv-loop μ-loop
 loop-again c =
     let l = c .before .before .before .before .before .loop .inv in
     let slots = c .before .before .before .before .before .before .wide .ensures .0 in
-    let read = tile-read (c .before .before .before .before .before .before .before .before .args .tables .now) (l .1) slots (c .before .before .wide2 .ensures .0 ∙ c .before .before .before .control-slots .ensures .0) (c .before .tile-holds .ensures) in
+    let read = tile-read (c .before .before .before .before .before .before .before .before .args .tables .now) (l .1) slots
+    (c .before .before .wide2 .ensures .0 ∙ c .before .before .before .control-slots .ensures .0) (c .before .tile-holds .ensures) in
     (omega (arith, c .before .before .before .before .loop-test .taken), omega (arith, l .1, slots), below-more _ _ (l .2) (read .yes (not-false _ (c .if1 .left))))
 
 returns-2 : tie.Need-returns-2 Inv-loop μ-loop

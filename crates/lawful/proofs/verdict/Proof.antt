@@ -22,7 +22,7 @@ fields : (c : tie.Else3) → FieldsInRange (c .before .before .before .before .b
 fields c = c .before .fields-in-range .ensures .yes (not-false _ (c .if3 .left))
 
 -- and that the image does not end inside the account list
-inside : (c : tie.Else4) → linksPlace (c .before .before .before .before .before .before .before .before .before .args .image .now) ≤ length (c .before .before .before .before .before .before .before .before .before .args .image .now)
+inside : (c : tie.Else4) → let image = c .before .before .before .before .before .before .before .before .before .args .image .now in linksPlace image ≤ length image
 inside c = omega (arith, c .if4 .left, links-there (c .before .before .before .before .read .ensures) (c .before .links-place .ensures))
 
 returns : tie.Need-returns
@@ -36,26 +36,34 @@ returns-3 c = out-of-range _ (c .before .before .before .before .before .if1 .le
 
 returns-4 : tie.Need-returns-4
 returns-4 c =
-    list-cut _ (c .before .before .before .before .before .before .before .if1 .left) (marked (c .before .before .before .before .before)) (fields (c .before .before)) (omega (arith, c .if4 .taken, links-there (c .before .before .before .before .read .ensures) (c .before .links-place .ensures)))
+    let at = links-there (c .before .before .before .before .read .ensures) (c .before .links-place .ensures) in
+    let two = c .before .before .before .before .before in
+    list-cut _ (two .before .before .if1 .left) (marked two) (fields (c .before .before)) (omega (arith, c .if4 .taken, at))
 
 list-holds-requires : tie.Need-list-holds-requires
 list-holds-requires c κs = (c .before .before .before .before .read .ensures, inside c)
 
 returns-5 : tie.Need-returns-5
 returns-5 c =
-    list-out _ (c .before .before .before .before .before .before .before .before .before .if1 .left) (marked (c .before .before .before .before .before .before .before)) (fields (c .before .before .before .before)) (inside (c .before .before)) (fails (c .before .list-holds .ensures) (not-true _ (c .if5 .taken)))
+    let three = c .before .before .before .before in
+    let two = three .before .before .before in
+    list-out _ (two .before .before .if1 .left) (marked two) (fields three) (inside (c .before .before)) (fails (c .before .list-holds .ensures) (not-true _ (c .if5 .taken)))
 
 returns-6 : tie.Need-returns-6
 returns-6 c =
-    wrong-length _ (c .before .before .before .before .before .before .before .before .before .before .before .if1 .left) (marked (c .before .before .before .before .before .before .before .before .before)) (fields (c .before .before .before .before .before .before)) (inside (c .before .before .before .before)) (c .before .before .before .list-holds .ensures .yes (not-false _ (c .before .before .if5 .left)))
-    (λ e. c .if6 .taken (e ∙ sym (stated (c .before .before .before .before .before .before .before .before .read .ensures) (c .before .image-length .ensures))))
+    let three = c .before .before .before .before .before .before in
+    let two = three .before .before .before in
+    let listed = c .before .before .before .list-holds .ensures .yes (not-false _ (c .before .before .if5 .left)) in
+    wrong-length _ (two .before .before .if1 .left) (marked two) (fields three) (inside (c .before .before .before .before)) listed
+    (λ e. c .if6 .taken (e ∙ sym (stated (three .before .before .read .ensures) (c .before .image-length .ensures))))
 
 body-verdict-requires : tie.Need-body-verdict-requires
 body-verdict-requires c κs =
-    let header = c .before .before .before .before .before .before .before .before .before .read .ensures in (
+    let header = c .before .before .before .before .before .before .before .before .before .read .ensures in
+    let listed = c .before .before .before .before .list-holds .ensures .yes (not-false _ (c .before .before .before .if5 .left)) in (
       marked (c .before .before .before .before .before .before .before .before .before .before),
       record { fields = fields (c .before .before .before .before .before .before .before); size = c .before .if6 .left ∙ stated header (c .before .before .image-length .ensures) },
-      record { header = header; inside = inside (c .before .before .before .before .before); range = c .before .before .before .before .list-holds .ensures .yes (not-false _ (c .before .before .before .if5 .left)) },
+      record { header = header; inside = inside (c .before .before .before .before .before); range = listed },
     )
 
 pub verdict-spec : {M : Type 1} → statement M

@@ -12,7 +12,8 @@ returns c = links-refused (c .before .verdict .ensures) (c .if1 .taken) refl _ r
 
 returns-2 : tie.Need-returns-2
 returns-2 c =
-    links-unknown (c .before .before .before .before .before .verdict .ensures .stored (c .before .before .before .before .if1 .left)) _ (omega (arith, c .if2 .taken, c .before .before .before .read .ensures .nodes)) refl refl
+    let stored = c .before .before .before .before .before .verdict .ensures .stored (c .before .before .before .before .if1 .left) in
+    links-unknown stored _ (omega (arith, c .if2 .taken, c .before .before .before .read .ensures .nodes)) refl refl
 
 count-links-requires : tie.Need-count-links-requires
 count-links-requires c κs = (
@@ -23,7 +24,8 @@ count-links-requires c κs = (
 
 returns-3 : tie.Need-returns-3
 returns-3 c =
-    links-done (c .before .before .before .before .before .before .verdict .ensures .stored (c .before .before .before .before .before .if1 .left)) _ (omega (arith, c .before .if2 .left, c .before .before .before .before .read .ensures .nodes)) refl (c .count-links .ensures)
+    let stored = c .before .before .before .before .before .before .verdict .ensures .stored (c .before .before .before .before .before .if1 .left) in
+    links-done stored _ (omega (arith, c .before .if2 .left, c .before .before .before .before .read .ensures .nodes)) refl (c .count-links .ensures)
 
 pub links-of-spec : {M : Type 1} → statement M
 links-of-spec =

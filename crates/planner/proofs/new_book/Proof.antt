@@ -22,15 +22,21 @@ book c = record {
 
 returns : tie.Need-returns
 returns c =
-    new-range (book (c .before .before .before .before .before .before .before)) _ (λ f. fails (c .before .before .plan-in-range .ensures) (not-true _ (c .before .if1 .taken)) (f .0)) (c .refused .ensures .0) (c .refused .ensures .1)
+    let start = c .before .before .before .before .before .before .before in
+    let r = c .refused .ensures in
+    new-range (book start) _ (λ f. fails (c .before .before .plan-in-range .ensures) (not-true _ (c .before .if1 .taken)) (f .0)) (r .0) (r .1)
 
 returns-2 : tie.Need-returns-2
 returns-2 c =
-    new-range (book (c .before .before .before .before .before .before .before .before .before)) _ (λ f. fails (c .before .before .nodes-in-range .ensures) (not-true _ (c .before .if2 .taken)) (f .1)) (c .refused2 .ensures .0) (c .refused2 .ensures .1)
+    let start = c .before .before .before .before .before .before .before .before .before in
+    let r = c .refused2 .ensures in
+    new-range (book start) _ (λ f. fails (c .before .before .nodes-in-range .ensures) (not-true _ (c .before .if2 .taken)) (f .1)) (r .0) (r .1)
 
 returns-3 : tie.Need-returns-3
 returns-3 c =
-    new-range (book (c .before .before .before .before .before .before .before .before .before .before .before)) _ (λ f. fails (c .before .before .given-hold .ensures) (not-true _ (c .before .if3 .taken)) (f .2)) (c .refused3 .ensures .0) (c .refused3 .ensures .1)
+    let start = c .before .before .before .before .before .before .before .before .before .before .before in
+    let r = c .refused3 .ensures in
+    new-range (book start) _ (λ f. fails (c .before .before .given-hold .ensures) (not-true _ (c .before .if3 .taken)) (f .2)) (r .0) (r .1)
 
 -- each is in its range
 fits : (c : tie.Else3) → InRange (book (c .before .before .before .before .before .before .before .before .before .before))
@@ -41,19 +47,21 @@ fits c = (
 )
 
 -- the topologies are whole and sound
-given : (c : tie.Else4) → let a = c .before .before .before .before .before .before .before .before .before .before .before .before .args in TopologiesGiven (a .nodes) (a .links .now) (a .hearing .now)
+given : (c : tie.Else4) → let b = book (c .before .before .before .before .before .before .before .before .before .before .before .before) in TopologiesGiven (b .nodes) (b .links) (b .hearing)
 given c = c .before .given .ensures .yes (not-false _ (c .if4 .left))
 
 returns-4 : tie.Need-returns-4
 returns-4 c =
-    new-topology (book (c .before .before .before .before .before .before .before .before .before .before .before .before .before)) (fits (c .before .before .before)) _ (fails (c .before .before .given .ensures) (not-true _ (c .before .if4 .taken))) (c .refused4 .ensures .0) (c .refused4 .ensures .1)
+    let start = c .before .before .before .before .before .before .before .before .before .before .before .before .before in
+    let r = c .refused4 .ensures in
+    new-topology (book start) (fits (c .before .before .before)) _ (fails (c .before .before .given .ensures) (not-true _ (c .before .if4 .taken))) (r .0) (r .1)
 
 returns-5 : tie.Need-returns-5
 returns-5 c =
     let four = c .before .before in
     let known = four .before .before .before .before .before .before .before .before in
-    new-short (book (known .before .before .before .before)) (fits (four .before .before)) (given four) (λ i. known .before .before .before .shared-slice-known .given i .fits) (λ i. known .before .before .shared-slice-known2 .given i .fits)
-    (λ i. known .before .shared-slice-known3 .given i .fits) _ (c .before .if5 .taken) (c .refused5 .ensures .0) (c .refused5 .ensures .1)
+    new-short (book (known .before .before .before .before)) (fits (four .before .before)) (given four) (λ i. known .before .before .before .shared-slice-known .given i .fits)
+    (λ i. known .before .before .shared-slice-known2 .given i .fits) (λ i. known .before .shared-slice-known3 .given i .fits) _ (c .before .if5 .taken) (c .refused5 .ensures .0) (c .refused5 .ensures .1)
 
 put-new-requires : tie.Need-put-new-requires
 put-new-requires c κs =
@@ -65,8 +73,8 @@ returns-6 c =
     let five = c .before .before .before .before .before in
     let four = five .before in
     let known = four .before .before .before .before .before .before .before .before in
-    new-done (book (known .before .before .before .before)) (fits (four .before .before)) (given four) (λ i. known .before .before .before .shared-slice-known .given i .fits) (λ i. known .before .before .shared-slice-known2 .given i .fits)
-    (λ i. known .before .shared-slice-known3 .given i .fits) _ (five .if5 .left) (c .done .ensures .0) (c .done .ensures .1) (c .before .before .before .put-new .ensures)
+    new-done (book (known .before .before .before .before)) (fits (four .before .before)) (given four) (λ i. known .before .before .before .shared-slice-known .given i .fits)
+    (λ i. known .before .before .shared-slice-known2 .given i .fits) (λ i. known .before .shared-slice-known3 .given i .fits) _ (five .if5 .left) (c .done .ensures .0) (c .done .ensures .1) (c .before .before .before .put-new .ensures)
 
 -- the length is small
 small : tie.Need-add-length-4

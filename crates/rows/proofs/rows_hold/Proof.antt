@@ -21,7 +21,8 @@ returns c =
 returns-2 : tie.Need-returns-2
 returns-2 c =
     let one = c .before .before in
-    said-yes (rich-rows-of _ (one .before .before .before .before .pre .0) (λ i. one .before .before .before .shared-slice-known .given i .fits) (filled one) (c .before .all-hold-most .ensures (c .if2 .taken)))
+    let framed = one .before .before .before .before .pre .0 in
+    said-yes (rich-rows-of _ framed (λ i. one .before .before .before .shared-slice-known .given i .fits) (filled one) (c .before .all-hold-most .ensures (c .if2 .taken)))
 
 rows-paid-requires : tie.Need-rows-paid-requires
 rows-paid-requires c κs =

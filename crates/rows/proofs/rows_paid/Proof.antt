@@ -28,13 +28,16 @@ returns c = said-no (paying-no (c .before .before .before .before .loop .inv) (c
 draw-requires : tie.Need-draw-requires Inv-loop μ-loop
 draw-requires c κs =
     let inv = c .before .before .before .before .before .loop .inv in
-    (c .before .before .before .before .before .before .before .before .before .before .pre .0, next-draws inv (c .before .before .before .before .loop-test .taken), paying-can inv (c .before .before .may-draw .ensures) (c .before .if1 .left), inv .room)
+    let start = c .before .before .before .before .before .before .before .before .before .before in
+    (start .pre .0, next-draws inv (c .before .before .before .before .loop-test .taken), paying-can inv (c .before .before .may-draw .ensures) (c .before .if1 .left), inv .room)
 
 next-requires : tie.Need-next-requires Inv-loop μ-loop
 next-requires c κs = next-draws (c .before .before .before .before .before .before .loop .inv) (c .before .before .before .before .before .loop-test .taken) .whole
 
 loop-again : tie.Need-loop-again Inv-loop μ-loop
-loop-again c = paying-more (c .before .before .before .before .before .before .before .loop .inv) (c .before .before .before .before .before .before .loop-test .taken) (c .before .draw .ensures) (c .next .ensures .0)
+loop-again c =
+    let loop = c .before .before .before .before .before .before .before .loop in
+    paying-more (loop .inv) (c .before .before .before .before .before .before .loop-test .taken) (c .before .draw .ensures) (c .next .ensures .0)
 
 returns-2 : tie.Need-returns-2 Inv-loop μ-loop
 returns-2 c = said-yes (paying-end (c .before .loop .inv) (c .loop-test .left))

@@ -14,13 +14,15 @@ offsets-hold-requires : tie.Need-offsets-hold-requires
 offsets-hold-requires c κs =
     let start = c .before .before .before .before .before .before .before .before in
     let image = start .args .image .now in
-    (start .pre .0, start .pre .1, held-at (versionOf image) (rowAt image (start .args .at) .period) (c .before .before .before .before .before .place-held .ensures) (c .before .before .before .period .given .1) .0)
+    let period = rowAt image (start .args .at) .period in
+    (start .pre .0, start .pre .1, held-at (versionOf image) period (c .before .before .before .before .before .place-held .ensures) (c .before .before .before .period .given .1) .0)
 
 returns : tie.Need-returns
 returns c =
     let start = c .before .before .before .before .before .before .before .before .before in
     let image = start .args .image .now in
-    let p = held-at (versionOf image) (rowAt image (start .args .at) .period) (c .before .before .before .before .before .before .place-held .ensures) (c .before .before .before .before .period .given .1) in
+    let period = rowAt image (start .args .at) .period in
+    let p = held-at (versionOf image) period (c .before .before .before .before .before .before .place-held .ensures) (c .before .before .before .before .period .given .1) in
     λ accounts named known. tests-row-rest image (start .args .at) p named known (c .before .before .route-holds .ensures .yes (c .before .if1 .taken)) (c .offsets-hold .ensures)
 
 returns-2 : tie.Need-returns-2

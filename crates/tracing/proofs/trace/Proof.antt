@@ -87,7 +87,8 @@ returns-3 c =
       short = omega arith;
       nodes-hold = length-set (turn .loop .route) _ _ ∙ l .2;
       hops-hold = length-set (turn .loop .offsets) _ _ ∙ l .3;
-      read = λ r f. absurd (not-ended f (l .4 r f) (heard f (l .4 r f) (at .before .receiver .ensures) (known at)) (l .2) (l .3) (carries-on (c .before .before)) refl (turn .before .on-way2 .ensures) (c .before .next .ensures) (c .if3 .taken));
+      read = λ r f. absurd (not-ended f (l .4 r f) (heard f (l .4 r f) (at .before .receiver .ensures) (known at)) (l .2) (l .3)
+          (carries-on (c .before .before)) refl (turn .before .on-way2 .ensures) (c .before .next .ensures) (c .if3 .taken));
     }
 
 loop-again : tie.Need-loop-again Inv-loop μ-loop
@@ -100,7 +101,8 @@ loop-again c =
       omega (arith, c .before .next .ensures .high, c .if3 .left, w .table),
       length-set (turn .loop .route) _ _ ∙ l .2,
       length-set (turn .loop .offsets) _ _ ∙ l .3,
-      λ r f. along-more f (l .4 r f) (heard f (l .4 r f) (at .before .receiver .ensures) (known at)) (l .2) (l .3) (carries-on (c .before .before)) refl (turn .before .on-way2 .ensures) (c .before .next .ensures),
+      λ r f. along-more f (l .4 r f) (heard f (l .4 r f) (at .before .receiver .ensures) (known at)) (l .2) (l .3)
+          (carries-on (c .before .before)) refl (turn .before .on-way2 .ensures) (c .before .next .ensures),
     )
 
 returns-4 : tie.Need-returns-4 Inv-loop μ-loop

@@ -12,8 +12,8 @@ use Rattle.accounts.proofs.purses.draw.Statement.{statement}
 use Rattle.accounts.proofs.purses.draw.Tie as tie
 
 -- the account has its place
-there : (c : tie.After-row-cost) → PlaceOf (accountsOf (c .before .before .before .before .args .image .now)) (rowAt (c .before .before .before .before .args .image .now) (c .before .before .before .before .args .at) .account)
-    (c .before .place-of .result) × (c .before .place-of .result < length (accountsOf (c .before .before .before .before .args .image .now)))
+there : (c : tie.After-row-cost) → let a = c .before .before .before .before .args in let i = c .before .place-of .result in
+    PlaceOf (accountsOf (a .image .now)) (rowAt (a .image .now) (a .at) .account) i × (i < length (accountsOf (a .image .now)))
 there c = row-place (c .before .before .before .before .pre .1) (c .before .before .account-at .ensures .0) (c .before .place-of .ensures)
 
 inside : (c : tie.After-row-cost) → c .before .place-of .result < 32
