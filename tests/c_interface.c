@@ -114,12 +114,6 @@ static void prepare(uint8_t *buffer, size_t size, uint8_t filler) {
     memset(buffer + MARGIN, filler, size);
 }
 
-static int is_around(const uint8_t *buffer, size_t size) {
-    for (size_t i = 0; i < MARGIN; i++)
-        if (buffer[i] != AROUND || buffer[MARGIN + size + i] != AROUND)
-            return 0;
-    return 1;
-}
 
 /* Puts framed records into the list. */
 static void prepare_list(const uint8_t *records, size_t count) {
@@ -159,14 +153,21 @@ static void prepare_index(size_t count, uint8_t filler) {
     memset(words + BESIDE, filler, WORD * count);
 }
 
+/* All bytes of a part are what stands around: each is the one before it, and the first is. */
+static int is_as_around(const uint8_t *bytes, size_t size) {
+    return size == 0 || (bytes[0] == AROUND && memcmp(bytes, bytes + 1, size - 1) == 0);
+}
+
+/* What stands around a buffer of this size is as it was. */
+static int is_around(const uint8_t *buffer, size_t size) {
+    return is_as_around(buffer, MARGIN) && is_as_around(buffer + MARGIN + size, MARGIN);
+}
+
 /* What stands on either side of count entries of the list or of the index is as it was. */
 static int is_beside(const void *all, size_t size, size_t entry, size_t count) {
     const uint8_t *bytes = all;
     size_t start = entry * BESIDE, end = entry * (BESIDE + count);
-    for (size_t i = 0; i < size; i++)
-        if ((i < start || i >= end) && bytes[i] != AROUND)
-            return 0;
-    return 1;
+    return is_as_around(bytes, start) && is_as_around(bytes + end, size - end);
 }
 
 /*
@@ -290,8 +291,10 @@ static void serve(const uint8_t *head) {
     memcpy(input + MARGIN, before, len);
     memcpy(hearing + MARGIN, hearing_before, heard);
     memcpy(behind + MARGIN, behind_before, lent);
-    prepare_list(records, count);
-    prepare_index(indexed, head[18]);
+    if (head[0] == POST) {
+        prepare_list(records, count);
+        prepare_index(indexed, head[18]);
+    }
     prepare(report, reported, head[18]);
     uint8_t number = call(head, input + MARGIN, len, hearing + MARGIN, heard, further, output + MARGIN, room, &r);
     answer(head, number, &r, reply);
@@ -304,9 +307,9 @@ static void serve(const uint8_t *head) {
         fail("changes its accounts or its tables");
     if (!is_around(output, room))
         fail("writes beside its buffer");
-    if (!is_beside(list, sizeof list, sizeof list[0], count))
+    if (head[0] == POST && !is_beside(list, sizeof list, sizeof list[0], count))
         fail("writes beside its list");
-    if (!is_beside(words, sizeof words, WORD, indexed))
+    if (head[0] == POST && !is_beside(words, sizeof words, WORD, indexed))
         fail("writes beside its index");
     if (!is_around(report, reported))
         fail("writes beside its report");

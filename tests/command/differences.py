@@ -8,7 +8,7 @@ import chance
 import tool
 from tool import check, refusal, work_out
 
-SITES, PAIRS = 10, 6
+SITES, PAIRS = 5, 6
 SAME = "the books are the same\n"
 
 
@@ -40,9 +40,8 @@ def turned(said):
 
 
 def both_ways(room):
-    """Which book comes first changes the sides and nothing else: each book beside the next two."""
+    """Which book comes first changes the sides and nothing else: each book beside the next."""
     names = sorted(["kiln.book", "pond.book", "ridge.book", *(name for name in work_out.others() if name not in ("older.book", "deaf.book"))])
-    found = [(one, names[place]) for at, one in enumerate(names) for place in range(at + 1, min(at + 3, len(names)))]
 
     def sides(pair):
         said, back = room.run("diff", *pair, "--json"), room.run("diff", *pair[::-1], "--json")
@@ -50,7 +49,7 @@ def both_ways(room):
         alike = said.status == back.status and json.loads(said.out) == turned(json.loads(back.out))
         swapped = sorted(lines.translate(str.maketrans("<>", "><")).split("\n"))
         return alike and (said.status == 0 or swapped == sorted(turns.split("\n"))), pair, lines + turns
-    for right, pair, said in tool.all_of(sides, found):
+    for right, pair, said in tool.all_of(sides, list(zip(names, names[1:]))):
         check(right, "%s: not the same the other way round:\n%s" % (pair, said))
 
 
@@ -205,4 +204,4 @@ def test(room):
     named(room)
     found = [place for places in tool.all_of(site, range(SITES)) for place in places]
     seen = [place for place in found if place]
-    check(len(found) > len(seen) > 20 and any(p[0] > 0 for p in seen) and any(p[1] > 0 for p in seen) and any(p[2] > 0 for p in seen), "books by chance differ too little: %s" % found)
+    check(len(found) > len(seen) > 10 and any(p[0] > 0 for p in seen) and any(p[1] > 0 for p in seen) and any(p[2] > 0 for p in seen), "books by chance differ too little: %s" % found)

@@ -13,17 +13,18 @@ def hold(room, file):
     """Runs the command of a stored case in a folder of its own."""
     stored = open(os.path.join(tool.STORED, file)).read()
     words = stored.split("\n", 1)[0].split()[2:]
+    there = room.names()
     with tool.Room() as own:
-        own.put_others()
+        own.put_others(words)
         said = own.run(*words)
         out = said.out
         if len(out) > tool.work_out.MOST_STORED:
             out = "sha256 %s of %d bytes\n" % (hashlib.sha256(out.encode()).hexdigest(), len(out))
-        left = [name for name in own.names() if name == "made.book" or name in room.names()]
+        left = [name for name in own.names() if name == "made.book" or name in there]
         changed = [name for name in left if name == "made.book" or own.get(name) != room.get(name)]
         leaves = "".join("leaves %s: %s\n" % (name, hashlib.sha256(own.get(name)).hexdigest()) for name in changed)
         got = "$ lindurask %s\n%s%sexit status %d\n" % (" ".join(words), out, leaves, said.status)
-        others = [name for name in own.names() if name not in room.names() + ["made.book"]]
+        others = [name for name in own.names() if name not in there + ["made.book"]]
         return file, got == stored and said.err == "" and others == [], got, said.err
 
 

@@ -1,4 +1,5 @@
 """The tool under test: runs it in a folder of its own, and counts what held."""
+import functools
 import importlib.machinery
 import importlib.util
 import os
@@ -63,6 +64,14 @@ def memory():
     return folder if usable else None
 
 
+@functools.cache
+def others():
+    """The further books that diff is tried on, the lists that post is, the damaged books that salvage is, and the tables that adopt is, by name."""
+    books = {name: book.image() for name, book in work_out.others().items()}
+    lists = {name: text.encode() for name, text in work_out.lists().items()}
+    return {**books, **lists, **work_out.spoilt(), **work_out.lent()}
+
+
 class Room:
     """A folder with the sample books and plans; it goes when the tests are done."""
 
@@ -90,14 +99,11 @@ class Room:
         with open(self.at(name), "rb") as file:
             return file.read()
 
-    def put_others(self):
-        """Adds the further books that diff is tried on, the lists that post is, the damaged books that salvage is, and the tables that adopt is."""
-        for name, book in work_out.others().items():
-            self.put(name, book.image())
-        for name, text in work_out.lists().items():
-            self.put(name, text.encode())
-        for name, image in [*work_out.spoilt().items(), *work_out.lent().items()]:
-            self.put(name, image)
+    def put_others(self, words=None):
+        """Adds the other files that commands are tried on; where words are given, those that they name."""
+        for name, data in others().items():
+            if words is None or name in words:
+                self.put(name, data)
 
     def names(self, folder="."):
         return sorted(os.listdir(os.path.join(self.path, folder)))

@@ -37,8 +37,9 @@ fn new_request(plan: &Plan, topology: &Topology) -> Request {
     requests::new_with_hearing(plan, topology.nodes(), &links, &hearing)
 }
 
-/// The families whose size is fixed; of the values of a byte an even seed
-/// tries the one half, and an odd seed the other.
+/// The families whose size is fixed; of the values of a byte, and of the full
+/// books in each version, an even seed tries the one half, and an odd seed the
+/// other.
 pub fn fixed(driver: &mut Driver, dice: &mut Dice, seed: u64) {
     driver.family("document 01's examples");
     examples::ask(driver);
@@ -49,7 +50,7 @@ pub fn fixed(driver: &mut Driver, dice: &mut Dice, seed: u64) {
     driver.family("several faults at once");
     faults::ask(driver);
     driver.family("books at a limit");
-    limits::ask(driver, dice);
+    limits::ask(driver, dice, seed);
     driver.family("every two hops and every two periods");
     pairs::ask(driver, dice);
     driver.family("second routes");
