@@ -12,10 +12,10 @@ use Rattle.rules.specs.Words.{_∈_}
 use Rattle.rules.specs.Tiles.{Plan, PlanInRange, shortTiles}
 use Rattle.rules.specs.Topology.{nodes, NodesInRange}
 use Rattle.rules.specs.Book.{Site, Row, Book, LawfulBook}
-use Rattle.rules.specs.Image.{newest, inTurn, encodeRow, encode, versionOf, planOf, nodesOf, siteOf, rowsPlace, Stored}
+use Rattle.rules.specs.Image.{newest, oldAccounts, inTurn, encodeRow, encode, versionOf, planOf, nodesOf, siteOf, rowsPlace, Stored}
 use Rattle.rules.specs.Table.{TablePart}
-use Rattle.rules.specs.Tables.{entriesOf, siteGiven, tableAt, ShownBy, OfShown, TablesOfEntries, TooMany, tablesRefusals, BookOf}
-use Rattle.rules.specs.Calls.{TopologiesGiven}
+use Rattle.rules.specs.Tables.{entriesOf, tableAt, ShownBy, OfShown, TablesOfEntries, TooMany, tablesRefusals, BookOf}
+use Rattle.rules.specs.Calls.{siteGiven, TopologiesGiven}
 use Rattle.rules.proofs.Periods.{short-period}
 use Rattle.rules.proofs.Written.{length-sets-at}
 use Rattle.rules.proofs.Encoding.{version-back, site-back, rows-back, rows-unique, lawful-sized}
@@ -34,7 +34,7 @@ lawful-image b l =
 
 module _ (plan : Plan) (N : ℕ) (links hearing tables : List ℕ) {len : ℕ} {image : List ℕ} (w : DraftPut plan N links hearing tables len image) where
   abbrev site : Site
-  site = siteGiven plan N links hearing
+  site = siteGiven plan N links hearing oldAccounts
 
   abbrev book : Book
   book = drafted plan N links hearing (w .rows)
@@ -113,7 +113,7 @@ module _ (plan : Plan) (N : ℕ) (links hearing tables out : List ℕ) {len : �
       it : Book
       it = bookIn (take len image)
 
-      this : ShownBy (siteGiven plan N links hearing) tables it
+      this : ShownBy (siteGiven plan N links hearing oldAccounts) tables it
       unfolding it
       this = shown plan N links hearing tables (d .put some) x
 
@@ -129,7 +129,7 @@ module _ (plan : Plan) (N : ℕ) (links hearing tables out : List ℕ) {len : �
       unfolding it
       adopted l a b e =
           reply-next (λ f. f it this)
-          (reply-next (λ g. omega (arith, long, g .2, ap (λ (c : Book). length (encode newest c)) (shown-unique (siteGiven plan N links hearing) refl tables (g .0) it (g .1) this)))
+          (reply-next (λ g. omega (arith, long, g .2, ap (λ (c : Book). length (encode newest c)) (shown-unique (siteGiven plan N links hearing oldAccounts) refl tables (g .0) it (g .1) this)))
           (reply-done (take len image) (it, this, bytes-same plan N links hearing tables (d .put some) x) a (b ∙ sym (length-take-le len image (d .put some .inside)))
           (e ∙ over-front out (take len image))))
 
@@ -137,7 +137,7 @@ module _ (plan : Plan) (N : ℕ) (links hearing tables out : List ℕ) {len : �
 module _ (plan : Plan) (N : ℕ) (links hearing tables out : List ℕ) {number length′ : ℕ} where
   said : {out′ : List ℕ}
       → Reply (tablesRefusals plan N links hearing tables (length out))
-      (λ (bytes : List ℕ). OfShown (siteGiven plan N links hearing) tables (λ (b : Book). bytes ≡ encode newest b)) out number length′ out′
+      (λ (bytes : List ℕ). OfShown (siteGiven plan N links hearing oldAccounts) tables (λ (b : Book). bytes ≡ encode newest b)) out number length′ out′
       → BookOf plan N links hearing tables out number length′ out′
   said w = record { says = w .says; refused = w .refused; done = w .done }
 

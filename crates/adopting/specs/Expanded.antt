@@ -6,9 +6,10 @@ use lib.ListN.{length}
 use Rattle.rules.specs.Says.{_when_}
 use Rattle.rules.specs.Tiles.{Plan, shortTiles}
 use Rattle.rules.specs.Book.{Book}
-use Rattle.rules.specs.Image.{newest, encode, planOf, nodesOf}
+use Rattle.rules.specs.Image.{newest, oldAccounts, encode, planOf, nodesOf}
 use Rattle.rules.specs.Table.{TablePart}
-use Rattle.rules.specs.Tables.{siteGiven, tableAt, ShownBy, OfShown}
+use Rattle.rules.specs.Calls.{siteGiven}
+use Rattle.rules.specs.Tables.{tableAt, ShownBy, OfShown}
 use Rattle.rules.proofs.Reading.{bookIn, LawfulImage}
 use Rattle.answers.specs.Reply.{Reply}
 
@@ -25,7 +26,7 @@ pub record Expanded (s tables : List ℕ) : Type 0 where
 abbrev pub Adopts : Plan → ℕ → List ℕ → List ℕ → List ℕ → List ℕ → ℕ → ℕ → List ℕ → Type 0
 Adopts plan N links hearing tables out =
     Reply
-    ((20 when ((b : Book) → ShownBy (siteGiven plan N links hearing) tables b → ⊥))
-    ∷ (12 when OfShown (siteGiven plan N links hearing) tables (λ (b : Book). length out < length (encode newest b)))
+    ((20 when ((b : Book) → ShownBy (siteGiven plan N links hearing oldAccounts) tables b → ⊥))
+    ∷ (12 when OfShown (siteGiven plan N links hearing oldAccounts) tables (λ (b : Book). length out < length (encode newest b)))
     ∷ [])
-    (λ (bytes : List ℕ). OfShown (siteGiven plan N links hearing) tables (λ (b : Book). bytes ≡ encode newest b)) out
+    (λ (bytes : List ℕ). OfShown (siteGiven plan N links hearing oldAccounts) tables (λ (b : Book). bytes ≡ encode newest b)) out

@@ -6,8 +6,8 @@ use Prim.Native.Nat.{ℕ, suc, _+_, _-_, _<_, _≤_}
 use native.Mathlib.Omega.{arith}
 use lib.ListN.{length, set, take, length-append}
 use lib.Seq.{take-all, take-append-le, take-suc-set}
-use Rattle.rules.specs.Topology.{mostShortHops, mostListed, Exactly}
-use Rattle.rules.specs.Calls.{routeBytes, listBytes}
+use Rattle.rules.specs.Topology.{hopCount, mostShortHops, mostListed, Exactly}
+use Rattle.rules.specs.Calls.{listBytes}
 use Rattle.rules.proofs.Tests.{never}
 use Rattle.writer.specs.Over.{over}
 use Rattle.writer.proofs.Laws.{then, over-nil, length-over}
@@ -91,7 +91,7 @@ adds-route route t b o₁ o₂ r some most l p q = record {
         s′ = take-all mostListed (rs ++ (route ∷ [])) (omega (arith, n, few))
 
         whole : listBytes (rs ++ (route ∷ [])) ≡ listBytes rs ++ ((length route - 1) ∷ route)
-        whole = in-turn-append routeBytes rs (route ∷ []) ∙ ap (λ (x : List ℕ). listBytes rs ++ x) (append-nil (routeBytes route))
+        whole = in-turn-append (λ p. hopCount p ∷ p) rs (route ∷ []) ∙ ap (λ (x : List ℕ). listBytes rs ++ x) (append-nil (hopCount route ∷ route))
 
         before : t .length ≡ length (listBytes rs)
         before = k .length-is ∙ ap (λ (x : List (List ℕ)). length (listBytes x)) s

@@ -5,9 +5,9 @@ use mathlib.Core.List.{List, [], _∷_}
 use Prim.Native.Nat.{ℕ}
 use lib.ListN.{length}
 use Rattle.rules.specs.Says.{Refusal, _when_, Says}
-use Rattle.rules.specs.Topology.{Topology}
+use Rattle.rules.specs.Topology.{Topology, Listed}
 use Rattle.rules.specs.Image.{versionOf, linksOf}
-use Rattle.rules.specs.Calls.{Unchanged, ListTooLong, routesRefusals, ListWritten}
+use Rattle.rules.specs.Calls.{Wrote, Unchanged, listBytes, ListTooLong, routesRefusals}
 use Rattle.rules.proofs.Reading.{bookIn}
 use Rattle.choices.specs.declared.Choices.{Choices}
 
@@ -15,7 +15,7 @@ use Rattle.choices.specs.declared.Choices.{Choices}
 pub record Lists (refusals : List Refusal) (T : Topology) (middle source destination : ℕ) (out : List ℕ) (r : Choices) (out′ : List ℕ) : Type 0 where
   pub says : Says refusals (r .number)
   pub refused : (r .number ≡ 0 → ⊥) → Unchanged out (r .length) out′ × (r .more ≡ false)
-  pub done : r .number ≡ 0 → ListWritten T middle source destination out (r .length) out′ (r .more)
+  pub done : r .number ≡ 0 → (routes : List (List ℕ)) × Listed T middle source destination routes (r .more) × Wrote (listBytes routes) out (r .length) out′
 
 -- 12, or the list over the links
 abbrev pub ListSays : Topology → ℕ → ℕ → ℕ → List ℕ → Choices → List ℕ → Type 0

@@ -9,7 +9,7 @@ use lib.Dec.{leb}
 use lib.ListN.{length, getD, drop}
 use lib.Seq.{getD-drop, drop-drop}
 use Rattle.rules.specs.Book.{Row, hops, rowOffset}
-use Rattle.rules.specs.Image.{hasWays, hasHearing, hasWide, hasAccounts, oldAccounts, headerLength, linksStart, hearingStart, rowsStart, periodPlace, hopsPlace, rowLength}
+use Rattle.rules.specs.Image.{hasWays, hasHearing, hasWide, hasAccounts, oldAccounts, headerLength, linksStart, rowsStart, periodPlace, hopsPlace, rowLength}
 use Rattle.rules.specs.Image.{wordAt, topologyAt, accountsAt, versionOf, nodesOf, accountCountOf, accountsOf, linksPlace, hearingOf, rowsPlace, streamsOf}
 use Rattle.rules.specs.Words.{Tests}
 use Rattle.rules.proofs.Tests.{never, alike, tests-le}
@@ -65,10 +65,10 @@ links-counted s = counted (hasAccounts (versionOf s))
 
 -- in the versions before 3 the hearing stands where the links do
 pub hearing-without : (v A N : ℕ) → v < 3 → hearingPlace v A N ≡ linksStart v A
-hearing-without v A N l = ap (λ (t : Bool). cond t (hearingStart v A N) (linksStart v A)) (lt-leb 3 v l)
+hearing-without v A N l = ap (λ (t : Bool). cond t (linksStart v A + 8 * N) (linksStart v A)) (lt-leb 3 v l)
 
 pub hearing-with : (v A N : ℕ) → 3 ≤ v → hearingPlace v A N ≡ linksStart v A + 8 * N
-hearing-with v A N l = ap (λ (t : Bool). cond t (hearingStart v A N) (linksStart v A)) (le-leb 3 v l)
+hearing-with v A N l = ap (λ (t : Bool). cond t (linksStart v A + 8 * N) (linksStart v A)) (le-leb 3 v l)
 
 pub hearing-most : (v A N : ℕ) → hearingPlace v A N ≤ linksStart v A + 8 * N
 hearing-most v A N = most (hasHearing v)

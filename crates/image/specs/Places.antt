@@ -6,13 +6,13 @@ use Prim.Native.Nat.{ℕ, zero, suc, _+_, _*_, _≤_, _-_}
 use lib.ListN.{length, getD, take, drop, replicate}
 use Rattle.rules.specs.Words.{_∈_}
 use Rattle.rules.specs.Book.{Row, LawfulRow}
-use Rattle.rules.specs.Image.{hasHearing, headerLength, linksStart, hearingStart, hopsPlace, rowLength, inTurn, encodeRow, setsAt, versionOf, siteOf, rowsPlace}
+use Rattle.rules.specs.Image.{hasHearing, headerLength, linksStart, hopsPlace, rowLength, inTurn, encodeRow, setsAt, versionOf, siteOf, rowsPlace}
 use Rattle.rules.proofs.Encoding.{frontRow}
 use Rattle.rules.proofs.Reading.{rowsIn, LawfulImage}
 
 -- where the hearing stands: in a version that holds none, where the links do
 abbrev pub hearingPlace : ℕ → ℕ → ℕ → ℕ
-hearingPlace v A N = cond (hasHearing v) (hearingStart v A N) (linksStart v A)
+hearingPlace v A N = cond (hasHearing v) (linksStart v A + 8 * N) (linksStart v A)
 
 -- the row at the place
 unfoldable pub rowAt : List ℕ → ℕ → Row

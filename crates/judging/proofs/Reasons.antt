@@ -10,10 +10,10 @@ use lib.ListN.{length, getD, set, length-append, length-set}
 use lib.Seq.{getD-set-same, getD-set-other}
 use Rattle.rules.specs.Words.{_∈_}
 use Rattle.rules.specs.Says.{Says}
-use Rattle.rules.specs.Book.{Row, key, hops, hopsInAll, mostAccounts, LawfulRow, Pair, Paid}
+use Rattle.rules.specs.Book.{Row, key, hops, hopsInAll, mostAccounts, LawfulRow, Pair, Paid, RowsMeet}
 use Rattle.rules.specs.Placing.{Full}
 use Rattle.rules.specs.Image.{RowFits, versionOf, planOf, FieldsInRange, accountsOf, siteOf, bookOf}
-use Rattle.rules.specs.Salvage.{LawfulBeside, MeetsKept, dropReasons}
+use Rattle.rules.specs.Salvage.{LawfulBeside, dropReasons}
 use Rattle.rules.proofs.Tests.{fails}
 use Rattle.rules.proofs.Says.{None, says-none}
 use Rattle.rules.proofs.Lists.{rising-one, total-append, in-left, in-right, in-append}
@@ -81,10 +81,10 @@ module _ {s : List ℕ} (at : ℕ) {kept : Kept} {places left words : List ℕ} 
 
   -- MEETING
   module _ (fields : FieldsInRange s) (r : RowStands s at) where
-    found : RowMeets words s places (kept .rows) at → MeetsKept (bookOf s rows) (rowAt s at)
+    found : RowMeets words s places (kept .rows) at → (x : Row) × (x ∈ rows) × RowsMeet (siteOf s) (rowAt s at) x
     found m = found-row fields r (w .placed-there) (w .known) (w .nth) (w .index) m
 
-    missed : (RowMeets words s places (kept .rows) at → ⊥) → MeetsKept (bookOf s rows) (rowAt s at) → ⊥
+    missed : (RowMeets words s places (kept .rows) at → ⊥) → ((x : Row) × (x ∈ rows) × RowsMeet (siteOf s) (rowAt s at) x) → ⊥
     missed n (x, m, k) = n (row-found fields r (w .placed-there) (w .known) (w .nth) (w .index) x m k)
 
 -- the row is held against those kept

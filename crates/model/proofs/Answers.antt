@@ -233,7 +233,8 @@ module _ (middle : ℕ) (b : Book) (w : Workable b) where
   short-tests q ps =
       let cost : ℕ = drawn (q .account) (b .rows) + total hopCount ps * repeats (q .period) in
       alike (tests-member (λ (a : Account). eqb (a .number) (q .account) && ltb (a .bought) cost) (λ a. tests-and (tests-eq (a .number) (q .account)) (tests-lt (a .bought) cost)) (b .site .accounts))
-      (λ p. record { account = p .0; there = p .1; named = p .2 .0; short = p .2 .1 }) (λ n. (n .account, n .there, (n .named, n .short)))
+      (λ p. record { known = record { account = p .0; there = p .1; named = p .2 .0 }; short = p .2 .1 })
+      (λ n. (n .known .account, n .known .there, (n .known .named, n .short)))
 
   request-agrees : (q : Request) → Agree (requestTests middle b q) (requestRefusals middle b q)
   request-agrees (Close id) = (refl, tests-eq id 0, λ n1. (refl, tests-not (tests-known b id), λ n3. tt))

@@ -11,13 +11,13 @@ use Rattle.rules.specs.Words.{FourBytes, _∈_, Tests}
 use Rattle.rules.specs.Says.{Refusal, Says}
 use Rattle.rules.specs.Tiles.{Plan, PlanInRange, shortTiles, cycleTiles}
 use Rattle.rules.specs.Topology.{nodes, NodesInRange, middles, allNodes}
-use Rattle.rules.specs.Book.{Account, Row, Book}
+use Rattle.rules.specs.Book.{Account, Row, Book, KnownAccount}
 use Rattle.rules.specs.Image.{newest, longestImage, encode, topologyAt, versionOf, nodesOf, linksOf, imageRefusals, Stored}
 use Rattle.rules.specs.Table.{tableLength, used, BalanceOf}
 use Rattle.rules.specs.Index.{indexLength, IndexOf, Indexed}
-use Rattle.rules.specs.Calls.{Wrote, Unchanged, Reply, SaysOf, CallOf, ReplyOf, AccountsGiven, TopologiesGiven, givenAccounts, newBook, newRefusals, checkRefusals, rewriteRefusals}
+use Rattle.rules.specs.Calls.{Wrote, Unchanged, Reply, SaysOf, CallOf, ReplyOf, AccountsGiven, TopologiesGiven, givenAccounts, newBook, newRefusals, rewriteRefusals}
 use Rattle.rules.specs.Calls.{Request, Work, InOrder, mostRequests, Beyond, postRefusals, Posted, balanceRefusals, keepsRefusals, BookKeepsTo}
-use Rattle.rules.specs.Calls.{mostTiles, PartInRange, expandRefusals, PastBits, purchaseRefusals, purchased, Purchase}
+use Rattle.rules.specs.Calls.{mostTiles, PartInRange, expandRefusals, purchaseRefusals, purchased, Purchase}
 use Rattle.rules.specs.Calls.{New, Check, Rewrite, Post, Serve, Expand, Balance, LinksOf, Links, Keeps}
 use Rattle.rules.proofs.Tests.{never, alike, tests-and, tests-or, tests-not, tests-eq, tests-le, tests-lt, tests-member, allOf, tests-every}
 use Rattle.rules.proofs.Counts.{counted}
@@ -150,7 +150,7 @@ tests-beyond b mains = tests-not (tests-lt mains (2 ^ nodes (b .site .links)))
 module _ (image : List ℕ) (bytes : Bytes image) where
   pub check-computed : Check image (imageNumber image) 0
   check-computed =
-      subst (λ (n : ℕ). Check image n 0) (same (imageNumber image)) (call-of image bytes checkRefusals (λ v b. []) (λ v b w. tt) (λ f. refl) (λ e w. refl))
+      subst (λ (n : ℕ). Check image n 0) (same (imageNumber image)) (call-of image bytes (λ (v : ℕ) (b : Book). []) (λ v b. []) (λ v b w. tt) (λ f. refl) (λ e w. refl))
     where
       same : (n : ℕ) → whenDone n 0 n ≡ n
       same zero = refl
@@ -244,12 +244,13 @@ module _ (image : List ℕ) (bytes : Bytes image) where
         done (suc n) answer e = absurd (omega arith)
 
   module _ (account amount : ℕ) where
-    tests-past : (accounts : List Account) → Tests (isPast accounts account amount) (PastBits accounts account amount)
+    tests-past : (accounts : List Account)
+        → Tests (isPast accounts account amount) ((known : KnownAccount accounts account) × (FourBytes (known .account .bought + amount) → ⊥))
     tests-past accounts =
         alike
         (tests-member (λ (a : Account). eqb (a .number) account && not (ltb (a .bought + amount) 4294967296))
         (λ a. tests-and (tests-eq (a .number) account) (tests-not (tests-lt (a .bought + amount) 4294967296))) accounts)
-        (λ p. record { account = p .0; there = p .1; named = p .2 .0; past = p .2 .1 }) (λ n. (n .account, n .there, (n .named, n .past)))
+        (λ p. (record { account = p .0; there = p .1; named = p .2 .0 }, p .2 .1)) (λ n. (n .0 .account, n .0 .there, (n .0 .named, n .1)))
 
     pub purchase-computed : (out : List ℕ) → let r = purchase image account amount out in Purchase image account amount out (r .number) (r .len) (r .out)
     purchase-computed out =

@@ -27,11 +27,11 @@ module _ (s : List ℕ) (q : Asked) (routes : List (List ℕ)) where
   not-enough f = go (decided (tests-member short (λ a. tests-and (tests-eq (a .number) (q .account)) (tests-lt (a .bought) least)) (accountsOf s)))
     where
       go : Dec ((a : Account) × (a ∈ accountsOf s) × ((a .number ≡ q .account) × (a .bought < least))) → NotPaid (bookIn s) q routes
-      go (yes h) = record { account = h .0; there = h .1; named = h .2 .0; short = h .2 .1 }
+      go (yes h) = record { known = record { account = h .0; there = h .1; named = h .2 .0 }; short = h .2 .1 }
       go (no g) = absurd (f (λ a m n. let k : (a .bought < least) → ⊥ = λ l. g (a, m, (n, l)) in omega arith))
 
   pub tests-short : (hops place : ℕ) {t : Bool} → total hopCount routes ≡ hops → periodAt place ≡ q .period
       → Tests t (Pays s (q .account) (hops * repeats (periodAt place))) → Tests (not t) (NotPaid (bookIn s) q routes)
   tests-short hops place {t} e p w =
       alike (tests-not (subst (λ (n : ℕ). Tests t (Pays s (q .account) n)) (ap₂ (λ (h K : ℕ). h * repeats K) (sym e) p) w)) not-enough
-      (λ n f. omega (arith, f (n .account) (n .there) (n .named), n .short))
+      (λ n f. omega (arith, f (n .known .account) (n .known .there) (n .known .named), n .short))

@@ -1,7 +1,7 @@
 -- From a lawful image to any image: the image's refusal, or what the call says of its book.
 use mathlib.Core.Path.{_≡_, refl, sym, ap, _∙_, subst}
 use mathlib.Core.Logic.{inl, inr}
-use mathlib.Core.List.{List}
+use mathlib.Core.List.{List, []}
 use Prim.Native.Nat.{ℕ, _<_, _≤_}
 use native.Mathlib.Omega.{arith}
 use native.Mathlib.Decide.{ℕ-discrete}
@@ -14,7 +14,7 @@ use Rattle.rules.specs.Book.{Book}
 use Rattle.rules.specs.Image.{newest, imageRefusals, encode, linksPlace, versionOf, planOf, nodesOf, linksOf}
 use Rattle.rules.specs.Table.{tableLength, TablePart, BalanceOf}
 use Rattle.rules.specs.Calls.{SaysOf, CallOf, ReplyOf, rewriteRefusals, purchased, purchaseRefusals, Purchase}
-use Rattle.rules.specs.Calls.{PartInRange, expandRefusals, balanceRefusals, checkRefusals, Check, Rewrite, Expand, Balance}
+use Rattle.rules.specs.Calls.{PartInRange, expandRefusals, balanceRefusals, Check, Rewrite, Expand, Balance}
 use Rattle.rules.proofs.Written.{length-sets-at}
 use Rattle.rules.proofs.Reading.{bookIn, LawfulImage}
 use Rattle.image.specs.Header.{HeaderOf}
@@ -73,7 +73,7 @@ checked s {n = n} {number} {len} v a b = go (ℕ-discrete n 0)
       refused = λ g. b;
       done = λ y. (versionOf s, bookIn s, v .stored z, b);
     }
-    go (no f) = image-refused v f a checkRefusals b
+    go (no f) = image-refused v f a (λ (v : ℕ) (b : Book). []) b
 
 -- REWRITE
 module _ {s : List ℕ} (h : LawfulImage s) {number len : ℕ} (out : List ℕ) where

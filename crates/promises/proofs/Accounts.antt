@@ -186,7 +186,7 @@ module _ {b : Book} {ps : List Bought} {now : List ℕ} (h : PaysItsWay b ps now
       fits a m e =
           stable (tests-lt (a .bought + amount) 4294967296)
           (λ f. says-none (purchaseRefusals n amount (length (p .out)) (h .version) (h .book)) (omega arith) (said (p .purchase .says)) .1 .0
-          record { account = a; there = m; named = e; past = f })
+          (record { account = a; there = m; named = e }, f))
 
       lawful : LawfulBook (purchased n amount (h .book))
       lawful = purchased-lawful (h .book) (h .holds .lawful) n amount fits
@@ -256,7 +256,7 @@ closed-for {id = id} d n =
 pub close-gives-back : CloseGivesBack
 close-gives-back image id out len out′ h =
     let d = done image (Close id) out len out′ h in
-    let k = closing-known id (d .before) (d .work .says) in
+    let k = closing-known d in
     let small : TwoBytes id = omega (arith, d .held .lawful .rows (k .row) (k .there) .id-most, k .named) in
     (d .before, d .after, moves d small, closed-for d)
 

@@ -13,7 +13,7 @@ use Rattle.rules.specs.Book.{Row, Book, Known}
 use Rattle.rules.specs.Placing.{Asked, Planned, NewRows}
 use Rattle.rules.specs.Placing.Planned.{one, two}
 use Rattle.rules.specs.Image.{newest, encode, Stored}
-use Rattle.rules.specs.Calls.{Request, Opened, Closed, Made, openRefusals, closeRefusals, Work, Serve}
+use Rattle.rules.specs.Calls.{Request, Opened, Closed, Made, openRefusals, requestRefusals, Work, Serve}
 use Rattle.rules.specs.Calls.Request.{Open, Close}
 use Rattle.rules.specs.Order.{idOf, IdInRange}
 use Rattle.rules.proofs.Says.{None, says-none, says-unique}
@@ -92,9 +92,10 @@ moves {q = q} d small = record {
   only = made-only (allOf (d .before)) (d .before) q (d .after) (d .work .done refl);
 }
 
--- where no refusal applies to a close the id is there
-pub closing-known : (id : ℕ) (b : Book) → Says (closeRefusals id b) 0 → Known b id
-closing-known id b h = stable (tests-known b id) (says-none (closeRefusals id b) (omega arith) h .1 .0)
+-- where a close is done the id was there
+pub closing-known : {image : List ℕ} {id len : ℕ} {out′ : List ℕ} (d : Done image (Close id) len out′) → Known (d .before) id
+closing-known {id = id} d =
+    stable (tests-known (d .before) id) (says-none (requestRefusals (allOf (d .before)) (d .before) (Close id)) (omega arith) (d .work .says) .1 .0)
 
 -- an open adds its first way, and its second exactly if that was asked for
 new-ways : {T : Topology} {middle : ℕ} {q : Asked} {ps : List (List ℕ)} (b : Book) (rs : List Row) → Planned T middle q ps → NewRows b q 1 ps rs
@@ -166,7 +167,7 @@ close-removes image id out len out′ h = (d .before, d .after, moves d small, (
     d = done image (Close id) out len out′ h
 
     k : Known (d .before) id
-    k = closing-known id (d .before) (d .work .says)
+    k = closing-known d
 
     small : TwoBytes id
     small = omega (arith, d .held .lawful .rows (k .row) (k .there) .id-most, k .named)
@@ -184,13 +185,13 @@ close-undoes-open image v b held q out len out′ small h out₂ number len₂ o
     there : Closed (d .after) (q .id) b
     there = subst (Closed (d .after) (q .id)) (stored-unique image (d .version) v (d .before) b (d .held) held .1) (back d)
 
-    says : Says (closeRefusals (q .id) (d .after)) 0
+    says : Says (requestRefusals (allOf (d .after)) (d .after) (Close (q .id))) 0
     says = inr (none-applies d .0, inr (λ f. let t = has-stream d .first in f record { row = t .0; there = t .1; named = t .2 }, refl))
 
     zero-said : number ≡ 0
     zero-said =
         let (n, e, w) = ran-one (number ∷ []) (served-ran opened (Close (q .id)) small out₂ full number len₂ out₂′ k) in
-        ap (λ (ns : List ℕ). getD ns 0 0) e ∙ says-unique (closeRefusals (q .id) (d .after)) n 0 (w .says) says
+        ap (λ (ns : List ℕ). getD ns 0 0) e ∙ says-unique (requestRefusals (allOf (d .after)) (d .after) (Close (q .id))) n 0 (w .says) says
 
     c : Done (take len out′) (Close (q .id)) len₂ out₂′
     c = done (take len out′) (Close (q .id)) out₂ len₂ out₂′ (subst (λ (n : ℕ). Serve (take len out′) (Close (q .id)) out₂ n len₂ out₂′) zero-said k)

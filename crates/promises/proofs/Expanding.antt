@@ -10,7 +10,7 @@ use Rattle.rules.specs.Tiles.{cycleTiles}
 use Rattle.rules.specs.Topology.{nodes}
 use Rattle.rules.specs.Book.{Book}
 use Rattle.rules.specs.Image.{encode, versionOf, nodesOf, siteOf, Stored}
-use Rattle.rules.specs.Table.{TablePart, TableOf}
+use Rattle.rules.specs.Table.{TablePart}
 use Rattle.rules.specs.Calls.{PartInRange, Check}
 use Rattle.rules.proofs.Encoding.{version-back, site-back}
 use Rattle.rules.proofs.Entries.{table-unique, parts-join}
@@ -18,7 +18,7 @@ use Rattle.model.specs.Table.{partOf}
 use Rattle.model.proofs.Tables.{part-computed}
 use Rattle.model.proofs.Calls.{reply}
 use Rattle.order.proofs.Calls.{of-stored, taken}
-use Rattle.promises.specs.OnAir.{LookAlike, Expands, Joined, JoinedIsWhole, ExpandAlike, ImagesNeverAlike}
+use Rattle.promises.specs.OnAir.{TableOf, LookAlike, Expands, Joined, JoinedIsWhole, ExpandAlike, ImagesNeverAlike}
 use Rattle.promises.specs.OnAir.Joined.{end, part}
 use Rattle.promises.proofs.Reading.{reads-exactly}
 use Rattle.promises.proofs.OnAir.{never-alike}

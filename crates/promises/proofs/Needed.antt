@@ -9,7 +9,6 @@ use Rattle.rules.specs.Tiles.{cycleTiles}
 use Rattle.rules.specs.Topology.{Topology, nodes}
 use Rattle.rules.specs.Book.{Row, Book, LawfulBook}
 use Rattle.rules.specs.Image.{newest, encode, Stored}
-use Rattle.rules.specs.Table.{TableOf}
 use Rattle.rules.proofs.Tests.{allBelow, tests-all, allOf, tests-every, tests-eq}
 use Rattle.rules.proofs.Encoding.{stored-unique}
 use Rattle.model.specs.Test.{same}
@@ -20,7 +19,7 @@ use Rattle.model.proofs.Tables.{part-computed}
 use Rattle.model.proofs.Reading.{tests-book}
 use Rattle.order.proofs.Premises.{so, held, newly}
 use Rattle.order.proofs.Examples.{unlike}
-use Rattle.promises.specs.OnAir.{LookAlike, SameAccounts, SameNumbers}
+use Rattle.promises.specs.OnAir.{TableOf, LookAlike, SameAccounts, SameNumbers}
 use Rattle.promises.specs.Needed.{Needed, alone, inLine, sold, paid, Examples}
 use Rattle.promises.proofs.Expanding.{expand-alike}
 

@@ -9,10 +9,14 @@ use Rattle.rules.specs.Tiles.{cycleTiles}
 use Rattle.rules.specs.Topology.{nodes}
 use Rattle.rules.specs.Book.{Row, Book, LawfulBook}
 use Rattle.rules.specs.Image.{versionOf, planOf, nodesOf, linksOf, hearingOf, accountsOf, Stored}
-use Rattle.rules.specs.Table.{TableOf}
+use Rattle.rules.specs.Table.{TablePart}
 use Rattle.rules.specs.Calls.{Check, Expand}
 
 -- OVER BOOKS
+
+-- the whole table: every slot of the cycle
+abbrev pub TableOf : Book → ℕ → List ℕ → Type 0
+TableOf b node table = TablePart b node 0 cycleTiles table
 
 -- at every node the books have one table
 abbrev pub LookAlike : Book → Book → Type 0

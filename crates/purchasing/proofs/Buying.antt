@@ -8,7 +8,7 @@ use lib.Seq.{length-take-le}
 use Rattle.rules.specs.Words.{FourBytes}
 use Rattle.rules.specs.Book.{Account, KnownAccount}
 use Rattle.rules.specs.Image.{newest, headerLength, word32, encode, accountsOf}
-use Rattle.rules.specs.Calls.{purchased, PastBits}
+use Rattle.rules.specs.Calls.{purchased}
 use Rattle.rules.proofs.Reading.{bookIn, LawfulImage}
 use Rattle.image.specs.Header.{HeaderOf}
 use Rattle.image.specs.declared.Book as head
@@ -73,12 +73,12 @@ module _ {s : List ℕ} (h : LawfulImage s) (n amount : ℕ) (known : KnownAccou
           ∙ ap (over out 0) (sym (raised-is has e))
 
 -- whether it is past 32 bits
-module _ {accounts : List Account} {n amount bought sum : ℕ} (has : HasBought accounts n bought) (e : sum ≡ bought + amount) where
-  past : KnownAccount accounts n → (FourBytes sum → ⊥) → PastBits accounts n amount
-  past k l = record { account = k .account; there = k .there; named = k .named; past = λ f. l (omega (arith, f, e, has (k .account) (k .there) (k .named))) }
+module _ {accounts : List Account} {n bought sum : ℕ} (amount : ℕ) (has : HasBought accounts n bought) (e : sum ≡ bought + amount) where
+  past : KnownAccount accounts n → (FourBytes sum → ⊥) → (known : KnownAccount accounts n) × (FourBytes (known .account .bought + amount) → ⊥)
+  past k l = (k, λ f. l (omega (arith, f, e, has (k .account) (k .there) (k .named))))
 
-  not-past : FourBytes sum → PastBits accounts n amount → ⊥
-  not-past l p = p .past (omega (arith, l, e, has (p .account) (p .there) (p .named)))
+  not-past : FourBytes sum → ((known : KnownAccount accounts n) × (FourBytes (known .account .bought + amount) → ⊥)) → ⊥
+  not-past l (k, over) = over (omega (arith, l, e, has (k .account) (k .there) (k .named)))
 
 -- 22, 24, 12
 module _ {s : List ℕ} (h : LawfulImage s) (n amount : ℕ) (out : List ℕ) {number len : ℕ} where
@@ -87,13 +87,13 @@ module _ {s : List ℕ} (h : LawfulImage s) (n amount : ℕ) (out : List ℕ) {n
 
   module _ (known : KnownAccount (accountsOf s) n) {bought sum : ℕ} (has : HasBought (accountsOf s) n bought) (e : sum ≡ bought + amount) where
     pub buys-past : (FourBytes sum → ⊥) → number ≡ 24 → len ≡ 0 → Buys s n amount out number len out
-    buys-past l a b = reply-next (λ f. f known) (reply-refused (past has e known l) (λ z. omega arith) a b)
+    buys-past l a b = reply-next (λ f. f known) (reply-refused (past amount has e known l) (λ z. omega arith) a b)
 
     module _ (few : FourBytes sum) {i : ℕ} (at : PlaceOf (accountsOf s) n i) {size : ℕ} {work : List ℕ} (again : Transcribed s size work) where
       pub buys-short : length out < size → number ≡ 12 → len ≡ 0 → Buys s n amount out number len out
       buys-short l a b =
           reply-next (λ f. f known)
-          (reply-next (not-past has e few) (reply-refused (omega (arith, l, size-raised h n amount known at again has e)) (λ z. omega arith) a b))
+          (reply-next (not-past amount has e few) (reply-refused (omega (arith, l, size-raised h n amount known at again has e)) (λ z. omega arith) a b))
 
       -- or the book with the account raised
       pub buys-done : (o₁ o₂ : List ℕ) → size ≤ length out → o₁ ≡ over out 0 (take size work) → o₂ ≡ over o₁ (headerLength + 1 + 6 * i + 2) (word32 sum)
@@ -101,5 +101,5 @@ module _ {s : List ℕ} (h : LawfulImage s) (n amount : ℕ) (out : List ℕ) {n
       buys-done o₁ o₂ l p q a b =
           let bytes : List ℕ = encode newest (purchased n amount (bookIn s)) in
           let long = size-raised h n amount known at again has e in
-          reply-next (λ f. f known) (reply-next (not-past has e few) (reply-next (λ k. omega (arith, l, k, long))
+          reply-next (λ f. f known) (reply-next (not-past amount has e few) (reply-next (λ k. omega (arith, l, k, long))
           (reply-done bytes refl a (b ∙ long) (written h n amount known at again has e out o₁ o₂ p q ∙ over-front out bytes))))

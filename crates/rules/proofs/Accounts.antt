@@ -70,7 +70,7 @@ opened-paid mains b paid q c o pays a h = go (eqb (q .account) (a .number)) refl
         let cost : ℕ = total hopCount (o .routes) * repeats (q .period) in
         let n : q .account ≡ a .number = eqb-true (q .account) (a .number) e in
         let g : (a .bought < drawn (a .number) (b .rows) + cost) → ⊥ =
-        λ s. pays record { account = a; there = h; named = sym n; short = subst (λ (z : ℕ). a .bought < drawn z (b .rows) + cost) (sym n) s } in
+        λ s. pays record { known = record { account = a; there = h; named = sym n }; short = subst (λ (z : ℕ). a .bought < drawn z (b .rows) + cost) (sym n) s } in
         omega (arith, sum true e)
     go false e = omega (arith, paid a h, sum false e)
 

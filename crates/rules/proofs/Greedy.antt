@@ -7,7 +7,7 @@ use native.Mathlib.Omega.{arith}
 use native.Mathlib.Nat.{eq-or-lt-of-le, add-zero}
 use native.Mathlib.Decide.{decLt}
 use lib.ListN.{length, getD}
-use Rattle.rules.specs.Words.{_∈_, Rising, NoLater}
+use Rattle.rules.specs.Words.{_∈_, Pairwise, NoLater}
 use Rattle.rules.specs.Topology.{Hop, hopCount, hopAt}
 use Rattle.rules.specs.Book.{Book}
 use Rattle.rules.specs.Placing.{Free, Placing, FirstPlacing}
@@ -111,7 +111,7 @@ module _ (F : ℕ → ℕ → Type 0) (B : ℕ) where
 module _ (F : ℕ → ℕ → Type 0) (B : ℕ) where
   pub record Listed (n i lo : ℕ) (os : List ℕ) : Type 0 where
     pub count : length os ≡ n
-    pub rising : Rising os
+    pub rising : Pairwise _<_ os
     pub above : (o : ℕ) → o ∈ os → lo ≤ o
     pub within : (o : ℕ) → o ∈ os → o < B
     pub free : (j : ℕ) → j < n → F (i + j) (getD os j 0)

@@ -26,6 +26,10 @@ use Rattle.rules.proofs.Added.{second-within, new-count, new-hops}
 use Rattle.rules.proofs.Reading.{withRows, row-newest}
 use Rattle.rules.proofs.Accounts.{known-account, opened-paid, closed-paid}
 
+-- the longest image of each version
+pub longest-images : (longestImage 1 ≡ 2384) × (longestImage 2 ≡ 2448) × (longestImage 3 ≡ 2960) × (longestImage 4 ≡ 3024) × (longestImage 5 ≡ 3345)
+longest-images = (refl, refl, refl, refl, refl)
+
 -- a full-size buffer holds the image of every lawful book
 pub lawful-length : (c : Book) → LawfulBook c → length (encode newest c) ≤ longestImage newest
 lawful-length c l = omega (arith, length-encode newest c l, l .site .accounts .most, l .site .nodes .1, l .streams, l .hops)

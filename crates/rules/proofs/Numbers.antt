@@ -7,8 +7,9 @@ use Rattle.rules.specs.Tiles.{Plan}
 use Rattle.rules.specs.Book.{Book}
 use Rattle.rules.specs.Placing.{Asked}
 use Rattle.rules.specs.Image.{imageRefusals}
-use Rattle.rules.specs.Calls.{newRefusals, checkRefusals, rewriteRefusals, postRefusals, openRefusals, closeRefusals, expandRefusals, balanceRefusals}
+use Rattle.rules.specs.Calls.{newRefusals, rewriteRefusals, postRefusals, openRefusals, requestRefusals, expandRefusals, balanceRefusals}
 use Rattle.rules.specs.Calls.{routesRefusals, purchaseRefusals, keepsRefusals}
+use Rattle.rules.specs.Calls.Request.{Close}
 use Rattle.rules.specs.Tables.{tablesRefusals}
 
 abbrev numbers : List Refusal → List ℕ
@@ -20,7 +21,7 @@ pub record Ordered : Type 0 where
   pub image : (s : List ℕ) → numbers (imageRefusals s) ≡ 14 ∷ 13 ∷ 10 ∷ 14 ∷ 10 ∷ 14 ∷ 11 ∷ 15 ∷ 16 ∷ []
   pub posts : (mains count room indexRoom v : ℕ) (b : Book) → numbers (postRefusals mains count room indexRoom v b) ≡ 25 ∷ 26 ∷ 12 ∷ []
   pub opens : (mains : ℕ) (q : Asked) (b : Book) → numbers (openRefusals mains q b) ≡ 1 ∷ 4 ∷ 5 ∷ 6 ∷ 22 ∷ 2 ∷ 7 ∷ 17 ∷ 18 ∷ 8 ∷ 9 ∷ 23 ∷ []
-  pub closes : (id : ℕ) (b : Book) → numbers (closeRefusals id b) ≡ 1 ∷ 3 ∷ []
+  pub closes : (mains id : ℕ) (b : Book) → numbers (requestRefusals mains b (Close id)) ≡ 1 ∷ 3 ∷ []
   pub rewrites : (room v : ℕ) (b : Book) → numbers (rewriteRefusals room v b) ≡ 12 ∷ []
   pub expands : (node first tiles room v : ℕ) (b : Book) → numbers (expandRefusals node first tiles room v b) ≡ 4 ∷ 21 ∷ 12 ∷ []
   pub balances : (node v : ℕ) (b : Book) → numbers (balanceRefusals node v b) ≡ 4 ∷ []
@@ -29,14 +30,13 @@ pub record Ordered : Type 0 where
   pub keeps : (mains v : ℕ) (b : Book) → numbers (keepsRefusals mains v b) ≡ 25 ∷ []
   pub news : (plan : Plan) (N : ℕ) (links hearing accounts : List ℕ) (room : ℕ) → numbers (newRefusals plan N links hearing accounts room) ≡ 10 ∷ 11 ∷ 12 ∷ []
   pub tables : (plan : Plan) (N : ℕ) (links hearing tables : List ℕ) (room : ℕ) → numbers (tablesRefusals plan N links hearing tables room) ≡ 10 ∷ 11 ∷ 19 ∷ 8 ∷ 20 ∷ 12 ∷ []
-  pub checks : (v : ℕ) (b : Book) → numbers (checkRefusals v b) ≡ []
 
 pub ordered : Ordered
 ordered = record {
   image = λ s. refl;
   posts = λ mains count room indexRoom v b. refl;
   opens = λ mains q b. refl;
-  closes = λ id b. refl;
+  closes = λ mains id b. refl;
   rewrites = λ room v b. refl;
   expands = λ node first tiles room v b. refl;
   balances = λ node v b. refl;
@@ -45,5 +45,4 @@ ordered = record {
   keeps = λ mains v b. refl;
   news = λ plan N links hearing accounts room. refl;
   tables = λ plan N links hearing tables room. refl;
-  checks = λ v b. refl;
 }

@@ -11,11 +11,11 @@ use lib.ListN.{length, drop, length-append}
 use Rattle.rules.specs.Words.{_∈_, Pairwise, total, Each}
 use Rattle.rules.specs.Says.{Says}
 use Rattle.rules.specs.Topology.{hopCount, mostRouteHops}
-use Rattle.rules.specs.Book.{Site, Row, Book, key, hops, hopsInAll, mostStreams, mostHops, LawfulSite, LawfulRow, Paired, RisingByKey, draws, drawn, LawfulBook}
+use Rattle.rules.specs.Book.{Site, Row, Book, key, hops, hopsInAll, mostStreams, mostHops, LawfulSite, LawfulRow, Paired, RisingByKey, draws, drawn, RowsMeet, LawfulBook}
 use Rattle.rules.specs.Placing.{Full}
 use Rattle.rules.specs.Image.{Version, hasHearing, hasAccounts, RowFits, Fits, inTurn, encodeRow, encode, versionOf, siteOf, bookOf, rowsPlace, Stored}
 use Rattle.rules.specs.Calls.{InOrder}
-use Rattle.rules.specs.Salvage.{CutAll, LawfulBeside, MeetsKept, dropReasons, kept, Keep, Salvaged}
+use Rattle.rules.specs.Salvage.{CutAll, LawfulBeside, dropReasons, kept, Keep, Salvaged}
 use Rattle.rules.proofs.Says.{says-none}
 use Rattle.rules.proofs.Lists.{in-append, in-left, in-right, total-append}
 use Rattle.rules.proofs.Encoding.{hopsIn, Sized, AllSized, all-sized, length-row, hops-in, version-back, site-back, rows-back}
@@ -41,7 +41,7 @@ abbrev pub Held : ℕ → Book → Type 0
 Held v b = LawfulBook b × ((r : Row) → r ∈ b .rows → RowFits v r)
 
 -- a row that no reason is given against leaves it so
-pub keep-held : (v : ℕ) (b : Book) (r : Row) → Held v b → LawfulBeside v b r → (Full b (r .route ∷ []) → ⊥) → (MeetsKept b r → ⊥) → Held v (kept b r)
+pub keep-held : (v : ℕ) (b : Book) (r : Row) → Held v b → LawfulBeside v b r → (Full b (r .route ∷ []) → ⊥) → (((x : Row) × (x ∈ b .rows) × RowsMeet (b .site) r x) → ⊥) → Held v (kept b r)
 keep-held v b r (l, f) w room quiet = (
   record {
     site = l .site;
@@ -232,7 +232,7 @@ module _ (v : ℕ) (b : Book) (l : LawfulBook b) (f : (r : Row) → r ∈ b .row
       this : r ∈ b .rows
       this = subst (λ (xs : List Row). r ∈ xs) e (in-right r front (r ∷ rows) (inl refl))
 
-      alone : MeetsKept (record { site = b .site; rows = front }) r → ⊥
+      alone : ((x : Row) × (x ∈ front) × RowsMeet (b .site) r x) → ⊥
       alone m = lawful-quiet b l r (m .0) this (old (m .0) (m .1)) (λ k. omega (arith, before front rows r up (m .0) (m .1), k)) (m .2)
 
       -- the first way stands before

@@ -10,7 +10,8 @@ use Rattle.rules.specs.Tiles.{Plan, shortTiles}
 use Rattle.rules.specs.Topology.{nodes}
 use Rattle.rules.specs.Book.{Account, Site, Row, Book, KnownAccount}
 use Rattle.rules.specs.Image.{newest, oldAccounts, encode}
-use Rattle.rules.specs.Tables.{siteGiven, tableAt, ShownBy, tablesRefusals, BookOf}
+use Rattle.rules.specs.Calls.{siteGiven}
+use Rattle.rules.specs.Tables.{tableAt, ShownBy, tablesRefusals, BookOf}
 use Rattle.rules.proofs.Says.{says-unique}
 use Rattle.rules.proofs.Unique.{Same, one-reply}
 use Rattle.rules.proofs.Air.{fit-short}
@@ -37,4 +38,4 @@ pub one-book-of : {n l n′ l′ : ℕ} {o o′ : List ℕ} (plan : Plan) (N : �
     → BookOf plan N links hearing tables out n l o → BookOf plan N links hearing tables out n′ l′ o′ → Same n l o n′ l′ o′
 one-book-of plan N links hearing tables out g h =
     one-reply (says-unique (tablesRefusals plan N links hearing tables (length out)))
-    (λ s t p q. p .2 ∙ ap (encode newest) (shown-unique (siteGiven plan N links hearing) refl tables (p .0) (q .0) (p .1) (q .1)) ∙ sym (q .2)) g h
+    (λ s t p q. p .2 ∙ ap (encode newest) (shown-unique (siteGiven plan N links hearing oldAccounts) refl tables (p .0) (q .0) (p .1) (q .1)) ∙ sym (q .2)) g h

@@ -1,6 +1,5 @@
 -- The index by slot of the first 100 tiles.
-use mathlib.Core.Path.{_≡_}
-use mathlib.Core.List.{List, _++_}
+use mathlib.Core.{Path._≡_, List.List, List._++_}
 use Prim.Native.Nat.{ℕ, _+_, _*_, _<_, _≤_}
 use lib.ListN.{length, getD, drop}
 use Rattle.rules.specs.Words.{SetOf}

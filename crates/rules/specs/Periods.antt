@@ -3,12 +3,8 @@ use mathlib.Core.Path.{_≡_}
 use Prim.Native.Nat.{ℕ, _<_}
 use lib.ListN.{length}
 use Rattle.rules.specs.Tiles as tiles
-use Rattle.rules.specs.Tiles.{periods, periodAt, Period}
 use Rattle.rules.specs.Placing as placing
-use Rattle.rules.specs.declared.Plan.{Plan}
-use Rattle.rules.specs.declared.Asked.{Asked}
-use Rattle.rules.specs.declared.Place.{Place}
-use Rattle.rules.specs.declared.Place.the-variants.{At, Nowhere}
+use Rattle.rules.specs.declared.{Plan.Plan, Asked.Asked, Place.Place, Place.the-variants.At, Place.the-variants.Nowhere}
 
 -- the tile plan that the code's record holds
 abbrev pub thePlan : Plan → tiles.Plan
@@ -20,9 +16,9 @@ theAsked q = record { id = q .id; source = q .source .0; destination = q .destin
 
 -- the place is one of the list
 abbrev pub InList : ℕ → Type 0
-InList i = i < length periods
+InList i = i < length tiles.periods
 
 -- the place of K among the periods, or that it is none of them
 abbrev pub PlaceOf : ℕ → Place → Type 0
-PlaceOf K (At i) = InList i × (periodAt i ≡ K)
-PlaceOf K Nowhere = Period K → ⊥
+PlaceOf K (At i) = InList i × (tiles.periodAt i ≡ K)
+PlaceOf K Nowhere = tiles.Period K → ⊥

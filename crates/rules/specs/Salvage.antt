@@ -1,8 +1,5 @@
 -- Books damaged on laptops: the rows that can be cut out of an image, those of them that are kept, and the call that salvages them.
-use mathlib.Core.Path.{_≡_}
-use mathlib.Core.Logic.{_⊎_}
-use mathlib.Core.Bool.{false}
-use mathlib.Core.List.{List, [], _∷_, _++_}
+use mathlib.Core.{Path._≡_, Logic._⊎_, Bool.false, List.List, List.[], List._∷_, List._++_}
 use Prim.Native.Nat.{ℕ, _+_, _*_, _<_, _≤_}
 use lib.ListN.{length, getD, drop}
 use Rattle.rules.specs.Words.{_∈_}
@@ -46,13 +43,9 @@ pub record LawfulBeside (v : ℕ) (b : Book) (r : Row) : Type 0 where
   pub paired : Paired (b .rows) r
   pub paid : Paid (b .site .accounts) (b .rows ++ (r ∷ []))
 
--- it meets one of those kept
-abbrev pub MeetsKept : Book → Row → Type 0
-MeetsKept b r = (x : Row) × (x ∈ b .rows) × RowsMeet (b .site) r x
-
--- the reasons for dropping a row: 15; 8, past 64 rows or 512 hops; 16
+-- the reasons for dropping a row: 15; 8, past 64 rows or 512 hops; 16, it meets one of those kept
 abbrev pub dropReasons : ℕ → Book → Row → List Refusal
-dropReasons v b r = (15 when (LawfulBeside v b r → ⊥)) ∷ (8 when Full b (r .route ∷ [])) ∷ (16 when MeetsKept b r) ∷ []
+dropReasons v b r = (15 when (LawfulBeside v b r → ⊥)) ∷ (8 when Full b (r .route ∷ [])) ∷ (16 when ((x : Row) × (x ∈ b .rows) × RowsMeet (b .site) r x)) ∷ []
 
 -- the book with the row behind the others
 abbrev pub kept : Book → Row → Book

@@ -1,7 +1,5 @@
 -- Another planner's tables: whether they are entries, what they show, and the one book that expands to them.
-use mathlib.Core.Path.{_≡_}
-use mathlib.Core.Logic.{_⊎_}
-use mathlib.Core.List.{List, [], _∷_}
+use mathlib.Core.{Path._≡_, Logic._⊎_, List.List, List.[], List._∷_}
 use Prim.Native.Nat.{ℕ, _+_, _*_, _%_, _<_, _≤_}
 use lib.ListN.{length, getD, take, drop}
 use Rattle.rules.specs.Words.{_∈_, Distinct}
@@ -9,13 +7,9 @@ use Rattle.rules.specs.Says.{Refusal, _when_, Says}
 use Rattle.rules.specs.Tiles.{Plan, PlanInRange, shortTiles, slotsOf, Control, Data, ShortPeriod}
 use Rattle.rules.specs.Topology.{NodesInRange, nodes}
 use Rattle.rules.specs.Book.{Site, Row, Book, keyOf, mostStreams, LawfulBook}
-use Rattle.rules.specs.Image.{newest, oldAccounts, wordAt, topologyAt, encode}
+use Rattle.rules.specs.Image.{newest, oldAccounts, wordAt, encode}
 use Rattle.rules.specs.Table.{onWay, tableLength, TablePart}
-use Rattle.rules.specs.Calls.{TopologiesGiven, Reply}
-
--- the site that is given, with the one account of older books; the topologies are given as they stand in an image
-abbrev pub siteGiven : Plan → ℕ → List ℕ → List ℕ → Site
-siteGiven plan N links hearing = record { plan = plan; links = topologyAt links 0 N; hearing = topologyAt hearing 0 N; accounts = oldAccounts }
+use Rattle.rules.specs.Calls.{siteGiven, TopologiesGiven, Reply}
 
 -- ENTRIES, counted through all the tables, node 0 first
 
@@ -82,19 +76,19 @@ pub record ShownBy (site : Site) (tables : List ℕ) (b : Book) : Type 0 where
 abbrev pub OfShown : Site → List ℕ → (Book → Type 0) → Type 0
 OfShown site tables P = (b : Book) × ShownBy site tables b × P b
 
--- 10, 11, 19, 8, 20, 12
+-- 10, 11, 19, 8, 20, 12; the site has the one account of older books
 abbrev pub tablesRefusals : Plan → ℕ → List ℕ → List ℕ → List ℕ → ℕ → List Refusal
 tablesRefusals plan N links hearing tables room =
     (10 when ((PlanInRange plan × NodesInRange N) → ⊥))
     ∷ (11 when (TopologiesGiven N links hearing → ⊥))
     ∷ (19 when (TablesOfEntries plan N tables → ⊥))
     ∷ (8 when TooMany plan N tables)
-    ∷ (20 when ((b : Book) → ShownBy (siteGiven plan N links hearing) tables b → ⊥))
-    ∷ (12 when OfShown (siteGiven plan N links hearing) tables (λ (b : Book). room < length (encode newest b)))
+    ∷ (20 when ((b : Book) → ShownBy (siteGiven plan N links hearing oldAccounts) tables b → ⊥))
+    ∷ (12 when OfShown (siteGiven plan N links hearing oldAccounts) tables (λ (b : Book). room < length (encode newest b)))
     ∷ []
 
 -- it writes that book, in the newest version
 abbrev pub BookOf : Plan → ℕ → List ℕ → List ℕ → List ℕ → List ℕ → ℕ → ℕ → List ℕ → Type 0
 BookOf plan N links hearing tables out =
     Reply (Says (tablesRefusals plan N links hearing tables (length out)))
-    (λ (bytes : List ℕ). OfShown (siteGiven plan N links hearing) tables (λ (b : Book). bytes ≡ encode newest b)) out
+    (λ (bytes : List ℕ). OfShown (siteGiven plan N links hearing oldAccounts) tables (λ (b : Book). bytes ≡ encode newest b)) out

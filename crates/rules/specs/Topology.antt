@@ -1,8 +1,5 @@
 -- Topologies, routes, clashes.
-use mathlib.Core.Path.{_≡_}
-use mathlib.Core.Logic.{_⊎_}
-use mathlib.Core.Bool.{Bool}
-use mathlib.Core.List.{List, [], _∷_}
+use mathlib.Core.{Path._≡_, Logic._⊎_, Bool.Bool, List.List, List.[], List._∷_}
 use Prim.Native.Nat.{ℕ, suc, _-_, _^_, _<_, _≤_}
 use lib.ListN.{length, getD, take, drop}
 use Rattle.rules.specs.Words.{Has, NoBitFrom, _∈_, Pairwise, Distinct, NoLater, Earlier, Tests}

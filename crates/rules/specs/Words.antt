@@ -1,8 +1,5 @@
 -- Words about numbers and lists that every section uses.
-use mathlib.Core.Path.{_≡_}
-use mathlib.Core.Logic.{_⊎_}
-use mathlib.Core.Bool.{Bool, true}
-use mathlib.Core.List.{List, [], _∷_}
+use mathlib.Core.{Path._≡_, Logic._⊎_, Bool.Bool, Bool.true, List.List, List.[], List._∷_}
 use Prim.Native.Nat.{ℕ, zero, suc, _+_, _/_, _%_, _^_, _<_}
 
 -- bit b of the number n
@@ -41,10 +38,6 @@ _∈_ x (y ∷ ys) = (x ≡ y) ⊎ (x ∈ ys)
 abbrev pub Pairwise : {A : Type 0} → (A → A → Type 0) → List A → Type 0
 Pairwise R [] = Unit {0}
 Pairwise R (x ∷ xs) = ((y : _) → y ∈ xs → R x y) × Pairwise R xs
-
--- the numbers rise strictly
-abbrev pub Rising : List ℕ → Type 0
-Rising = Pairwise _<_
 
 -- no number is there twice
 abbrev pub Distinct : List ℕ → Type 0

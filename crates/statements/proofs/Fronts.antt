@@ -2,7 +2,7 @@
 use mathlib.Core.Path.{_≡_, refl, sym, ap, ap₂, _∙_, subst}
 use mathlib.Core.Logic.{_↔_, inl, inr}
 use mathlib.Core.Bool.{Bool, true, false, cond}
-use mathlib.Core.List.{List, _∷_}
+use mathlib.Core.List.{List, [], _∷_}
 use Prim.Native.Nat.{ℕ, zero, suc, _+_, _*_, _<_, _≤_}
 use native.Mathlib.Omega.{arith}
 use lib.ListN.{length, getD, take}
@@ -12,7 +12,7 @@ use Rattle.rules.specs.Tiles.{PlanInRange}
 use Rattle.rules.specs.Book.{Account, Book, mostAccounts, AccountsInRange}
 use Rattle.rules.specs.Image.{newest, headerLength, hasWays, hasWide, hasHearing, hasAccounts, oldAccounts, linksStart, longestImage, mark, Version, word32At, accountsAt, accountCountOf}
 use Rattle.rules.specs.Image.{versionOf, planOf, nodesOf, streamsOf, hopsOf, FieldsInRange, accountsOf, linksPlace, statedLength, imageRefusals}
-use Rattle.rules.specs.Calls.{OfBook, SaysOf, checkRefusals}
+use Rattle.rules.specs.Calls.{OfBook, SaysOf}
 use Rattle.rules.proofs.Says.{says-none, same-says}
 use Rattle.rules.proofs.Encoding.{stored-says}
 use Rattle.rules.proofs.Written.{length-accounts-at}
@@ -174,7 +174,7 @@ module _ (s : List ℕ) (k : ℕ) (over : longestImage newest < k) (inside : k �
   front-figures : (f : Figures) → FiguresSay t f → FiguresSay s f
   front-figures f w = record { says = said (w .says); refused = w .refused; done = λ e. absurd (not-stored (w .done e)) }
     where
-      said : SaysOf t checkRefusals (f .number) → SaysOf s checkRefusals (f .number)
+      said : SaysOf t (λ (v : ℕ) (b : Book). []) (f .number) → SaysOf s (λ (v : ℕ) (b : Book). []) (f .number)
       said (inl p) = inl (front-says (f .number) (p .0), p .1)
       said (inr p) = absurd (not-stored p)
 

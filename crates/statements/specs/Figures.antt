@@ -1,11 +1,11 @@
 -- What the figures of an image say: its number, and those of its book.
 use mathlib.Core.Path.{_≡_}
-use mathlib.Core.List.{List}
+use mathlib.Core.List.{List, []}
 use Prim.Native.Nat.{ℕ, _<_, _≤_}
 use lib.ListN.{length, getD, take, replicate}
 use Rattle.rules.specs.Topology.{nodes}
 use Rattle.rules.specs.Book.{Book}
-use Rattle.rules.specs.Calls.{CallOf, checkRefusals}
+use Rattle.rules.specs.Calls.{CallOf}
 use Rattle.statements.specs.declared.Figures.{Figures}
 use Rattle.statements.specs.declared.Movement.{Movement}
 use Rattle.statements.specs.Statement.{FreeOf, LineOf, Moves}
@@ -32,7 +32,7 @@ pub record NoFigures (r : Figures) : Type 0 where
 
 -- the image's number; the figures of its book, or zeros where it is refused
 abbrev pub FiguresSay : List ℕ → Figures → Type 0
-FiguresSay image r = CallOf image checkRefusals (NoFigures r) (λ (v : ℕ) (b : Book). FiguresOf b r) (r .number)
+FiguresSay image r = CallOf image (λ (v : ℕ) (b : Book). []) (NoFigures r) (λ (v : ℕ) (b : Book). FiguresOf b r) (r .number)
 
 -- the first r bytes of every image of so many bytes have its figures
 pub record Decides (size r : ℕ) : Type 0 where
