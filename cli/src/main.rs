@@ -126,7 +126,7 @@ fn main() -> ExitCode {
         return complain(&Trouble::Failed(said.into()), false).into();
     }
     let mut words = env::args_os().skip(1);
-    let Some(name) = words.next().map(alias) else {
+    let Some(name) = words.next().filter(|word| !word.is_empty()).map(alias) else {
         return complain(&Trouble::Misused(USAGE.into()), false).into();
     };
     if name == "--version" {
@@ -135,8 +135,8 @@ fn main() -> ExitCode {
         return tell(&text.into()).into();
     }
     match named(&name) {
-        Some(command) => run(command, words.collect()),
-        None => complain(&Trouble::Misused(USAGE.into()), false),
+        Ok(command) => run(command, words.collect()),
+        Err(trouble) => complain(&trouble, false),
     }
     .into()
 }

@@ -168,12 +168,14 @@ def usage(room):
         said = room.run("help", name)
         check(said.status == 0 and (name == "help" or said.out == room.run(name, "--help").out), "help %s" % name)
     none = "usage: lindurask COMMAND BOOK ...; lindurask help lists the commands\n"
-    for words in [[], ["frob"], ["frob", "kiln.book"], [""], ["--json"], ["NEW"]]:
+    for words in [[], [""], ["", "kiln.book"]]:
         room.says(2, none, *words)
-    room.says(2, "lindurask: no command has this name; lindurask help lists them\n", "help", "frob")
+    for word, shown in [("frob", "frob"), ("--json", "--json"), ("NEW", "NEW"), (b"\x1b[31m\n", "\\x1b[31m\\x0a")]:
+        for words in [[word], [word, "kiln.book"]] + [["help", word]] * (word != "--json"):
+            room.says(2, "lindurask: no command is called %s; lindurask help lists the commands\n" % shown, *words)
     room.says(2, "usage: lindurask show %s\n" % USAGE["show"], "show", "kiln.book", "--stream", "1", "--node", "1")
     room.says(2, "usage: lindurask show %s\n" % USAGE["show"], "show", "kiln.book", "--stream")
-    check(room.run("help").out == room.run("--help").out == room.run("-h").out == room.run("help", "help").out, "the ways to ask for help differ")
+    check(room.run("help").out == room.run("--help").out == room.run("-h").out == room.run("help", "help").out == room.run("help", "").out, "the ways to ask for help differ")
     version = [line.split('"')[1] for line in open(os.path.join(ROOT, "cli/Cargo.toml")) if line.startswith("version")][0]
     room.says(0, "lindurask %s, books of version 5\n" % version, "--version")
     for word in ["Second", "2", "", "--second", "second second", "account", "Account"]:

@@ -44,4 +44,4 @@ def test(room):
     for name in ["folder/", "..", "/", "kiln.book/"]:
         said = room.run("new", name, "kiln.plan")
         check(said.status == 2 and said.out == "", "new %s: %s" % (name, said.all))
-    check(room.run(b"\x1b[31m").all.startswith("usage: lindurask COMMAND"), "a command that is none is not printed")
+    check(room.run(b"\x1b[31m").all.startswith("lindurask: no command is called \\x1b[31m;"), "a command that is none is printed raw")

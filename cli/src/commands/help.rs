@@ -53,12 +53,10 @@ The refusals by their number:
 }
 
 fn run(words: &Words) -> Result<Report, Trouble> {
-    let Some(name) = words.operands.first() else { return Ok(everything().into()) };
-    match named(name) {
-        Some(command) if command.name != HELP.name => Ok(command.explained().into()),
-        Some(_) => Ok(everything().into()),
-        None => Err(Trouble::Misused(
-            "lindurask: no command has this name; lindurask help lists them".into(),
-        )),
-    }
+    let Some(name) = words.operands.first().filter(|name| !name.is_empty()) else {
+        return Ok(everything().into());
+    };
+    let command = named(name)?;
+    let is_help = command.name == HELP.name;
+    Ok(if is_help { everything() } else { command.explained() }.into())
 }

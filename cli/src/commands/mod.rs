@@ -88,10 +88,13 @@ pub const COMMANDS: [Command; 19] = [
     help::HELP,
 ];
 
-/// The command of this name.
-pub fn named(name: &std::ffi::OsStr) -> Option<&'static Command> {
+/// The command of this name; where there is none, that is said, and how to find it.
+pub fn named(name: &std::ffi::OsStr) -> Result<&'static Command, Trouble> {
     const ALL: &[Command] = &COMMANDS;
-    ALL.iter().find(|command| name == command.name)
+    ALL.iter().find(|command| name == command.name).ok_or_else(|| {
+        let said = format!("no command is called {}", crate::text::plain(name));
+        Trouble::Failed(format!("{said}; lindurask help lists the commands"))
+    })
 }
 
 impl Command {
