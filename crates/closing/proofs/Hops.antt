@@ -5,9 +5,7 @@ use Prim.Native.Nat.{ℕ, suc, _+_, _<_, _≤_}
 use native.Mathlib.Numerals.{add-one}
 use native.Mathlib.Omega.{arith}
 use lib.ListN.{getD}
-use Rattle.rules.specs.Tiles.{periodAt}
 use Rattle.rules.specs.Topology.{Hop}
-use Rattle.rules.specs.Periods.{InList}
 use Rattle.rules.specs.Book.{hops, rowHop, rowOffset}
 use Rattle.rules.specs.Image.{planOf}
 use Rattle.rules.specs.declared.Node.{Node}
@@ -26,10 +24,8 @@ module _ {s : List ℕ} {at : ℕ} (h : LawfulImage s) (w : RowHere s at) where
   node-small i l = omega (arith, node-known (w .lawful) i l, h .lawful .site .nodes .1)
 
   -- how its period repeats
-  pub row-repeats : {S K p : ℕ} {repeats : Repeats} → S ≡ planOf s .slots → InList p × (periodAt p ≡ K) → K ≡ rowAt s at .period → RepeatsOf S (periodAt p) repeats
-      → RepeatsOf (planOf s .slots) (rowAt s at .period) repeats
-  row-repeats {p = p} {repeats} f place e v =
-      subst (λ (K : ℕ). RepeatsOf (planOf s .slots) K repeats) (place .1 ∙ e) (subst (λ (S : ℕ). RepeatsOf S (periodAt p) repeats) f v)
+  pub row-repeats : {S K : ℕ} {repeats : Repeats} → S ≡ planOf s .slots → K ≡ rowAt s at .period → RepeatsOf S K repeats → RepeatsOf (planOf s .slots) (rowAt s at .period) repeats
+  row-repeats {K = K} {repeats} f e v = subst (λ (L : ℕ). RepeatsOf (planOf s .slots) L repeats) e (subst (λ (S : ℕ). RepeatsOf S K repeats) f v)
 
   module _ {repeats : Repeats} (v : RepeatsOf (planOf s .slots) (rowAt s at .period) repeats) (i : ℕ) where
     pub hop-in-index : {o : ℕ} → i < hops (rowAt s at) → o ≡ rowOffset (rowAt s at) i → InIndex repeats o

@@ -13,7 +13,6 @@ ghost use Rattle.closing.specs.Gone.{RowOut, GoneAt};
 use answers::Answer;
 use finding::Spot;
 use image::Book;
-use rules::Place;
 use rules::Slot;
 
 // The rows of an id: how many, their hops, and the place after them.
@@ -28,10 +27,7 @@ fn unmark_row(image: &[u8], at: usize, slots: Slot, index: &mut [u64; index::WOR
     requires { ⌜ LawfulImage (now image) × RowHere (now image) at × (slots .0 ≡ planOf (now image) .slots) × (length (now index) ≡ indexLength) ⌝ }
     ensures { λ _. ⌜ RowOut (now (image .entry)) at (now (index .entry)) (now (index .exit)) ⌝ }
 {
-    let Place::At(period) = rules::place_of(image::period_at(image, at)) else {
-        return;
-    };
-    let repeats = index::repeats_of(slots, period);
+    let repeats = index::repeats_of(slots, image::period_at(image, at));
     let h = image::hops_at(image, at);
     let mut i = 0;
     while i < h {

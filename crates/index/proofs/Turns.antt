@@ -5,12 +5,12 @@ use mathlib.Core.List.{List}
 use Prim.Native.Nat.{ℕ, _+_, _*_, _/_, _%_, _<_, _≤_}
 use native.Mathlib.Omega.{arith}
 use native.Mathlib.Decide.{decLt}
-use native.Mathlib.Nat.{eq-or-lt-of-le, mul-le-mul-right, div-add-mod', pos-of-dvd-of-pos}
+use native.Mathlib.Nat.{eq-or-lt-of-le, mul-le-mul-right, div-add-mod'}
 use lib.Ieee.Nearest.{div-mono}
 use lib.ListN.{length, set}
 use Rattle.rules.specs.Tiles.{Period, ShortPeriod, Takes, repeats, cycleTiles, shortTiles}
 use Rattle.rules.specs.Topology.{Hop}
-use Rattle.rules.proofs.Meeting.{period-divides}
+use Rattle.rules.proofs.Periods.{period-some}
 use Rattle.rules.proofs.Cycle.{whole-of}
 use Rattle.bitset.specs.Sets.{SetOf}
 use Rattle.clash.specs.Reach.{End, nodeAt}
@@ -20,9 +20,6 @@ use Rattle.index.specs.Index.{indexSlots, AtWork}
 use Rattle.index.specs.Turns.{RepeatsOf, TakesFirst, TakesShort, TakesIn, InIndex}
 use Rattle.index.specs.Marks.{Adds}
 use Rattle.index.proofs.Adding.{adds-none, adds-alike, adds-both, one-law}
-
-pub period-some : (K : ℕ) → Period K → 0 < K
-period-some K p = pos-of-dvd-of-pos (period-divides K p) (omega arith)
 
 -- WHAT A HOP OF A PERIOD TAKES IN THE FIRST 100 TILES
 module _ {S K o slot : ℕ} where

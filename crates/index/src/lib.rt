@@ -5,8 +5,7 @@ ghost use mathlib.Core.Bool.{false};
 ghost use Prim.Native.Nat.{ℕ, _<_, _≤_};
 ghost use lib.ListN.{length, getD};
 ghost use Rattle.rules.specs.Words.{Tests};
-ghost use Rattle.rules.specs.Tiles.{periodAt};
-ghost use Rattle.rules.specs.Periods.{InList};
+ghost use Rattle.rules.specs.Tiles.{Period};
 ghost use Rattle.bitset.specs.Sets.{SetOf};
 ghost use Rattle.clash.specs.Reach.{End, nodeAt, hop};
 ghost use Rattle.index.specs.Index.{indexLength, slowPlace};
@@ -29,15 +28,14 @@ pub struct Repeats {
     pub turns: u16,
 }
 
-// How the period at a place repeats: one over 100 has no turn, and is neither marked nor found.
-pub fn repeats_of(slots: Slot, period: usize) -> Repeats
-    requires { ⌜ (slots .0 ≤ 32) × InList period ⌝ }
-    ensures { λ r. ⌜ RepeatsOf (slots .0) (periodAt period) r ⌝ }
+// How a period repeats: one over 100 has no turn, and is neither marked nor found.
+pub fn repeats_of(slots: Slot, period: Tile) -> Repeats
+    requires { ⌜ (slots .0 ≤ 32) × Period (period .0) ⌝ }
+    ensures { λ r. ⌜ RepeatsOf (slots .0) (period .0) r ⌝ }
 {
-    let tiles = rules::period_at(period);
     Repeats {
         span: rules::span(slots, period),
-        turns: rules::SHORT / tiles.0,
+        turns: rules::SHORT / period.0,
     }
 }
 

@@ -18,7 +18,6 @@ use accounts::purses;
 use clash::Reach;
 use image::Book;
 use index::Repeats;
-use rules::Place;
 use rules::Slot;
 use rules::Tile;
 
@@ -166,10 +165,7 @@ fn meets_kept(
     ensures { λ r. ⌜ Tests r (RowMeets (now (index .entry)) (now (image .entry)) (now (places .entry)) n at) ⌝ }
 {
     let period = image::period_at(image, at);
-    let Place::At(place) = rules::place_of(period) else {
-        return true;
-    };
-    let repeats = index::repeats_of(slots, place);
+    let repeats = index::repeats_of(slots, period);
     let slow = index::has_slow(index);
     let mut moduli = [0u16; plain::ROWS];
     let rows = weigh(image, places, n, slots, period, slow, &mut moduli);
@@ -240,10 +236,7 @@ fn keep(
     ensures { λ r. ⌜ KeptMore (now (image .entry)) at kept (now (places .entry)) (now (left .entry)) (now (index .entry)) r (now (places .exit)) (now (left .exit)) (now (index .exit)) ⌝ }
 {
     let period = image::period_at(image, at);
-    let Place::At(place) = rules::place_of(period) else {
-        return kept;
-    };
-    let repeats = index::repeats_of(book.plan.slots, place);
+    let repeats = index::repeats_of(book.plan.slots, period);
     let none = [0u16; plain::ROWS];
     meeting::row_meets(image, hearing, at, repeats, at, 0, &none, index);
     index::note(index, period);

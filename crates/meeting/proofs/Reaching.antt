@@ -8,10 +8,8 @@ use native.Mathlib.Numerals.{add-one}
 use native.Mathlib.Omega.{arith}
 use lib.ListN.{getD}
 use Rattle.rules.specs.Words.{Tests}
-use Rattle.rules.specs.Tiles.{periodAt}
 use Rattle.rules.specs.Topology.{Topology, Hop}
 use Rattle.rules.specs.Book.{hops, rowHop, rowOffset}
-use Rattle.rules.specs.Periods.{InList}
 use Rattle.rules.specs.Image.{planOf, FieldsInRange, hearingOf}
 use Rattle.rules.specs.declared.Node.{Node}
 use Rattle.bitset.specs.Rows.{topology}
@@ -34,12 +32,12 @@ use Rattle.rows.proofs.Walks.{nodes-few, node-small}
 use Rattle.meeting.specs.Meeting.{HopIndexed, HopAgrees, RowMeets, RowPlaced, HearingRead, HopMarked, RowMarked, RowIn}
 
 -- THE ROW
-pub row-placed : {s : List ℕ} {at S K p : ℕ} {repeats : Repeats} → FieldsInRange s → RowStands s at → InList p × (periodAt p ≡ K) → K ≡ rowAt s at .period
-    → S ≡ planOf s .slots → RepeatsOf S (periodAt p) repeats → RowPlaced s at repeats
-row-placed {s} {p = p} {repeats} fields stands place e f v = record {
+pub row-placed : {s : List ℕ} {at S K : ℕ} {repeats : Repeats} → FieldsInRange s → RowStands s at → K ≡ rowAt s at .period → S ≡ planOf s .slots → RepeatsOf S K repeats
+    → RowPlaced s at repeats
+row-placed {s} {K = K} {repeats} fields stands e f v = record {
   fields = fields;
   row = stands;
-  repeats-are = subst (λ (K : ℕ). RepeatsOf (planOf s .slots) K repeats) (place .1 ∙ e) (subst (λ (S : ℕ). RepeatsOf S (periodAt p) repeats) f v);
+  repeats-are = subst (λ (L : ℕ). RepeatsOf (planOf s .slots) L repeats) e (subst (λ (S : ℕ). RepeatsOf S K repeats) f v);
 }
 
 -- of the rows before, the first so many stand too

@@ -13,7 +13,6 @@ ghost use Rattle.meeting.specs.Meeting.{HopMarked, RowMarked, RowCompare
 use image::Book;
 use index::Repeats;
 use rules::Node;
-use rules::Place;
 use rules::Slot;
 
 // Node i of the row, whose nodes stand so many bytes behind its start: the layout is read once for all its hops.
@@ -114,10 +113,7 @@ fn compare(
     ensures { λ r. ⌜ RowCompared (now (image .entry)) start n at (now (index .entry)) (now (index .exit)) r × (length (now (moduli .exit)) ≡ 64) ⌝ }
 {
     let period = image::period_at(image, at);
-    let Place::At(place) = rules::place_of(period) else {
-        return true;
-    };
-    let repeats = index::repeats_of(slots, place);
+    let repeats = index::repeats_of(slots, period);
     let slow = index::has_slow(index);
     let rows = plain::weigh(image, start, n, slots, period, slow, moduli);
     if row_meets(image, hearing, at, repeats, start, rows, moduli, index) {

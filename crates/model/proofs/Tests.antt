@@ -16,7 +16,7 @@ use Rattle.rules.specs.Placing.{Free}
 use Rattle.rules.proofs.Tests.{never, alike, tests-and, tests-or, tests-not, tests-eq, tests-lt, tests-all, tests-some, someBelow, someOf, tests-member}
 use Rattle.rules.proofs.Bezout.{gcd-zero, gcd-step}
 use Rattle.rules.proofs.Meeting.{meet-iff}
-use Rattle.rules.proofs.Plans.{on-data-tests}
+use Rattle.rules.proofs.Plans.{tiles-again, on-data-tests}
 use Rattle.rules.proofs.Slots.{isData, takes, tests-data, tests-takes, tests-touches}
 use Rattle.model.specs.Test.{sameBy, same, sameRow, has, joined, clashes, turnsOf, onData, gcdOf, isRuled, meets, meetsClashing, isFree, isKnown, isKnownAccount}
 
@@ -89,7 +89,7 @@ turns-enough plan K =
     go true h true g = all
     go true h false g = record {
       most = lt-or-le (λ l. never (g .back l));
-      tell = λ o. on-data-tests plan (h .yes refl .0) K o (h .yes refl .1) (plan .tiles) (inr refl);
+      tell = λ o. on-data-tests plan (h .yes refl .0) K o (plan .tiles) (h .yes refl .1) (inr (tiles-again (plan .tiles) K));
     }
       where
         lt-or-le : (repeats K < plan .tiles → ⊥) → plan .tiles ≤ repeats K

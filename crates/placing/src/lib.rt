@@ -3,8 +3,8 @@ ghost use mathlib.Core.Path.{_≡_};
 ghost use Prim.Native.Nat.{_*_, _<_};
 ghost use lib.ListN.{length};
 ghost use Rattle.rules.specs.Words.{Tests};
-ghost use Rattle.rules.specs.Tiles.{PlanInRange, periodAt};
-ghost use Rattle.rules.specs.Periods.{thePlan, InList};
+ghost use Rattle.rules.specs.Tiles.{PlanInRange, Period, periodAt};
+ghost use Rattle.rules.specs.Periods.{thePlan};
 ghost use Rattle.bitset.specs.Rows.{topology};
 ghost use Rattle.clash.specs.Reach.{hop, Clashes, Between};
 ghost use Rattle.index.specs.Turns.{RepeatsOf};
@@ -18,6 +18,7 @@ use index::Repeats;
 use rules::Node;
 use rules::Plan;
 use rules::Slot;
+use rules::Tile;
 
 // Whether a route has a placing.
 pub enum Found {
@@ -41,7 +42,7 @@ enum Next {
 // that has taken these offsets.
 fn is_free(
     plan: Plan,
-    place: usize,
+    period: Tile,
     repeats: Repeats,
     index: &[u64; index::WORDS],
     image: &[u8],
@@ -53,14 +54,14 @@ fn is_free(
     reach: Reach,
     o: u16,
 ) -> bool
-    requires { ⌜ PlanInRange (thePlan plan) × InList place × RepeatsOf (plan .slots .0) (periodAt place) repeats × (o < periodAt place * plan .slots .0)
+    requires { ⌜ PlanInRange (thePlan plan) × Period (period .0) × RepeatsOf (plan .slots .0) (period .0) repeats × (o < period .0 * plan .slots .0)
         × Standing (around (now index) (now image) start rows (now moduli) (now first) (now taken)) ⌝ }
-    ensures { λ r. ⌜ Tests r (FreeBy (InReach reach) (thePlan plan) (around (now (index .entry)) (now (image .entry)) start rows (now (moduli .entry)) (now (first .entry)) (now (taken .entry))) (periodAt place) o) ⌝ }
+    ensures { λ r. ⌜ Tests r (FreeBy (InReach reach) (thePlan plan) (around (now (index .entry)) (now (image .entry)) start rows (now (moduli .entry)) (now (first .entry)) (now (taken .entry))) (period .0) o) ⌝ }
 {
     if index::finds(index, repeats, Slot(o), reach) {
         return false;
     }
-    if !rules::on_data(plan, place, Slot(o)) {
+    if !rules::on_data(plan, period, Slot(o)) {
         return false;
     }
     if plain::agrees(image, start, rows, moduli, reach, Slot(o)) {
@@ -72,7 +73,7 @@ fn is_free(
 // The least of those offsets from lo on.
 fn next_free(
     plan: Plan,
-    place: usize,
+    period: Tile,
     repeats: Repeats,
     index: &[u64; index::WORDS],
     image: &[u8],
@@ -84,15 +85,15 @@ fn next_free(
     reach: Reach,
     lo: u16,
 ) -> Next
-    requires { ⌜ PlanInRange (thePlan plan) × InList place × RepeatsOf (plan .slots .0) (periodAt place) repeats
+    requires { ⌜ PlanInRange (thePlan plan) × Period (period .0) × RepeatsOf (plan .slots .0) (period .0) repeats
         × Standing (around (now index) (now image) start rows (now moduli) (now first) (now taken)) ⌝ }
-    ensures { λ r. ⌜ Searched (FreeBy (InReach reach) (thePlan plan) (around (now (index .entry)) (now (image .entry)) start rows (now (moduli .entry)) (now (first .entry)) (now (taken .entry))) (periodAt place)) lo (periodAt place * plan .slots .0) r ⌝ }
+    ensures { λ r. ⌜ Searched (FreeBy (InReach reach) (thePlan plan) (around (now (index .entry)) (now (image .entry)) start rows (now (moduli .entry)) (now (first .entry)) (now (taken .entry))) (period .0)) lo (period .0 * plan .slots .0) r ⌝ }
 {
     let mut o = lo;
     while o < repeats.span.0 {
         if is_free(
             plan,
-            place,
+            period,
             repeats,
             index,
             image,
@@ -117,7 +118,7 @@ fn next_offset(
     hearing: &[u64],
     from: Node,
     to: Node,
-    place: usize,
+    period: Tile,
     repeats: Repeats,
     index: &[u64; index::WORDS],
     image: &[u8],
@@ -128,15 +129,15 @@ fn next_offset(
     taken: &[u16],
     lo: u16,
 ) -> Next
-    requires { ⌜ PlanInRange (thePlan plan) × InList place × RepeatsOf (plan .slots .0) (periodAt place) repeats × Between (topology (now hearing)) (hop from to)
+    requires { ⌜ PlanInRange (thePlan plan) × Period (period .0) × RepeatsOf (plan .slots .0) (period .0) repeats × Between (topology (now hearing)) (hop from to)
         × Standing (around (now index) (now image) start rows (now moduli) (now first) (now taken)) ⌝ }
-    ensures { λ r. ⌜ Searched (FreeBy (Clashes (topology (now (hearing .entry))) (hop from to)) (thePlan plan) (around (now (index .entry)) (now (image .entry)) start rows (now (moduli .entry)) (now (first .entry)) (now (taken .entry))) (periodAt place)) lo
-        (periodAt place * plan .slots .0) r ⌝ }
+    ensures { λ r. ⌜ Searched (FreeBy (Clashes (topology (now (hearing .entry))) (hop from to)) (thePlan plan) (around (now (index .entry)) (now (image .entry)) start rows (now (moduli .entry)) (now (first .entry)) (now (taken .entry))) (period .0)) lo
+        (period .0 * plan .slots .0) r ⌝ }
 {
     let reach = clash::reach_of(hearing, from, to);
     next_free(
         plan,
-        place,
+        period,
         repeats,
         index,
         image,
@@ -168,7 +169,8 @@ pub fn first_placing(
     ensures { λ r. ⌜ AnswersBy (thePlan plan) (topology (now (hearing .entry))) (around (now (index .entry)) (now (image .entry)) start rows (now (moduli .entry)) (now (first .entry)) (now (taken .entry))) (periodAt place) (now (route .entry)) (r .found) (r .offsets) ⌝ }
 {
     let hops = route.len() - 1;
-    let repeats = index::repeats_of(plan.slots, place);
+    let period = rules::period_at(place);
+    let repeats = index::repeats_of(plan.slots, period);
     let mut offsets = [0u16; 15];
     let mut lo: u16 = 0;
     let mut h = 0;
@@ -180,7 +182,7 @@ pub fn first_placing(
             hearing,
             from,
             to,
-            place,
+            period,
             repeats,
             index,
             image,

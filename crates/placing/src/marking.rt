@@ -18,7 +18,8 @@ pub fn mark(
     requires { ⌜ Markable (slots .0) place (now route) (now offsets) × (length (now index) ≡ indexLength) ⌝ }
     ensures { λ _. ⌜ Marked (slots .0) place (now (route .entry)) (now (offsets .entry)) (now (index .entry)) (now (index .exit)) ⌝ }
 {
-    let repeats = index::repeats_of(slots, place);
+    let period = rules::period_at(place);
+    let repeats = index::repeats_of(slots, period);
     let mut i: usize = 0;
     while i < offsets.len() {
         let nobody = Reach {
@@ -35,5 +36,5 @@ pub fn mark(
         );
         i += 1;
     }
-    index::note(index, rules::period_at(place));
+    index::note(index, period);
 }

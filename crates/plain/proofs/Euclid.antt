@@ -9,7 +9,7 @@ use Rattle.rules.specs.Tiles.{Period, Gcd, cycleTiles}
 use Rattle.rules.proofs.Bezout.{gcd-zero, gcd-step}
 use Rattle.rules.proofs.Bytes.{period-small}
 use Rattle.rules.proofs.Tests.{fails}
-use Rattle.index.proofs.Turns.{period-some}
+use Rattle.rules.proofs.Periods.{period-some}
 use Rattle.plain.specs.Plain.{LeftOut, Weighed}
 use Rattle.plain.specs.Plain.Weighed.{weighs, indexed}
 

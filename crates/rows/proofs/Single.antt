@@ -8,7 +8,7 @@ use native.Mathlib.Omega.{arith}
 use lib.Dec.{leb}
 use lib.ListN.{drop}
 use Rattle.rules.specs.Words.{Tests, TwoBytes}
-use Rattle.rules.specs.Tiles.{Plan, shortTiles, Period, ShortPeriod, periodAt}
+use Rattle.rules.specs.Tiles.{Plan, shortTiles, Period, ShortPeriod}
 use Rattle.rules.specs.Topology.{Topology}
 use Rattle.rules.specs.Book.{Account, Site, Row, KnownAccount, LawfulRow}
 use Rattle.rules.specs.Periods.{PlaceOf}
@@ -46,32 +46,36 @@ place-is-held v K n (At i) e f h = (h .0, h .1 ∙ e, short f)
 place-is-held v K n Nowhere e f h = λ p g. h (subst Period (sym e) p)
 
 -- THE REST
-module _ (s : List ℕ) (at : ℕ) {i : ℕ} (place : PlaceHeld (versionOf s) (rowAt s at .period) (At i)) where
+module _ (s : List ℕ) (at : ℕ) {i K : ℕ} (place : PlaceHeld (versionOf s) (rowAt s at .period) (At i)) (read : K ≡ rowAt s at .period) where
   abbrev r : Row
   r = rowAt s at
+
+  -- the number read is a period
+  pub read-period : Period K
+  read-period = subst Period (place .1 ∙ sym read) (at-period i (place .0))
 
   fits : RowFits (versionOf s) r
   unfolding rowAt
   fits = front-fits (versionOf s) (drop at s) (place .2)
 
-  lawful-offsets : {plan : Plan} {links : Topology} {accounts : List Account} → LawfulRow (judging plan links accounts) r → OffsetsHold plan (periodAt i) r
-  lawful-offsets {plan} w = subst (λ (K : ℕ). OffsetsHold plan K r) (sym (place .1)) (record { offsets = w .offsets; on-data = w .on-data })
+  lawful-offsets : {plan : Plan} {links : Topology} {accounts : List Account} → LawfulRow (judging plan links accounts) r → OffsetsHold plan K r
+  lawful-offsets {plan} w = subst (λ (x : ℕ). OffsetsHold plan x r) (sym read) (record { offsets = w .offsets; on-data = w .on-data })
 
   -- where all else holds the offsets decide
   pub tests-row-rest : {plan : Plan} {links : Topology} {accounts : List Account} {t : Bool} → KeyHolds r → KnownAccount accounts (r .account) → RouteHolds links r
-      → Tests t (OffsetsHold plan (periodAt i) r) → Tests t (RowHolds (versionOf s) (judging plan links accounts) r)
+      → Tests t (OffsetsHold plan K r) → Tests t (RowHolds (versionOf s) (judging plan links accounts) r)
   tests-row-rest {plan} {links} {accounts} named known route t = alike t holds (λ w. lawful-offsets (w .lawful))
     where
-      holds : OffsetsHold plan (periodAt i) r → RowHolds (versionOf s) (judging plan links accounts) r
+      holds : OffsetsHold plan K r → RowHolds (versionOf s) (judging plan links accounts) r
       holds h =
-          let g = subst (λ (K : ℕ). OffsetsHold plan K r) (place .1) h in
+          let g = subst (λ (x : ℕ). OffsetsHold plan x r) read h in
           record {
             lawful = record {
               id-some = named .id-some;
               id-most = named .id-most;
               way-some = named .way-some;
               way-most = named .way-most;
-              period = subst Period (place .1) (at-period i (place .0));
+              period = subst Period read read-period;
               route = route .route;
               route-most = route .most;
               offsets = g .offsets;

@@ -3,9 +3,9 @@ ghost use mathlib.Core.Path.{_≡_};
 ghost use Prim.Native.Nat.{_≤_};
 ghost use lib.ListN.{length};
 ghost use Rattle.rules.specs.Words.{Tests};
-ghost use Rattle.rules.specs.Tiles.{periodAt, PlanInRange};
+ghost use Rattle.rules.specs.Tiles.{Period, PlanInRange};
 ghost use Rattle.rules.specs.Book.{key, Paid};
-ghost use Rattle.rules.specs.Periods.{thePlan, InList};
+ghost use Rattle.rules.specs.Periods.{thePlan};
 ghost use Rattle.rules.specs.Image.{versionOf, streamsOf, FieldsInRange, accountsOf, siteOf, rowsPlace, RowsOf};
 ghost use Rattle.rules.proofs.Reading.{rowsIn};
 ghost use Rattle.image.specs.Places.{rowAt, rowsFrom, Whole};
@@ -21,6 +21,7 @@ use pair::FIRST;
 use pair::SECOND;
 use rules::Place;
 use rules::Plan;
+use rules::Tile;
 
 pub mod pair;
 
@@ -67,9 +68,9 @@ fn route_holds(image: &[u8], at: usize, links: &[u64]) -> bool
 }
 
 // Whether the row's offsets rise, stay below the period and take only data slots.
-fn offsets_hold(image: &[u8], at: usize, plan: Plan, period: usize) -> bool
-    requires { ⌜ Whole (now image) at × PlanInRange (thePlan plan) × InList period ⌝ }
-    ensures { λ r. ⌜ Tests r (OffsetsHold (thePlan plan) (periodAt period) (rowAt (now (image .entry)) at)) ⌝ }
+fn offsets_hold(image: &[u8], at: usize, plan: Plan, period: Tile) -> bool
+    requires { ⌜ Whole (now image) at × PlanInRange (thePlan plan) × Period (period .0) ⌝ }
+    ensures { λ r. ⌜ Tests r (OffsetsHold (thePlan plan) (period .0) (rowAt (now (image .entry)) at)) ⌝ }
 {
     let h = image::hops_at(image, at);
     let span = rules::span(plan.slots, period);
@@ -112,7 +113,8 @@ fn stream_holds(image: &[u8], at: usize, plan: Plan, links: &[u64]) -> bool
     ensures { λ r. ⌜ StreamHolds (now (image .entry)) at (thePlan plan) (topology (now (links .entry))) r ⌝ }
 {
     match place_held(image, at) {
-        Place::At(period) => {
+        Place::At(_) => {
+            let period = image::period_at(image, at);
             route_holds(image, at, links) && offsets_hold(image, at, plan, period)
         }
         Place::Nowhere => false,

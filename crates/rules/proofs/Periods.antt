@@ -55,6 +55,13 @@ at-period i h = at-in periods i h
 pub period-most : (i : ℕ) → InList i → periodAt i ≤ cycleTiles
 period-most i h = period-small (periodAt i) (at-period i h)
 
+-- a period has a tile, and comes in a cycle
+pub period-some : (K : ℕ) → Period K → 0 < K
+period-some K h = leb→le 1 K (member (λ (x : ℕ). leb 1 x) periods tt K h)
+
+pub repeats-some : (K : ℕ) → Period K → 1 ≤ repeats K
+repeats-some K h = leb→le 1 (repeats K) (member (λ (x : ℕ). leb 1 (repeats x)) periods tt K h)
+
 -- the slots of a period fit two bytes
 pub span-fits : (S K : ℕ) → S ≤ 32 → K ≤ cycleTiles → K * S ≤ cycleTiles * 32
 span-fits S K h k = mul-le-mul k h

@@ -4,7 +4,7 @@ use mathlib.Core.Logic.{_⊎_, inl, inr}
 use mathlib.Core.Bool.{Bool, true, false, cond}
 use Prim.Native.Nat.{ℕ, _+_, _*_, _/_, _%_, _<_, _≤_}
 use native.Mathlib.Omega.{arith}
-use native.Mathlib.Nat.{mod-lt, mul-assoc, add-mul-mod-self-right, add-mul-div-right, div-add-mod'}
+use native.Mathlib.Nat.{mod-lt, mul-assoc, add-mul-mod-self-right, add-mul-div-right, div-add-mod', zero-mod}
 use borrow.Author.Tests.{eq-eqb, ne-eqb}
 use lib.Dec.{eqb, leb}
 use Rattle.rules.specs.Words.{_∈_, bit, Tests}
@@ -39,7 +39,11 @@ pub tests-data-slot : (plan : Plan) (slot n : ℕ) → n ≡ controlSlots plan (
 tests-data-slot plan slot n e =
     alike (tests-le n (slot % plan .slots)) (λ l. subst (λ (x : ℕ). x ≤ slot % plan .slots) e l) (λ l. subst (λ (x : ℕ). x ≤ slot % plan .slots) (sym e) l)
 
--- ALL REPEATS: after C turns the kinds of the tiles come again
+-- they come again after C turns
+pub tiles-again : (C K : ℕ) → (C * K) % C ≡ 0
+tiles-again C K = ap (λ (x : ℕ). x % C) (omega arith) ∙ add-mul-mod-self-right 0 K C ∙ zero-mod C
+
+-- ALL REPEATS
 module _ (plan : Plan) (some : 0 < plan .slots) (K o : ℕ) where
   turn-tile : (turn : ℕ) → (o + turn * (K * plan .slots)) / plan .slots ≡ o / plan .slots + turn * K
   turn-tile turn = ap (λ (x : ℕ). (o + x) / plan .slots) (sym (mul-assoc turn K (plan .slots))) ∙ add-mul-div-right o (turn * K) some
@@ -47,27 +51,31 @@ module _ (plan : Plan) (some : 0 < plan .slots) (K o : ℕ) where
   turn-place : (turn : ℕ) → (o + turn * (K * plan .slots)) % plan .slots ≡ o % plan .slots
   turn-place turn = ap (λ (x : ℕ). (o + x) % plan .slots) (sym (mul-assoc turn K (plan .slots))) ∙ add-mul-mod-self-right o (turn * K) (plan .slots)
 
-  same-tile : (turn : ℕ) → (o / plan .slots + turn * K) % plan .tiles ≡ (o / plan .slots + turn % plan .tiles * K) % plan .tiles
-  same-tile turn =
-      let C : ℕ = plan .tiles in
-      let e : o / plan .slots + turn * K ≡ o / plan .slots + turn % C * K + turn / C * K * C =
-      omega (arith, ap (λ (x : ℕ). x * K) (div-add-mod' turn C)) in
-      ap (λ (x : ℕ). x % C) e ∙ add-mul-mod-self-right (o / plan .slots + turn % C * K) (turn / C * K) C
+  -- after so many turns the kinds of the tiles come again
+  module _ (n : ℕ) (round : (n * K) % plan .tiles ≡ 0) where
+    same-tile : (turn : ℕ) → (o / plan .slots + turn * K) % plan .tiles ≡ (o / plan .slots + turn % n * K) % plan .tiles
+    same-tile turn =
+        let C : ℕ = plan .tiles in
+        let all : n * K ≡ n * K / C * C = omega (arith, round, div-add-mod' (n * K) C) in
+        let whole : turn / n * (n * K) ≡ turn / n * (n * K / C) * C = ap (λ (x : ℕ). turn / n * x) all ∙ sym (mul-assoc (turn / n) (n * K / C) C) in
+        let e : o / plan .slots + turn * K ≡ o / plan .slots + turn % n * K + turn / n * (n * K / C) * C =
+        omega (arith, whole, mul-assoc (turn / n) n K, ap (λ (x : ℕ). x * K) (div-add-mod' turn n)) in
+        ap (λ (x : ℕ). x % C) e ∙ add-mul-mod-self-right (o / plan .slots + turn % n * K) (turn / n * (n * K / C)) C
 
-  again : (turn : ℕ) → Data plan (o + turn % plan .tiles * (K * plan .slots)) → Data plan (o + turn * (K * plan .slots))
-  again turn d =
-      let kind : ℕ → ℕ = λ (x : ℕ). cond (eqb (bit (plan .kinds) x) 1) (plan .down) (plan .up) in
-      let e : controlSlots plan ((o + turn * (K * plan .slots)) / plan .slots) ≡ controlSlots plan ((o + turn % plan .tiles * (K * plan .slots)) / plan .slots) =
-      ap kind (ap (λ (x : ℕ). x % plan .tiles) (turn-tile turn) ∙ same-tile turn ∙ sym (ap (λ (x : ℕ). x % plan .tiles) (turn-tile (turn % plan .tiles)))) in
-      let f = turn-place turn in
-      let g = turn-place (turn % plan .tiles) in
-      omega (arith, e, f, g, d)
+    again : (turn : ℕ) → Data plan (o + turn % n * (K * plan .slots)) → Data plan (o + turn * (K * plan .slots))
+    again turn d =
+        let kind : ℕ → ℕ = λ (x : ℕ). cond (eqb (bit (plan .kinds) x) 1) (plan .down) (plan .up) in
+        let e : controlSlots plan ((o + turn * (K * plan .slots)) / plan .slots) ≡ controlSlots plan ((o + turn % n * (K * plan .slots)) / plan .slots) =
+        ap kind (ap (λ (x : ℕ). x % plan .tiles) (turn-tile turn) ∙ same-tile turn ∙ sym (ap (λ (x : ℕ). x % plan .tiles) (turn-tile (turn % n)))) in
+        let f = turn-place turn in
+        let g = turn-place (turn % n) in
+        omega (arith, e, f, g, d)
 
-  -- the first turns, as many as the plan has tiles and no more than there are
-  pub on-data-tests : 0 < plan .tiles → (turns : ℕ) → ((turns ≡ repeats K) ⊎ (turns ≡ plan .tiles))
+  -- the first turns, as many as there are or until the kinds of the tiles come again
+  pub on-data-tests : (turns : ℕ) → 0 < turns → ((turns ≡ repeats K) ⊎ ((turns * K) % plan .tiles ≡ 0))
       → ((turn : ℕ) → turn < turns → Data plan (o + turn * (K * plan .slots))) → OnData plan K o
-  on-data-tests tiles turns (inl e) h slot t = subst (Data plan) (sym (t .at)) (h (t .turn) (omega (arith, t .within)))
-  on-data-tests tiles turns (inr e) h slot t = subst (Data plan) (sym (t .at)) (again (t .turn) (h (t .turn % plan .tiles) (omega (arith, mod-lt (t .turn) tiles))))
+  on-data-tests turns some-turn (inl e) h slot t = subst (Data plan) (sym (t .at)) (h (t .turn) (omega (arith, t .within)))
+  on-data-tests turns some-turn (inr e) h slot t = subst (Data plan) (sym (t .at)) (again turns e (t .turn) (h (t .turn % turns) (mod-lt (t .turn) some-turn)))
 
   pub not-on-data : (turn : ℕ) → turn < repeats K → (Data plan (o + turn * (K * plan .slots)) → ⊥) → OnData plan K o → ⊥
   not-on-data turn l f h = f (h _ record { turn = turn; within = l; at = refl })

@@ -5,7 +5,6 @@ use native.Mathlib.Omega.{arith}
 use borrow.Author.Needs.{needs}
 use Rattle.rules.specs.Tiles.{Period}
 use Rattle.rules.specs.Image.{planOf}
-use Rattle.rules.proofs.Periods.{found-at, found-nowhere}
 use Rattle.index.specs.Turns.{RepeatsOf}
 use Rattle.index.specs.Marks.{Removes, HopsTake}
 use Rattle.index.proofs.Removing.{unhops-none, unhops-done}
@@ -15,31 +14,25 @@ use Rattle.closing.proofs.unmark_row.Statement.{statement}
 use Rattle.closing.proofs.unmark_row.Tie as tie
 
 abbrev Inv-loop : tie.InvT-loop
-Inv-loop image at index₀ period repeats h i₀ index i = (i ≤ h) × Removes (HopsTake (planOf image .slots) (rowAt image at) i) index₀ index
+Inv-loop image at index₀ repeats h i₀ index i = (i ≤ h) × Removes (HopsTake (planOf image .slots) (rowAt image at) i) index₀ index
 
 abbrev μ-loop : tie.MeasureT-loop
-μ-loop image at index₀ period repeats h i₀ index i = h - i
-
-returns : tie.Need-returns Inv-loop μ-loop
-returns c =
-    absurd (found-nowhere (c .before .before .place-of .ensures) (c .enum-told .given .1)
-    (subst Period (sym (c .before .before .before .period-at .ensures .0)) (c .before .before .before .before .before .pre .1 .lawful .period)))
+μ-loop image at index₀ repeats h i₀ index i = h - i
 
 repeats-of-requires : tie.Need-repeats-of-requires Inv-loop μ-loop
 repeats-of-requires c κs =
-    let p = c .before .before .before .before .before .before .pre in
-    (omega (arith, p .2, p .0 .lawful .site .plan .most), omega (arith, found-at (c .before .before .before .place-of .ensures) (c .before .period .given .1) .0))
+    let p = c .before .before .pre in
+    (omega (arith, p .2, p .0 .lawful .site .plan .most), subst Period (sym (c .period-at .ensures .0)) (p .1 .lawful .period))
 
 abbrev start : tie.After-hops-at Inv-loop μ-loop → tie.Start Inv-loop μ-loop
-start c = c .before .before .before .before .before .before .before .before
+start c = c .before .before .before .before
 
 -- how the row's period repeats
 repeating : (c : tie.After-hops-at Inv-loop μ-loop)
     → RepeatsOf (planOf (start c .args .image .now) .slots) (rowAt (start c .args .image .now) (start c .args .at) .period) (c .before .repeats-of .result)
 repeating c =
     let p = start c .pre in
-    row-repeats (p .0) (p .1) (p .2) (found-at (c .before .before .before .before .before .place-of .ensures) (c .before .before .before .period .given .1))
-    (c .before .before .before .before .before .before .period-at .ensures .0) (c .before .repeats-of .ensures)
+    row-repeats (p .0) (p .1) (p .2) (c .before .before .period-at .ensures .0) (c .before .repeats-of .ensures)
 
 loop-holds : tie.Need-loop-holds Inv-loop μ-loop
 loop-holds c = (omega arith, unhops-none _ _ _)
@@ -65,8 +58,8 @@ loop-again c =
           (c .before .before .offset-at .ensures .0) (l .loop .inv .1) (c .unmark .ensures),
     )
 
-returns-2 : tie.Need-returns-2 Inv-loop μ-loop
-returns-2 c = let l = c .before .loop .inv in unhops-done _ _ (omega (arith, l .0)) (l .1)
+returns : tie.Need-returns Inv-loop μ-loop
+returns c = let l = c .before .loop .inv in unhops-done _ _ (omega (arith, l .0)) (l .1)
 
 pub unmark-row-spec : {M : Type 1} → statement M
 unmark-row-spec =
@@ -75,19 +68,15 @@ unmark-row-spec =
     Inv-loop
     μ-loop
     (λ c κs. c .before .pre .1 .whole)
-    (λ c κs. search needs)
-    (λ c. search needs)
-    (λ c. search needs)
-    returns
     repeats-of-requires
-    (λ c κs. c .before .before .before .before .before .before .before .pre .1 .whole)
+    (λ c κs. c .before .before .before .pre .1 .whole)
     loop-holds
-    (λ c κs. (c .before .before .before .before .before .before .before .before .before .before .pre .1 .whole, omega arith))
+    (λ c κs. (c .before .before .before .before .before .before .pre .1 .whole, omega arith))
     (λ c. omega arith)
-    (λ c κs. (c .before .before .before .before .before .before .before .before .before .before .before .pre .1 .whole, omega arith))
-    (λ c κs. (c .before .before .before .before .before .before .before .before .before .before .before .before .pre .1 .whole, omega arith))
+    (λ c κs. (c .before .before .before .before .before .before .before .pre .1 .whole, omega arith))
+    (λ c κs. (c .before .before .before .before .before .before .before .before .pre .1 .whole, omega arith))
     unmark-requires
     (λ c. omega arith)
     (λ c. omega arith)
     loop-again
-    returns-2)
+    returns)

@@ -3,7 +3,6 @@ use mathlib.Core.Path.{refl, sym, ap, subst}
 use native.Mathlib.Omega.{arith}
 use borrow.Author.Needs.{needs}
 use Rattle.rules.specs.Tiles.{Plan, Period}
-use Rattle.rules.proofs.Periods.{found-at, found-nowhere}
 use Rattle.rows.specs.Walk.{RowStands}
 use Rattle.meeting.proofs.Reaching.{row-placed}
 use Rattle.judging.proofs.Reasons.{row-stands, can-draw, place-left, marked-all, kept-more, kept-small}
@@ -14,25 +13,19 @@ use Rattle.judging.proofs.keep.Tie as tie
 row : (c : tie.Start) → RowStands (c .args .image .now) (c .args .at)
 row c = row-stands (c .pre .2) (c .pre .1)
 
-returns : tie.Need-returns
-returns c =
-    absurd (found-nowhere (c .before .before .place-of .ensures) (c .enum-told .given .1)
-    (subst Period (sym (c .before .before .before .period-at .ensures .0)) (row (c .before .before .before .before .before .before) .lawful .period)))
-
 repeats-of-requires : tie.Need-repeats-of-requires
 repeats-of-requires c κs =
-    let p = c .before .before .before .before .before .before .before .pre .0 in
+    let start = c .before .before .before in
+    let p = start .pre .0 in
     let e = ap (λ (plan : Plan). plan .slots) (p .list .header .plan) in
-    (omega (arith, e, p .fields .plan .most), omega (arith, found-at (c .before .before .before .place-of .ensures) (c .before .place .given .1) .0))
+    (omega (arith, e, p .fields .plan .most), subst Period (sym (c .period-at .ensures .0)) (row start .lawful .period))
 
 row-meets-requires : tie.Need-row-meets-requires
 row-meets-requires c κs =
-    let at-place = c .before .before .before .before in
-    let at-place-of = at-place .before .before in
-    let start = at-place-of .before .before .before .before in
+    let at-period = c .before .before .before in
+    let start = at-period .before .before .before in
     let p = start .pre .0 in (
-      row-placed (p .fields) (row start) (found-at (at-place-of .place-of .ensures) (at-place .place .given .1)) (at-place-of .before .period-at .ensures .0)
-          (ap (λ (plan : Plan). plan .slots) (p .list .header .plan)) (c .before .before .repeats-of .ensures),
+      row-placed (p .fields) (row start) (at-period .period-at .ensures .0) (ap (λ (plan : Plan). plan .slots) (p .list .header .plan)) (c .before .before .repeats-of .ensures),
       p .heard,
       start .pre .1 .1 .index .size,
       record { each = λ i l. absurd (omega arith); few = omega arith },
@@ -40,30 +33,30 @@ row-meets-requires c κs =
 
 note-requires : tie.Need-note-requires
 note-requires c κs =
-    let start = c .before .before .before .before .before .before .before .before .before .before .before .before in
+    let start = c .before .before .before .before .before .before .before .before in
     omega (arith, start .pre .1 .1 .index .size, marked-all (start .pre .2) (start .pre .0 .fields) (start .pre .1) (c .before .row-meets .ensures) .size)
 
 draw-requires : tie.Need-draw-requires
 draw-requires c κs =
-    let start = c .before .before .before .before .before .before .before .before .before .before .before .before .before .before in
+    let start = c .before .before .before .before .before .before .before .before .before .before in
     let p = start .pre in
     (p .0 .list, record { whole = row start .whole; lawful = row start .lawful }, can-draw (p .2) (p .1), p .1 .1 .all-purses)
 
 element-write-places : tie.Need-element-write-places
 element-write-places c =
-    let p = c .before .before .before .before .before .before .before .before .before .before .before .before .before .before .before .pre in
+    let p = c .before .before .before .before .before .before .before .before .before .before .before .pre in
     omega (arith, place-left (p .2) (p .1), p .1 .1 .placed-there .room)
 
-add-hops : tie.Need-add-t25
+add-hops : tie.Need-add-t23
 add-hops c =
-    let p = c .before .before .before .before .before .before .before .before .before .before .before .before .before .before .before .before .before .pre in
+    let p = c .before .before .before .before .before .before .before .before .before .before .before .before .before .pre in
     omega (arith, kept-small (p .1), c .before .hops-at .ensures .1)
 
-returns-2 : tie.Need-returns-2
-returns-2 c =
+returns : tie.Need-returns
+returns c =
     let at-draw = c .before .before .before in
     let at-note = at-draw .before .before in
-    let at-period = at-note .before .before .before .before .before .before .before .before .before .before in
+    let at-period = at-note .before .before .before .before .before .before in
     let start = at-period .before .before .before in
     kept-more (start .pre .2) (start .pre .0 .fields) refl (omega (arith, c .before .before .hops-at .ensures .0)) refl (c .key-at .ensures) refl
     (marked-all (start .pre .2) (start .pre .0 .fields) (start .pre .1) (at-note .before .before .row-meets .ensures)) (at-period .period-at .ensures .0) (at-note .note .ensures)
@@ -74,18 +67,14 @@ keep-spec =
     tie.close
     (tie.spec
     (λ c κs. row (c .before .before) .whole)
-    (λ c κs. search needs)
-    (λ c. search needs)
-    (λ c. search needs)
-    returns
     repeats-of-requires
     row-meets-requires
     note-requires
     draw-requires
-    (λ c. omega (arith, kept-small (c .before .before .before .before .before .before .before .before .before .before .before .before .before .before .before .pre .1)))
+    (λ c. omega (arith, kept-small (c .before .before .before .before .before .before .before .before .before .before .before .pre .1)))
     element-write-places
-    (λ c. omega (arith, kept-small (c .before .before .before .before .before .before .before .before .before .before .before .before .before .before .before .pre .1)))
-    (λ c κs. row (c .before .before .before .before .before .before .before .before .before .before .before .before .before .before .before) .whole)
+    (λ c. omega (arith, kept-small (c .before .before .before .before .before .before .before .before .before .before .before .pre .1)))
+    (λ c κs. row (c .before .before .before .before .before .before .before .before .before .before .before) .whole)
     add-hops
-    (λ c κs. row (c .before .before .before .before .before .before .before .before .before .before .before .before .before .before .before .before .before) .whole)
-    returns-2)
+    (λ c κs. row (c .before .before .before .before .before .before .before .before .before .before .before .before .before) .whole)
+    returns)

@@ -3,42 +3,34 @@ use mathlib.Core.Path.{refl, sym, subst}
 use native.Mathlib.Omega.{arith}
 use borrow.Author.Needs.{needs}
 use Rattle.rules.specs.Tiles.{Period}
-use Rattle.rules.proofs.Periods.{found-at, found-nowhere}
 use Rattle.meeting.proofs.Reaching.{row-placed}
 use Rattle.judging.proofs.Holding.{placed-first, row-compared}
 use Rattle.judging.proofs.meets_kept.Statement.{statement}
 use Rattle.judging.proofs.meets_kept.Tie as tie
 
-returns : tie.Need-returns
-returns c =
-    absurd (found-nowhere (c .before .before .place-of .ensures) (c .enum-told .given .1)
-    (subst Period (sym (c .before .before .before .period-at .ensures .0)) (c .before .before .before .before .before .before .pre .0 .row .lawful .period)))
-
 repeats-of-requires : tie.Need-repeats-of-requires
 repeats-of-requires c κs =
-    let p = c .before .before .before .before .before .before .before .pre in
-    (omega (arith, p .2, p .0 .fields .plan .most), omega (arith, found-at (c .before .before .before .place-of .ensures) (c .before .place .given .1) .0))
+    let p = c .before .before .before .pre in
+    (omega (arith, p .2, p .0 .fields .plan .most), subst Period (sym (c .period-at .ensures .0)) (p .0 .row .lawful .period))
 
 weigh-requires : tie.Need-weigh-requires
 weigh-requires c κs =
-    let at-period = c .before .before .before .before .before .before .before in
+    let at-period = c .before .before .before in
     let p = at-period .before .before .before .pre in
     (p .0 .there, p .0 .fields .plan, p .2, subst Period (sym (at-period .period-at .ensures .0)) (p .0 .row .lawful .period), refl, λ e. p .0 .none-slow (c .before .has-slow .ensures e))
 
 row-finds-requires : tie.Need-row-finds-requires
 row-finds-requires c κs =
-    let at-place = c .before .before .before .before .before .before in
-    let at-place-of = at-place .before .before in
-    let p = at-place-of .before .before .before .before .pre in (
-      row-placed (p .0 .fields) (p .0 .row) (found-at (at-place-of .place-of .ensures) (at-place .place .given .1)) (at-place-of .before .period-at .ensures .0)
-          (p .2) (c .before .before .before .before .repeats-of .ensures),
+    let at-period = c .before .before .before .before .before in
+    let p = at-period .before .before .before .pre in (
+      row-placed (p .0 .fields) (p .0 .row) (at-period .period-at .ensures .0) (p .2) (c .before .before .before .before .repeats-of .ensures),
       p .1,
       placed-first (p .0 .there) (c .before .weigh .ensures .most),
     )
 
-returns-2 : tie.Need-returns-2
-returns-2 c =
-    let at-period = c .before .before .before .before .before .before .before .before .before .before in
+returns : tie.Need-returns
+returns c =
+    let at-period = c .before .before .before .before .before .before in
     let p = at-period .before .before .before .pre in
     row-compared (p .0 .fields) (p .0 .row) (p .0 .there) (at-period .period-at .ensures .0) (c .before .before .weigh .ensures) (c .row-finds .ensures)
 
@@ -47,12 +39,8 @@ meets-kept-spec =
     tie.close
     (tie.spec
     (λ c κs. c .before .before .pre .0 .row .whole)
-    (λ c κs. search needs)
-    (λ c. search needs)
-    (λ c. search needs)
-    returns
     repeats-of-requires
     (λ c κs. search needs)
     weigh-requires
     row-finds-requires
-    returns-2)
+    returns)

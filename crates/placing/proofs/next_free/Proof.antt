@@ -4,7 +4,6 @@ use native.Mathlib.Nat.{le-refl}
 use native.Mathlib.Omega.{arith}
 use borrow.Author.Count.{below-more}
 use borrow.Author.Needs.{needs}
-use Rattle.rules.specs.Tiles.{periodAt}
 use Rattle.rules.specs.Periods.{thePlan}
 use Rattle.rules.proofs.Tests.{fails}
 use Rattle.index.specs.Marks.{InReach}
@@ -13,11 +12,11 @@ use Rattle.placing.proofs.next_free.Statement.{statement}
 use Rattle.placing.proofs.next_free.Tie as tie
 
 abbrev Inv-loop : tie.InvT-loop
-Inv-loop plan place repeats index image start rows moduli first taken reach lo o₀ o =
-    (lo ≤ o) × ((k : ℕ) → k < o → lo ≤ k → FreeBy (InReach reach) (thePlan plan) (around index image start rows moduli first taken) (periodAt place) k → ⊥)
+Inv-loop plan period repeats index image start rows moduli first taken reach lo o₀ o =
+    (lo ≤ o) × ((k : ℕ) → k < o → lo ≤ k → FreeBy (InReach reach) (thePlan plan) (around index image start rows moduli first taken) (period .0) k → ⊥)
 
 abbrev μ-loop : tie.MeasureT-loop
-μ-loop plan place repeats index image start rows moduli first taken reach lo o₀ o = repeats .span .0 - o
+μ-loop plan period repeats index image start rows moduli first taken reach lo o₀ o = repeats .span .0 - o
 
 loop-holds : tie.Need-loop-holds Inv-loop μ-loop
 loop-holds c = (le-refl _, λ k h l. absurd (omega arith))

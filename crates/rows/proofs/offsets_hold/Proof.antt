@@ -6,7 +6,6 @@ use borrow.Author.Needs.{needs}
 use borrow.Author.Tests.{not-true, not-false}
 use Rattle.rules.specs.Book.{OnData}
 use Rattle.rules.specs.Periods.{thePlan}
-use Rattle.rules.specs.Tiles.{periodAt}
 use Rattle.rules.proofs.Tests.{fails, said-yes, said-no}
 use Rattle.image.specs.Places.{rowAt}
 use Rattle.image.proofs.Places.{whole-sized}
@@ -15,7 +14,7 @@ use Rattle.rows.proofs.offsets_hold.Statement.{statement}
 use Rattle.rows.proofs.offsets_hold.Tie as tie
 
 abbrev Inv-loop : tie.InvT-loop
-Inv-loop image at plan period h span least₀ i₀ least i = (i ≤ h) × AtOffset (thePlan plan) (periodAt period) (rowAt image at) i least
+Inv-loop image at plan period h span least₀ i₀ least i = (i ≤ h) × AtOffset (thePlan plan) (period .0) (rowAt image at) i least
 
 abbrev μ-loop : tie.MeasureT-loop
 μ-loop image at plan period h span least₀ i₀ least i = h - i
@@ -48,15 +47,17 @@ returns-2 c =
 on-data-requires : tie.Need-on-data-requires Inv-loop μ-loop
 on-data-requires c κs =
     let start = c .before .before .before .before .before .before .before .before .before .before .before in
-    (start .pre .1, omega arith, omega (arith, c .before .before .before .before .before .before .before .before .span .ensures))
+    (start .pre .1, start .pre .2, omega (arith, c .before .before .before .before .before .before .before .before .span .ensures))
 
 returns-3 : tie.Need-returns-3 Inv-loop μ-loop
 returns-3 c =
     let start = c .before .before .before .before .before .before .before .before .before .before .before .before .before in
     let here = c .before .before .before .before .before .before .before .before .before in
+    let within = c .before .before .before .before .before .before .before .before .loop-test .taken in
+    let hops-are = here .before .before .hops-at .ensures in
     said-no (λ h. fails (c .before .on-data .ensures) (not-true _ (c .if3 .taken))
-    (subst (OnData (thePlan (start .args .plan)) (periodAt (start .args .period))) (sym (c .before .before .before .before .before .before .before .offset-at .ensures .0))
-    (offsets-fit _ _ _ (whole-sized _ _ (start .pre .0) .offsets) h (here .loop .i) (omega arith) .on-data)))
+    (subst (OnData (thePlan (start .args .plan)) (start .args .period .0)) (sym (c .before .before .before .before .before .before .before .offset-at .ensures .0))
+    (offsets-fit _ _ _ (whole-sized _ _ (start .pre .0) .offsets) h (here .loop .i) (omega (arith, within, hops-are)) .on-data)))
 
 loop-again : tie.Need-loop-again Inv-loop μ-loop
 loop-again c =
