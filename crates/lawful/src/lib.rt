@@ -1,4 +1,7 @@
 // Whether an image is that of a lawful book, and if not, which refusal applies first.
+ghost use mathlib.Core.Path.{_≡_};
+ghost use lib.ListN.{replicate};
+ghost use Rattle.index.specs.Index.{indexLength};
 ghost use Rattle.image.proofs.Marks.{Marked};
 ghost use Rattle.accounts.specs.Lists.{ListRead};
 ghost use Rattle.rows.specs.Frame.{Framed};
@@ -7,7 +10,7 @@ use image::Book;
 
 // The number of an image whose header is in order: 11, 15, 16 or 0.
 fn body_verdict(image: &[u8], book: Book, index: &mut [u64; index::WORDS]) -> u8
-    requires { ⌜ Marked (now image) × Framed (now image) × ListRead (now image) book ⌝ }
+    requires { ⌜ Marked (now image) × Framed (now image) × ListRead (now image) book × (now index ≡ replicate indexLength 0) ⌝ }
     ensures { λ r. ⌜ Verdict (now (image .entry)) r (now (index .exit)) ⌝ }
 {
     let n = book.nodes;
@@ -27,8 +30,9 @@ fn body_verdict(image: &[u8], book: Book, index: &mut [u64; index::WORDS]) -> u8
     0
 }
 
-// The number that a check of an image gives; where it is 0, the index is that of its rows.
+// The number that a check of an image gives; where it is 0, the index, which had no marks, is that of its rows.
 pub fn verdict(image: &[u8], index: &mut [u64; index::WORDS]) -> u8
+    requires { ⌜ now index ≡ replicate indexLength 0 ⌝ }
     ensures { λ r. ⌜ Verdict (now (image .entry)) r (now (index .exit)) ⌝ }
 {
     if image.len() < image::HEADER {

@@ -2,7 +2,7 @@
 // test with those that the index leaves out.
 ghost use Prim.Native.Nat.{_+_, _<_, _≤_};
 ghost use mathlib.Core.Path.{_≡_};
-ghost use lib.ListN.{length, getD};
+ghost use lib.ListN.{length, getD, replicate};
 ghost use Rattle.rules.specs.Words.{TwoBytes};
 ghost use Rattle.rules.specs.Book.{hops, rowOffset};
 ghost use Rattle.rules.specs.Image.{planOf, versionOf, hopsPlace};
@@ -123,14 +123,13 @@ fn compare(
     false
 }
 
-// Whether clashing hops of different rows meet; where none do, the index is that of the rows.
+// Whether clashing hops of different rows meet, marked in an index without marks; where none do, the index is that of the rows.
 pub fn hops_meet(image: &[u8], book: Book, hearing: &[u64], index: &mut [u64; index::WORDS]) -> bool
-    requires { ⌜ HopsRead (now image) book (now hearing) ⌝ }
+    requires { ⌜ HopsRead (now image) book (now hearing) × (now index ≡ replicate indexLength 0) ⌝ }
     ensures { λ r. ⌜ RowsIndexed (now (image .entry)) (now (index .exit)) r ⌝ }
 {
     let slots = book.plan.slots;
     let streams = book.streams;
-    *index = [0u64; index::WORDS];
     let mut moduli = [0u16; plain::ROWS];
     let start = book.rows_start();
     let mut at = start;

@@ -4,7 +4,7 @@ use mathlib.Core.Bool.{Bool, true, false, _||_}
 use mathlib.Core.List.{List, [], _∷_, _++_}
 use Prim.Native.Nat.{ℕ, _≤_}
 use lib.Dec.{eqb}
-use lib.ListN.{length, take, drop}
+use lib.ListN.{length, take, drop, replicate}
 use Rattle.rules.specs.Words.{_∈_, Tests}
 use Rattle.rules.specs.Book.{Book}
 use Rattle.rules.specs.Calls as calls
@@ -49,6 +49,10 @@ pub record PostedAll (mains : ℕ) (rs : List Request) (buffer : List ℕ) (len 
 pub record Words (image : List ℕ) (r : ℕ) : Type 0 where
   pub is : r ≡ indexLength (planOf image)
   pub most : r ≤ inner.indexLength
+
+-- nothing is marked in the words of an index
+abbrev pub Unmarked : List ℕ → Type 0
+Unmarked words = words ≡ replicate inner.indexLength 0
 
 -- what the whole call says; where nothing is refused the image's book stands in a buffer of its own, the output has room for the longest image, and the lent words for the index
 pub record Begun (image : List ℕ) (mains count words room : ℕ) (r : Answer) (buffer′ words′ : List ℕ) : Type 0 where

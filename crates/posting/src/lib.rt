@@ -10,7 +10,7 @@ ghost use Rattle.rules.proofs.Reading.{LawfulImage};
 ghost use Rattle.writer.specs.Over.{over};
 ghost use Rattle.posting.specs.Records.{theRequest};
 ghost use Rattle.posting.specs.Standing.{Standing};
-ghost use Rattle.posting.specs.Posting.{AnsweredNext, PostedAll, Words, Begun, Finished, Settled, Posts, PostsOne, AllNodes, listed, PostsFirst};
+ghost use Rattle.posting.specs.Posting.{AnsweredNext, PostedAll, Words, Unmarked, Begun, Finished, Settled, Posts, PostsOne, AllNodes, listed, PostsFirst};
 use answers::Answer;
 use image::Book;
 
@@ -119,7 +119,7 @@ fn words_of(image: &[u8]) -> usize
 }
 
 // The whole call's refusals, with so many words lent for an index and so many bytes for an image; where there is none, the
-// image in the newest version, of so many bytes, and its index.
+// image in the newest version, of so many bytes, and its index, which had no marks.
 fn begin(
     image: &[u8],
     mains: u64,
@@ -129,6 +129,7 @@ fn begin(
     book: &mut [u8; Book::LONGEST],
     index: &mut [u64; index::WORDS],
 ) -> Answer
+    requires { ⌜ Unmarked (now index) ⌝ }
     ensures { λ r. ⌜ Begun (now (image .entry)) mains count words room r (now (book .exit)) (now (index .exit)) ⌝ }
 {
     let number = lawful::verdict(image, index);

@@ -15,7 +15,7 @@ use Rattle.bitset.specs.Sets.{SetOf, Lowest}
 use Rattle.bitset.specs.Rows.{topology}
 use Rattle.bitset.proofs.Bits.{has-or-not, within, zero-none}
 use Rattle.bitset.proofs.Members.{some-member, lowest-or-rest, all-within}
-use Rattle.topologies.specs.Rows.{SoundRow, HeardRow, Heard}
+use Rattle.topologies.specs.Rows.{SoundRow, LeftOf, HeardRow, Heard}
 
 -- what the row of a has and is not left are right
 pub record Testing (T : Topology) (a left : ℕ) : Type 0 where
@@ -25,8 +25,8 @@ pub record Testing (T : Topology) (a left : ℕ) : Type 0 where
   pub left-of : (b : ℕ) → Has left b → Joined T a b
   pub right : (b : ℕ) → Joined T a b → Has left b ⊎ ((b < nodes T) × Joined T b a)
 
-pub test-none : (T : Topology) (a : ℕ) → NoBitFrom 64 (getD (T .rows) a 0) → (Joined T a a → ⊥) → Testing T a (getD (T .rows) a 0)
-test-none T a h f = record { fits = h; no-self = f; left-fits = h; left-of = λ b l. l; right = λ b l. inl l }
+pub test-none : {T : Topology} {a left : ℕ} → NoBitFrom 64 (getD (T .rows) a 0) → (Joined T a a → ⊥) → NoBitFrom 64 left → LeftOf T a left → Testing T a left
+test-none h f l w = record { fits = h; no-self = f; left-fits = l; left-of = w .left-of; right = w .right }
 
 pub test-more : {T : Topology} {a left b less : ℕ} → Testing T a left → Lowest left b → b < nodes T → Joined T b a
     → SetOf (λ (k : ℕ). Has left k × (Lowest left k → ⊥)) less → Testing T a less
@@ -60,6 +60,9 @@ pub one-way : {T : Topology} {a left b : ℕ} → Testing T a left → Lowest le
 one-way {b = b} t low h f s = f (s .both-ways b h (t .left-of b (low .member)))
 
 -- ALL ROWS
+pub left-whole : (T : Topology) (a : ℕ) → LeftOf T a (getD (T .rows) a 0)
+left-whole T a = record { left-of = λ b l. l; right = λ b l. inl l }
+
 pub rows-sound : {T : Topology} → ((a : ℕ) → a < nodes T → SoundRow T a) → SoundTopology T
 rows-sound f = record { low = λ a h. f a h .low; no-self = λ a h. f a h .no-self; both-ways = λ a b h k. f a h .both-ways b k }
 
@@ -79,10 +82,21 @@ module _ (links hearing : Topology) (a : ℕ) {rest : ℕ}
   pub row-unheard : (rest ≡ 0 → ⊥) → HeardRow links hearing a → ⊥
   row-unheard n h = let m = some-member rest (s .fits) n in let p = s .only (m .0) (m .1) in p .1 (h (m .0) (p .0))
 
-pub both-tested : {links hearing : Topology} {t : Bool} → nodes hearing ≡ nodes links → SoundTopology links → SoundTopology hearing
-    → Tests t (Heard links hearing) → Tests t (SoundTopologies links hearing)
-both-tested e l h w =
-    alike w (λ f. record { links-sound = l; hearing-sound = h; even = e; heard = λ a b k. f a k b }) (λ f a k b. f .heard a b k)
+-- a link that is heard is heard both ways
+pub left-unlinked : {links hearing : Topology} {a rest : ℕ} → nodes hearing ≡ nodes links → SoundTopology links → Heard links hearing → a < nodes links
+    → SetOf (λ (b : ℕ). Has (getD (hearing .rows) a 0) b × (Has (getD (links .rows) a 0) b → ⊥)) rest → LeftOf hearing a rest
+left-unlinked {links} {hearing} {a} {rest} e w f l s = record { left-of = λ b h. s .only b h .0; right = λ b h. go b h (has-or-not (getD (links .rows) a 0) b) }
+  where
+    go : (b : ℕ) → Joined hearing a b → Dec (Joined links a b) → Has rest b ⊎ ((b < nodes hearing) × Joined hearing b a)
+    go b h (yes k) =
+        let there : b < nodes links = within (nodes links) (getD (links .rows) a 0) b (w .low a l) k in
+        inr (omega (arith, there, e), f b there a (w .both-ways a b l there k))
+    go b h (no n) = inl (s .all b (h, n))
+
+pub both-tested : {links hearing : Topology} {t : Bool} → nodes hearing ≡ nodes links → SoundTopology links → Heard links hearing
+    → Tests t (SoundTopology hearing) → Tests t (SoundTopologies links hearing)
+both-tested e l f w =
+    alike w (λ h. record { links-sound = l; hearing-sound = h; even = e; heard = λ a b k. f a k b }) (λ g. g .hearing-sound)
 
 -- what was decoded is tested, where both topologies are whole
 pub tests-given : {links hearing linked heard : List ℕ} {N : ℕ} {t : Bool} → length links ≡ 8 * N → length hearing ≡ 8 * N → Sets links 0 N linked → Sets hearing 0 N heard

@@ -6,18 +6,17 @@ ghost use Rattle.rules.specs.Words.{Tests};
 ghost use Rattle.rules.specs.Topology.{NodesInRange, SoundTopology, SoundTopologies};
 ghost use Rattle.rules.specs.Calls.{TopologiesGiven};
 ghost use Rattle.bitset.specs.Rows.{topology};
-ghost use Rattle.topologies.specs.Rows.{SoundRow, Heard};
+ghost use Rattle.topologies.specs.Rows.{SoundRow, LeftOf, Heard};
 
-// Whether the row of a node is sound.
-fn row_sound(rows: &[u64], node: usize) -> bool
-    requires { ⌜ NodesInRange (length (now rows)) × (node < length (now rows)) ⌝ }
+// Whether the row of a node is sound, where this much of it is left to ask about.
+fn row_sound(rows: &[u64], node: usize, rest: u64) -> bool
+    requires { ⌜ NodesInRange (length (now rows)) × (node < length (now rows)) × LeftOf (topology (now rows)) node rest ⌝ }
     ensures { λ r. ⌜ Tests r (SoundRow (topology (now (rows .entry))) node) ⌝ }
 {
-    let row = rows[node];
-    if bitset::has(row, node) {
+    if bitset::has(rows[node], node) {
         return false;
     }
-    let mut left = row;
+    let mut left = rest;
     while left != 0 {
         let other = bitset::lowest(left);
         if rows.len() <= other {
@@ -38,7 +37,7 @@ fn sound(rows: &[u64]) -> bool
 {
     let mut node = 0;
     while node < rows.len() {
-        if !row_sound(rows, node) {
+        if !row_sound(rows, node, rows[node]) {
             return false;
         }
         node += 1;
@@ -61,6 +60,23 @@ fn heard(links: &[u64], hearing: &[u64]) -> bool
     true
 }
 
+// Whether every row of the hearing is sound, where the links are, and are heard: they are not asked about again.
+fn rest_sound(links: &[u64], hearing: &[u64]) -> bool
+    requires { ⌜ NodesInRange (length (now links)) × (length (now hearing) ≡ length (now links)) × SoundTopology (topology (now links))
+        × Heard (topology (now links)) (topology (now hearing)) ⌝ }
+    ensures { λ r. ⌜ Tests r (SoundTopology (topology (now (hearing .entry)))) ⌝ }
+{
+    let mut node = 0;
+    while node < hearing.len() {
+        let rest = bitset::difference(hearing[node], links[node]);
+        if !row_sound(hearing, node, rest) {
+            return false;
+        }
+        node += 1;
+    }
+    true
+}
+
 // Whether both are sound, and every link is heard.
 pub fn both_sound(links: &[u64], hearing: &[u64]) -> bool
     requires { ⌜ NodesInRange (length (now links)) × (length (now hearing) ≡ length (now links)) ⌝ }
@@ -69,10 +85,10 @@ pub fn both_sound(links: &[u64], hearing: &[u64]) -> bool
     if !sound(links) {
         return false;
     }
-    if !sound(hearing) {
+    if !heard(links, hearing) {
         return false;
     }
-    heard(links, hearing)
+    rest_sound(links, hearing)
 }
 
 // Whether the topologies of a book of so many nodes, given as they stand in an image, are whole and sound.

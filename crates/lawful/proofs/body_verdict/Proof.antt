@@ -84,13 +84,10 @@ hops-meet-requires : tie.Need-hops-meet-requires
 hops-meet-requires c κs =
     let sound = c .before .before .before in
     let read = sound .before .before .before .before in
-    let p = read .before .before .before .before .before .pre in
-    record {
-      framed = p .1;
-      header = p .2 .header;
-      hearing-read = record { rows-are = hearing-here read; sound = sound-here sound };
-      rows = rows-here (c .before);
-    }
+    let p = read .before .before .before .before .before .pre in (
+      record { framed = p .1; header = p .2 .header; hearing-read = record { rows-are = hearing-here read; sound = sound-here sound }; rows = rows-here (c .before) },
+      p .3,
+    )
 
 returns-3 : tie.Need-returns-3
 returns-3 c =

@@ -64,6 +64,7 @@ body-verdict-requires c κs =
       marked (c .before .before .before .before .before .before .before .before .before .before),
       record { fields = fields (c .before .before .before .before .before .before .before); size = c .before .if6 .left ∙ stated header (c .before .before .image-length .ensures) },
       record { header = header; inside = inside (c .before .before .before .before .before); range = listed },
+      c .before .before .before .before .before .before .before .before .before .before .before .before .before .before .pre,
     )
 
 pub verdict-spec : {M : Type 1} → statement M

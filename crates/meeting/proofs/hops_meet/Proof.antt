@@ -1,12 +1,12 @@
 -- Each row is compared with those before it.
-use mathlib.Core.Path.{_≡_, refl, ap, subst}
+use mathlib.Core.Path.{_≡_, refl, sym, ap, subst₂}
+use mathlib.Core.List.{List}
 use Prim.Native.Nat.{ℕ, _+_, _-_, _≤_}
 use native.Mathlib.Omega.{arith}
 use borrow.Author.Needs.{needs}
-use lib.ListN.{length, replicate}
+use lib.ListN.{length}
 use Rattle.rules.specs.Tiles.{Plan}
 use Rattle.rules.proofs.Tests.{fails}
-use Rattle.index.specs.Index.{indexLength}
 use Rattle.rows.specs.Walk.{RowStands}
 use Rattle.image.proofs.Walks.{rows-start}
 use Rattle.rows.proofs.Filling.{all-stand}
@@ -23,24 +23,24 @@ abbrev μ-loop : tie.MeasureT-loop
 
 loop-holds : tie.Need-loop-holds Inv-loop μ-loop
 loop-holds c =
-    let a = c .before .before .before .before .before in
-    let p = a .pre in
+    let a = c .before .before .before .before in
+    let p = a .pre .0 in
     let n : ℕ = a .args .book .streams in
     let e : 0 ≡ n - n = omega arith in (
       omega arith,
-      subst (λ (k : ℕ). Compared (a .args .image .now) (c .rows-start .result) k (c .rows-start .result) n (replicate indexLength 0)) e
+      subst₂ (λ (k : ℕ) (words : List ℕ). Compared (a .args .image .now) (c .rows-start .result) k (c .rows-start .result) n words) e (sym (a .pre .1))
           (compared-start _ (rows-start (p .header) (c .rows-start .ensures)) (p .header .streams) (p .framed) (all-stand _ (p .framed) (p .rows)) (p .rows)),
       refl,
     )
 
 -- the row at the place
-row : (c : tie.In-loop Inv-loop μ-loop) → RowStands (c .before .before .before .before .before .before .before .args .image .now) (c .before .loop .at)
+row : (c : tie.In-loop Inv-loop μ-loop) → RowStands (c .before .before .before .before .before .before .args .image .now) (c .before .loop .at)
 row c = compared-row (c .before .loop .inv .1) (c .loop-test .taken)
 
 compare-requires : tie.Need-compare-requires Inv-loop μ-loop
 compare-requires c κs =
     let loop = c .before .before .before .loop in
-    let p = c .before .before .before .before .before .before .before .before .before .pre in
+    let p = c .before .before .before .before .before .before .before .before .pre .0 in
     (compared-behind (loop .inv .1) (c .before .before .loop-test .taken) (loop .inv .2), p .hearing-read, ap (λ (plan : Plan). plan .slots) (p .header .plan))
 
 returns : tie.Need-returns Inv-loop μ-loop
@@ -51,7 +51,7 @@ returns c =
 loop-again : tie.Need-loop-again Inv-loop μ-loop
 loop-again c =
     let loop = c .before .before .before .before .before .before .loop in
-    let a = c .before .before .before .before .before .before .before .before .before .before .before .before in
+    let a = c .before .before .before .before .before .before .before .before .before .before .before in
     let more = c .before .before .before .before .before .loop-test .taken in
     let said = c .before .before .compare .ensures in
     let no = c .before .if1 .left in

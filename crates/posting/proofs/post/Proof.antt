@@ -297,11 +297,11 @@ module _ {M : Type 1} (𝓤 : URA M) (H : Heap 𝓤) (A : Atoms 𝓤) (W : Given
   goes-begin l l′ ν ν′ δ δ′ =
       qed W ((‵ (flft κ q) ⊛ ‵ (flft (ν ∷ []) fullShare) ⊛ ‵ (flft (ν′ ∷ []) fullShare) ⊛ ‵ ftrue) ∷ ‵ Img ∷ ‵ (fsep (LentB (named 1) ν l δ zeros) (LentX (named 2) ν′ l′ δ′ zeros′)) ∷ []) ∵
       -- [the book; the index; the tokens; the image]
-      move ! (2 ∷ []) $ fsplit ! $ nothing ! $ move ! (2 ∷ 0 ∷ []) $ fjoin ! $ move ! (1 ∷ 0 ∷ []) $ fjoin ! $
+      says ! refl $ move ! (2 ∷ []) $ fsplit ! $ nothing ! $ move ! (2 ∷ 0 ∷ []) $ fjoin ! $ move ! (1 ∷ 0 ∷ []) $ fjoin ! $
       owned ! usize (Is usize) (uint-makes 𝓤 H A W w64) n₂ _ (refl, room₂ .0) $ fjoin ! $ owned ! usize (Is usize) (uint-makes 𝓤 H A W w64) nᵢ _ (refl, roomᵢ .0) $ fjoin ! $
       owned ! usize (Is usize) (uint-makes 𝓤 H A W w64) n _ (refl, room .0) $ fjoin ! $
       owned ! u64 (Is u64) (uint-makes 𝓤 H A W w64) mains _ (refl, m-fits) $ fjoin ! $
-      move ! (2 ∷ 0 ∷ []) $ fjoin ! $ move ! (1 ∷ 0 ∷ []) $ join ! $ frame ! $ done !
+      move ! (2 ∷ 0 ∷ []) $ fjoin ! $ move ! (1 ∷ 0 ∷ []) $ done !
 
   -- `post_all`
   abbrev all-args : (l l′ : ℕ) (δ δ′ : GName) (s w : List ℕ) (len : ℕ) → ℕ × (RefT (List Request) × (RefT (List ℕ) × (RefT (List ℕ) × (ℕ × Unit {0}))))

@@ -25,4 +25,4 @@ returns-2 c =
 
 pub post-one-spec : {M : Type 1} → statement M
 post-one-spec =
-    tie.close (tie.spec (λ c κs. search needs) returns answer-next-requires (λ c. search needs) finish-requires (λ c. search needs) returns-2)
+    tie.close (tie.spec (λ c κs. refl) returns answer-next-requires (λ c. search needs) finish-requires (λ c. search needs) returns-2)

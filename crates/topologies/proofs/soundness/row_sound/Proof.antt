@@ -10,15 +10,16 @@ use Rattle.topologies.proofs.soundness.row_sound.Statement.{statement}
 use Rattle.topologies.proofs.soundness.row_sound.Tie as tie
 
 abbrev Inv-loop : tie.InvT-loop
-Inv-loop rows node row left₀ left = Testing (topology rows) node left
+Inv-loop rows node rest left₀ left = Testing (topology rows) node left
 
 abbrev μ-loop : tie.MeasureT-loop
-μ-loop rows node row left₀ left = left
+μ-loop rows node rest left₀ left = left
 
 loop-holds : tie.Need-loop-holds Inv-loop μ-loop
 loop-holds c =
     let d = c .before .before in
-    test-none _ _ (omega (arith, d .shared-slice-known2 .given (d .before .before .args .node))) (fails (c .before .has .ensures) (c .if1 .left))
+    let start = d .before .before in
+    test-none (omega (arith, d .shared-slice-known2 .given (start .args .node))) (fails (c .before .has .ensures) (c .if1 .left)) (omega arith) (start .pre .2)
 
 returns : tie.Need-returns Inv-loop μ-loop
 returns c = said-no (λ s. s .no-self (c .before .has .ensures .yes (c .if1 .taken)))
