@@ -2,10 +2,10 @@
 // in streams of periods up to 100.
 ghost use mathlib.Core.Path.{_≡_};
 ghost use mathlib.Core.Bool.{false};
-ghost use Prim.Native.Nat.{ℕ, _<_, _≤_};
+ghost use Prim.Native.Nat.{ℕ, _*_, _<_, _≤_};
 ghost use lib.ListN.{length, getD};
 ghost use Rattle.rules.specs.Words.{Tests};
-ghost use Rattle.rules.specs.Tiles.{Period};
+ghost use Rattle.rules.specs.Tiles.{Period, shortTiles};
 ghost use Rattle.bitset.specs.Sets.{SetOf};
 ghost use Rattle.clash.specs.Reach.{End, nodeAt, hop};
 ghost use Rattle.index.specs.Index.{indexLength, slowPlace};
@@ -26,6 +26,14 @@ pub const WORDS: usize = 6401;
 pub struct Repeats {
     pub span: Slot,
     pub turns: u16,
+}
+
+// How many words an index has that is lent for tiles of so many slots: two for each slot of 100 tiles.
+pub fn words_for(slots: Slot) -> usize
+    requires { ⌜ slots .0 ≤ 32 ⌝ }
+    ensures { λ r. ⌜ r ≡ 2 * (shortTiles * slots .0) ⌝ }
+{
+    2 * (rules::SHORT as usize * slots.0 as usize)
 }
 
 // How a period repeats: one over 100 has no turn, and is neither marked nor found.

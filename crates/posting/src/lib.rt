@@ -17,9 +17,6 @@ use image::Book;
 // A list has up to 64 requests.
 pub const MOST: usize = 64;
 
-// The tiles of an index.
-const TILES: usize = 100;
-
 // The words of an index for tiles of 32 slots.
 const OWN: usize = 6400;
 
@@ -115,7 +112,7 @@ fn words_of(image: &[u8]) -> usize
     requires { ⌜ LawfulImage (now image) ⌝ }
     ensures { λ r. ⌜ Words (now (image .entry)) r ⌝ }
 {
-    2 * TILES * Book::read(image).plan.slots.0 as usize
+    index::words_for(Book::read(image).plan.slots)
 }
 
 // The whole call's refusals, with so many words lent for an index and so many bytes for an image; where there is none, the
