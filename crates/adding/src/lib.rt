@@ -101,7 +101,8 @@ pub fn put_two(
     out: &mut [u8; Book::LONGEST],
 ) -> usize
     requires { ⌜ TwoPut (now image) at (theAsked q) (now first) (now offsets) (now second) (now others) ⌝ }
-    ensures { λ r. ⌜ PutIn (now (image .entry)) (rowOn (theAsked q) 1 (now (first .entry)) (now (offsets .entry)) ∷ rowOn (theAsked q) 2 (now (second .entry)) (now (others .entry)) ∷ []) r (now (out .exit)) ⌝ }
+    ensures { λ r. ⌜ PutIn (now (image .entry)) (rowOn (theAsked q) 1 (now (first .entry)) (now (offsets .entry)) ∷ rowOn (theAsked q) 2 (now (second .entry)) (now (others .entry)) ∷ []) r
+        (now (out .exit)) ⌝ }
 {
     let size = row_size(offsets.len());
     let all = size + row_size(others.len());

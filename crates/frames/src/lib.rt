@@ -52,7 +52,8 @@ pub const WORD: usize = 8;
 // The longest report.
 pub const MOST_REPORT: usize = 4096;
 
-// What a call says back: its number, and a length and two zeros, a list's length and its mark, data, used and free slots, links and two zeros, 1 where a book keeps to a set and two zeros, or a length, the rows cut and the bytes lost.
+// What a call says back: its number, and a length and two zeros, a list's length and its mark, data, used and free slots, links and two zeros, 1 where a book
+// keeps to a set and two zeros, or a length, the rows cut and the bytes lost.
 pub struct Reply {
     pub number: u8,
     pub first: usize,

@@ -23,7 +23,8 @@ use Rattle.model.specs.Answer.{passes, routesOf, newRows}
 use Rattle.model.specs.Table.{cellOf}
 use Rattle.model.specs.Reading.{rowFits, isLawfulBook}
 use Rattle.model.specs.Examples.{planA, lineA, heardA, square, pair, empty, asked, askedTwo, opening, openingTwo, numberOn, SaysOn, after, rowsOn, opensWith, isStored}
-use Rattle.model.specs.Examples.{anyMiddle, after2, after3, after7, hop, operationsP9, imageP10, imageP11, wideP10, wideP11, heardP10, heardP11, olderP10, olderP11, oldP10, oldP11, examples, Leaves, OpensWith, ExamplesHold}
+use Rattle.model.specs.Examples.{anyMiddle, after2, after3, after7, hop, operationsP9, imageP10, imageP11, wideP10, wideP11}
+use Rattle.model.specs.Examples.{heardP10, heardP11, olderP10, olderP11, oldP10, oldP11, examples, Leaves, OpensWith, ExamplesHold}
 use Rattle.model.proofs.Tests.{tests-same-by, tests-same, tests-same-row, tests-on-data, tests-meets, tests-clashes}
 use Rattle.model.proofs.Routes.{route-found, route-only}
 use Rattle.model.proofs.Firsts.{tests-passes}

@@ -114,7 +114,8 @@ fn keep_one(
     out: &mut [u8; Book::LONGEST],
 ) -> Answer
     requires { ⌜ OneKept (now image) (now index) book (theAsked q) place at (now route) (now offsets) ⌝ }
-    ensures { λ r. ⌜ Keeps (now (image .entry)) (theAsked q) (now (route .entry) ∷ []) (rowOn (theAsked q) 1 (now (route .entry)) (now (offsets .entry)) ∷ []) (r .number) (r .length) (now (out .exit)) (now (index .exit)) ⌝ }
+    ensures { λ r. ⌜ Keeps (now (image .entry)) (theAsked q) (now (route .entry) ∷ []) (rowOn (theAsked q) 1 (now (route .entry)) (now (offsets .entry)) ∷ []) (r .number) (r .length)
+        (now (out .exit)) (now (index .exit)) ⌝ }
 {
     if !paying::is_paid(image, book, q.account, place, offsets.len()) {
         return answers::refused(23);
@@ -177,7 +178,9 @@ fn keep_two(
     out: &mut [u8; Book::LONGEST],
 ) -> Answer
     requires { ⌜ TwoKept (now image) (now index) book (theAsked q) place at (now first) (now offsets) (now second) (now others) ⌝ }
-    ensures { λ r. ⌜ Keeps (now (image .entry)) (theAsked q) (now (first .entry) ∷ now (second .entry) ∷ []) (rowOn (theAsked q) 1 (now (first .entry)) (now (offsets .entry)) ∷ rowOn (theAsked q) 2 (now (second .entry)) (now (others .entry)) ∷ []) (r .number) (r .length) (now (out .exit)) (now (index .exit)) ⌝ }
+    ensures { λ r. ⌜ Keeps (now (image .entry)) (theAsked q) (now (first .entry) ∷ now (second .entry) ∷ [])
+        (rowOn (theAsked q) 1 (now (first .entry)) (now (offsets .entry)) ∷ rowOn (theAsked q) 2 (now (second .entry)) (now (others .entry)) ∷ []) (r .number) (r .length) (now (out .exit))
+        (now (index .exit)) ⌝ }
 {
     let hops = offsets.len() + others.len();
     if !paying::is_paid(image, book, q.account, place, hops) {

@@ -153,8 +153,10 @@ kept = record {
     apart = apart (anyMiddle longOnes) longOnes (sound-links long-held) onLong tt;
     room = room (anyMiddle longOnes) longOnes (sound-links long-held) onLong tt;
     reordered = put (put none here) (there here);
-    forth = worked JustFull (tiles (image longOnes)) page (just-full (image longOnes)) (ample (image longOnes)) long-held (below longOnes) onLong (omega arith) (0 ∷ 0 ∷ []) (image shortAfter) (inl refl) tt;
-    back = worked JustFull (tiles (image longOnes)) page (just-full (image longOnes)) (ample (image longOnes)) long-held (below longOnes) onLongBack (omega arith) (0 ∷ 0 ∷ []) (image shortAfter) (inl refl) tt;
+    forth = worked JustFull (tiles (image longOnes)) page (just-full (image longOnes)) (ample (image longOnes)) long-held (below longOnes) onLong (omega arith) (0 ∷ 0 ∷ []) (image shortAfter)
+        (inl refl) tt;
+    back = worked JustFull (tiles (image longOnes)) page (just-full (image longOnes)) (ample (image longOnes)) long-held (below longOnes) onLongBack (omega arith) (0 ∷ 0 ∷ []) (image shortAfter)
+        (inl refl) tt;
   };
   accounts =
       let b : Book = paidBy 1000 (drawing 1 3 2 3 ∷ []) in
@@ -289,50 +291,59 @@ needed = record {
   most = λ f.
       let qs : List Request = closes 65 0 in
       let b : Book = empty pair in
-      let i = f (image b) newest b (anyMiddle b) qs pair-held (below b) (small qs tt) (different qs tt) (apart (anyMiddle b) b (sound-links pair-held) qs tt) (room (anyMiddle b) b (sound-links pair-held) qs tt) in
+      let i = f (image b) newest b (anyMiddle b) qs pair-held (below b) (small qs tt) (different qs tt) (apart (anyMiddle b) b (sound-links pair-held) qs tt)
+      (room (anyMiddle b) b (sound-links pair-held) qs tt) in
       let e : _≡_ {A = ℕ} 26 0 = i .each qs 26 (threes 65) (image b) (reordered-same qs) (decides .most) .0 in
       omega arith;
   ids = λ f.
       let qs : List Request = opening 1 0 1 2 ∷ Close 1 ∷ [] in
       let b : Book = empty pair in
-      let i = f (image b) newest b (anyMiddle b) qs pair-held (below b) (omega arith) (small qs tt) (apart (anyMiddle b) b (sound-links pair-held) qs tt) (room (anyMiddle b) b (sound-links pair-held) qs tt) in
+      let i = f (image b) newest b (anyMiddle b) qs pair-held (below b) (omega arith) (small qs tt) (apart (anyMiddle b) b (sound-links pair-held) qs tt)
+      (room (anyMiddle b) b (sound-links pair-held) qs tt) in
       unlike tt (one-last pair-held i (decides .ids));
   hearing = λ f.
       let qs : List Request = opening 1 0 1 1 ∷ opening 2 2 3 1 ∷ [] in
       let b : Book = empty lineA in
       let h : Stored (image b) newest b = held newest b refl refl tt in
-      unlike tt (one-last h (f (image b) newest b (anyMiddle b) qs h (below b) (omega arith) (small qs tt) (different qs tt) (no-node (anyMiddle b) b (sound-links h) qs tt) (room (anyMiddle b) b (sound-links h) qs tt)) (decides .hearing));
+      unlike tt (one-last h (f (image b) newest b (anyMiddle b) qs h (below b) (omega arith) (small qs tt) (different qs tt) (no-node (anyMiddle b) b (sound-links h) qs tt)
+      (room (anyMiddle b) b (sound-links h) qs tt)) (decides .hearing));
   seconds = λ f.
       let qs : List Request = openingTwo 1 0 1 2 ∷ opening 2 5 6 2 ∷ [] in
       let b : Book = empty ring in
       let h : Stored (image b) newest b = held newest b refl refl tt in
-      unlike tt (one-last h (f (image b) newest b (anyMiddle b) qs h (below b) (omega arith) (small qs tt) (different qs tt) (firsts-apart (anyMiddle b) b (sound-links h) qs tt) (room (anyMiddle b) b (sound-links h) qs tt)) seconds-decide);
+      unlike tt (one-last h (f (image b) newest b (anyMiddle b) qs h (below b) (omega arith) (small qs tt) (different qs tt) (firsts-apart (anyMiddle b) b (sound-links h) qs tt)
+      (room (anyMiddle b) b (sound-links h) qs tt)) seconds-decide);
   room = λ f.
       let qs : List Request = openingTwo 63 2 5 100 ∷ opening 65 0 1 1 ∷ [] in
-      let i = f (image nearlyFull) newest nearlyFull (anyMiddle nearlyFull) qs nearly (below nearlyFull) (omega arith) (small qs tt) (different qs tt) (apart (anyMiddle nearlyFull) nearlyFull (sound-links nearly) qs tt) room-for-done in
+      let i = f (image nearlyFull) newest nearlyFull (anyMiddle nearlyFull) qs nearly (below nearlyFull) (omega arith) (small qs tt) (different qs tt)
+      (apart (anyMiddle nearlyFull) nearlyFull (sound-links nearly) qs tt) room-for-done in
       let e : _≡_ {A = ℕ} 8 9 = one-answer nearly i room-decides in
       omega arith;
   rows = λ f.
       let qs : List Request = openingTwo 63 2 5 100 ∷ opening 64 0 1 100 ∷ [] in
       let fit = room-for-one (anyMiddle nearlyFull) nearlyFull (sound-links nearly) qs tt in
-      let i = f (image nearlyFull) newest nearlyFull (anyMiddle nearlyFull) qs nearly (below nearlyFull) (omega arith) (small qs tt) (different qs tt) (apart (anyMiddle nearlyFull) nearlyFull (sound-links nearly) qs tt) fit in
+      let i = f (image nearlyFull) newest nearlyFull (anyMiddle nearlyFull) qs nearly (below nearlyFull) (omega arith) (small qs tt) (different qs tt)
+      (apart (anyMiddle nearlyFull) nearlyFull (sound-links nearly) qs tt) fit in
       let e : _≡_ {A = ℕ} 8 0 = one-answer nearly i rows-decide in
       omega arith;
   pays = λ f.
       let qs : List Request = openingOn 1 1 0 1 ∷ Close 3 ∷ [] in
       let b : Book = paidBy 999 (drawing 1 3 2 3 ∷ []) in
       let h : Stored (image b) newest b = newly b tt in
-      unlike tt (one-last h (f (image b) newest b (anyMiddle b) qs h (below b) (omega arith) (small qs tt) (different qs tt) (apart (anyMiddle b) b (sound-links h) qs tt) (room-unpaid (anyMiddle b) b (sound-links h) qs tt)) (decides .pays));
+      unlike tt (one-last h (f (image b) newest b (anyMiddle b) qs h (below b) (omega arith) (small qs tt) (different qs tt) (apart (anyMiddle b) b (sound-links h) qs tt)
+      (room-unpaid (anyMiddle b) b (sound-links h) qs tt)) (decides .pays));
   full-size = λ f.
       let qs : List Request = opening 1 0 1 2 ∷ [] in
       let b : Book = empty pair in
-      let i = f short (image b) newest b (anyMiddle b) qs pair-held (below b) (omega arith) (small qs tt) (different qs tt) (apart (anyMiddle b) b (sound-links pair-held) qs tt) (room (anyMiddle b) b (sound-links pair-held) qs tt) in
+      let i = f short (image b) newest b (anyMiddle b) qs pair-held (below b) (omega arith) (small qs tt) (different qs tt) (apart (anyMiddle b) b (sound-links pair-held) qs tt)
+      (room (anyMiddle b) b (sound-links pair-held) qs tt) in
       let e : _≡_ {A = ℕ} 12 0 = i .each qs 12 (0 ∷ []) (image b) (reordered-same qs) (decides .full-size) .0 in
       omega arith;
   tiles = λ f.
       let qs : List Request = opening 1 0 1 2 ∷ [] in
       let b : Book = empty pair in
-      let i = f shortTiles (image b) newest b (anyMiddle b) qs pair-held (below b) (omega arith) (small qs tt) (different qs tt) (apart (anyMiddle b) b (sound-links pair-held) qs tt) (room (anyMiddle b) b (sound-links pair-held) qs tt) in
+      let i = f shortTiles (image b) newest b (anyMiddle b) qs pair-held (below b) (omega arith) (small qs tt) (different qs tt) (apart (anyMiddle b) b (sound-links pair-held) qs tt)
+      (room (anyMiddle b) b (sound-links pair-held) qs tt) in
       let e : _≡_ {A = ℕ} 12 0 = i .each qs 12 (0 ∷ []) (image b) (reordered-same qs) (decides .tiles) .0 in
       omega arith;
   low = λ f.

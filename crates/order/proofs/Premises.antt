@@ -221,7 +221,8 @@ posted Size index out image fit mains qs n ns last h =
 
 -- and posted on an image that is known to hold the book, where a record is done
 pub worked : (Size : List ℕ → List ℕ → List ℕ → Type 0) (index out : List ℕ)
-    → {image : List ℕ} {v : ℕ} {b : Book} {mains : ℕ} → Size image index out → Ample image index out → Stored image v b → NoBitFrom (nodes (b .site .links)) mains → (qs : List Request) → length qs ≤ mostRequests → (ns last : List ℕ) → 0 ∈ ns
+    → {image : List ℕ} {v : ℕ} {b : Book} {mains : ℕ} → Size image index out → Ample image index out → Stored image v b → NoBitFrom (nodes (b .site .links)) mains → (qs : List Request)
+    → length qs ≤ mostRequests → (ns last : List ℕ) → 0 ∈ ns
     → T (same (answersOf mains b qs) ns && same (encode newest (lastBook mains b qs)) last) → Posting Size image mains qs 0 ns last
 worked Size index out {image} {v} {b} {mains} fit ample s low qs few ns last z h =
     let c : Book = lastBook mains b qs in

@@ -21,7 +21,8 @@ WithoutMost =
 -- ids may repeat
 abbrev pub WithoutIds : Type 0
 WithoutIds =
-    (image : List ℕ) (v : ℕ) (b : Book) (mains : ℕ) (qs : List Request) → Stored image v b → NoBitFrom (nodes (b .site .links)) mains → length qs ≤ mostRequests → ((q : Request) → q ∈ qs → IdInRange q)
+    (image : List ℕ) (v : ℕ) (b : Book) (mains : ℕ) (qs : List Request) → Stored image v b → NoBitFrom (nodes (b .site .links)) mains → length qs ≤ mostRequests
+    → ((q : Request) → q ∈ qs → IdInRange q)
     → Pairwise (Apart mains b) qs → Room mains b qs → InAnyOrder Ample image mains qs
 
 -- the routes share no node, though a receiver of one may hear a sender of another
@@ -30,7 +31,8 @@ NoNodeShared mains b q q′ = (p p′ : List ℕ) → RouteOf mains b q p → Ro
 
 abbrev pub WithoutHearing : Type 0
 WithoutHearing =
-    (image : List ℕ) (v : ℕ) (b : Book) (mains : ℕ) (qs : List Request) → Stored image v b → NoBitFrom (nodes (b .site .links)) mains → length qs ≤ mostRequests → ((q : Request) → q ∈ qs → IdInRange q)
+    (image : List ℕ) (v : ℕ) (b : Book) (mains : ℕ) (qs : List Request) → Stored image v b → NoBitFrom (nodes (b .site .links)) mains → length qs ≤ mostRequests
+    → ((q : Request) → q ∈ qs → IdInRange q)
     → Pairwise DifferentIds qs → Pairwise (NoNodeShared mains b) qs → Room mains b qs → InAnyOrder Ample image mains qs
 
 -- a request's first route alone
@@ -44,7 +46,8 @@ FirstsApart mains b q q′ = (p p′ : List ℕ) → FirstRouteOf mains b q p �
 
 abbrev pub WithoutSeconds : Type 0
 WithoutSeconds =
-    (image : List ℕ) (v : ℕ) (b : Book) (mains : ℕ) (qs : List Request) → Stored image v b → NoBitFrom (nodes (b .site .links)) mains → length qs ≤ mostRequests → ((q : Request) → q ∈ qs → IdInRange q)
+    (image : List ℕ) (v : ℕ) (b : Book) (mains : ℕ) (qs : List Request) → Stored image v b → NoBitFrom (nodes (b .site .links)) mains → length qs ≤ mostRequests
+    → ((q : Request) → q ∈ qs → IdInRange q)
     → Pairwise DifferentIds qs → Pairwise (FirstsApart mains b) qs → Room mains b qs → InAnyOrder Ample image mains qs
 
 -- there is room for the requests that are done alone
@@ -55,7 +58,8 @@ pub record RoomForDone (image : List ℕ) (mains : ℕ) (b : Book) (qs : List Re
 
 abbrev pub WithRoomForDone : Type 0
 WithRoomForDone =
-    (image : List ℕ) (v : ℕ) (b : Book) (mains : ℕ) (qs : List Request) → Stored image v b → NoBitFrom (nodes (b .site .links)) mains → length qs ≤ mostRequests → ((q : Request) → q ∈ qs → IdInRange q)
+    (image : List ℕ) (v : ℕ) (b : Book) (mains : ℕ) (qs : List Request) → Stored image v b → NoBitFrom (nodes (b .site .links)) mains → length qs ≤ mostRequests
+    → ((q : Request) → q ∈ qs → IdInRange q)
     → Pairwise DifferentIds qs → Pairwise (Apart mains b) qs → RoomForDone image mains b qs → InAnyOrder Ample image mains qs
 
 -- there is room for a row of each, and for all hops, and each account can pay for them
@@ -68,7 +72,8 @@ pub record RoomForOne (mains : ℕ) (b : Book) (qs : List Request) : Type 0 wher
 
 abbrev pub WithRoomForOne : Type 0
 WithRoomForOne =
-    (image : List ℕ) (v : ℕ) (b : Book) (mains : ℕ) (qs : List Request) → Stored image v b → NoBitFrom (nodes (b .site .links)) mains → length qs ≤ mostRequests → ((q : Request) → q ∈ qs → IdInRange q)
+    (image : List ℕ) (v : ℕ) (b : Book) (mains : ℕ) (qs : List Request) → Stored image v b → NoBitFrom (nodes (b .site .links)) mains → length qs ≤ mostRequests
+    → ((q : Request) → q ∈ qs → IdInRange q)
     → Pairwise DifferentIds qs → Pairwise (Apart mains b) qs → RoomForOne mains b qs → InAnyOrder Ample image mains qs
 
 -- there is room for all rows and hops, whatever the accounts can pay for
@@ -80,7 +85,8 @@ pub record RoomUnpaid (mains : ℕ) (b : Book) (qs : List Request) : Type 0 wher
 
 abbrev pub WithoutPays : Type 0
 WithoutPays =
-    (image : List ℕ) (v : ℕ) (b : Book) (mains : ℕ) (qs : List Request) → Stored image v b → NoBitFrom (nodes (b .site .links)) mains → length qs ≤ mostRequests → ((q : Request) → q ∈ qs → IdInRange q)
+    (image : List ℕ) (v : ℕ) (b : Book) (mains : ℕ) (qs : List Request) → Stored image v b → NoBitFrom (nodes (b .site .links)) mains → length qs ≤ mostRequests
+    → ((q : Request) → q ∈ qs → IdInRange q)
     → Pairwise DifferentIds qs → Pairwise (Apart mains b) qs → RoomUnpaid mains b qs → InAnyOrder Ample image mains qs
 
 -- every output has n bytes, and every index holds 100 tiles
@@ -89,7 +95,8 @@ OfBytes n image index out = (indexLength (planOf image) ≤ length index) × (le
 
 abbrev pub WithoutFullSize : Type 0
 WithoutFullSize =
-    (n : ℕ) (image : List ℕ) (v : ℕ) (b : Book) (mains : ℕ) (qs : List Request) → Stored image v b → NoBitFrom (nodes (b .site .links)) mains → length qs ≤ mostRequests → ((q : Request) → q ∈ qs → IdInRange q)
+    (n : ℕ) (image : List ℕ) (v : ℕ) (b : Book) (mains : ℕ) (qs : List Request) → Stored image v b → NoBitFrom (nodes (b .site .links)) mains → length qs ≤ mostRequests
+    → ((q : Request) → q ∈ qs → IdInRange q)
     → Pairwise DifferentIds qs → Pairwise (Apart mains b) qs → Room mains b qs → InAnyOrder (OfBytes n) image mains qs
 
 -- every index has n words, and every output is full-size
@@ -98,7 +105,8 @@ OfWords n image index out = (length index ≡ n) × FullSize out
 
 abbrev pub WithoutIndex : Type 0
 WithoutIndex =
-    (n : ℕ) (image : List ℕ) (v : ℕ) (b : Book) (mains : ℕ) (qs : List Request) → Stored image v b → NoBitFrom (nodes (b .site .links)) mains → length qs ≤ mostRequests → ((q : Request) → q ∈ qs → IdInRange q)
+    (n : ℕ) (image : List ℕ) (v : ℕ) (b : Book) (mains : ℕ) (qs : List Request) → Stored image v b → NoBitFrom (nodes (b .site .links)) mains → length qs ≤ mostRequests
+    → ((q : Request) → q ∈ qs → IdInRange q)
     → Pairwise DifferentIds qs → Pairwise (Apart mains b) qs → Room mains b qs → InAnyOrder (OfWords n) image mains qs
 
 -- the set may have a node from N up

@@ -56,7 +56,8 @@ fn is_free(
 ) -> bool
     requires { ⌜ PlanInRange (thePlan plan) × Period (period .0) × RepeatsOf (plan .slots .0) (period .0) repeats × (o < period .0 * plan .slots .0)
         × Standing (around (now index) (now image) start rows (now moduli) (now first) (now taken)) ⌝ }
-    ensures { λ r. ⌜ Tests r (FreeBy (InReach reach) (thePlan plan) (around (now (index .entry)) (now (image .entry)) start rows (now (moduli .entry)) (now (first .entry)) (now (taken .entry))) (period .0) o) ⌝ }
+    ensures { λ r. ⌜ Tests r (FreeBy (InReach reach) (thePlan plan) (around (now (index .entry)) (now (image .entry)) start rows (now (moduli .entry)) (now (first .entry)) (now (taken .entry)))
+        (period .0) o) ⌝ }
 {
     if index::finds(index, repeats, Slot(o), reach) {
         return false;
@@ -87,7 +88,8 @@ fn next_free(
 ) -> Next
     requires { ⌜ PlanInRange (thePlan plan) × Period (period .0) × RepeatsOf (plan .slots .0) (period .0) repeats
         × Standing (around (now index) (now image) start rows (now moduli) (now first) (now taken)) ⌝ }
-    ensures { λ r. ⌜ Searched (FreeBy (InReach reach) (thePlan plan) (around (now (index .entry)) (now (image .entry)) start rows (now (moduli .entry)) (now (first .entry)) (now (taken .entry))) (period .0)) lo (period .0 * plan .slots .0) r ⌝ }
+    ensures { λ r. ⌜ Searched (FreeBy (InReach reach) (thePlan plan) (around (now (index .entry)) (now (image .entry)) start rows (now (moduli .entry)) (now (first .entry)) (now (taken .entry)))
+        (period .0)) lo (period .0 * plan .slots .0) r ⌝ }
 {
     let mut o = lo;
     while o < repeats.span.0 {
@@ -131,7 +133,8 @@ fn next_offset(
 ) -> Next
     requires { ⌜ PlanInRange (thePlan plan) × Period (period .0) × RepeatsOf (plan .slots .0) (period .0) repeats × Between (topology (now hearing)) (hop from to)
         × Standing (around (now index) (now image) start rows (now moduli) (now first) (now taken)) ⌝ }
-    ensures { λ r. ⌜ Searched (FreeBy (Clashes (topology (now (hearing .entry))) (hop from to)) (thePlan plan) (around (now (index .entry)) (now (image .entry)) start rows (now (moduli .entry)) (now (first .entry)) (now (taken .entry))) (period .0)) lo
+    ensures { λ r. ⌜ Searched (FreeBy (Clashes (topology (now (hearing .entry))) (hop from to)) (thePlan plan)
+        (around (now (index .entry)) (now (image .entry)) start rows (now (moduli .entry)) (now (first .entry)) (now (taken .entry))) (period .0)) lo
         (period .0 * plan .slots .0) r ⌝ }
 {
     let reach = clash::reach_of(hearing, from, to);
@@ -166,7 +169,8 @@ pub fn first_placing(
     taken: &[u16],
 ) -> Placing
     requires { ⌜ Asked (thePlan plan) (topology (now hearing)) (now route) place × Standing (around (now index) (now image) start rows (now moduli) (now first) (now taken)) ⌝ }
-    ensures { λ r. ⌜ AnswersBy (thePlan plan) (topology (now (hearing .entry))) (around (now (index .entry)) (now (image .entry)) start rows (now (moduli .entry)) (now (first .entry)) (now (taken .entry))) (periodAt place) (now (route .entry)) (r .found) (r .offsets) ⌝ }
+    ensures { λ r. ⌜ AnswersBy (thePlan plan) (topology (now (hearing .entry)))
+        (around (now (index .entry)) (now (image .entry)) start rows (now (moduli .entry)) (now (first .entry)) (now (taken .entry))) (periodAt place) (now (route .entry)) (r .found) (r .offsets) ⌝ }
 {
     let hops = route.len() - 1;
     let period = rules::period_at(place);

@@ -94,7 +94,8 @@ pub extern "C" fn lindurask_open(
     out: &mut [u8],
     length: &mut usize,
 ) -> u8
-    ensures { λ r. ⌜ Serve (now (book .entry)) (Open (record { id = id; source = source; destination = destination; period = period; second = second; account = account })) (now (out .entry)) r (now (length .exit)) (now (out .exit)) ⌝ }
+    ensures { λ r. ⌜ Serve (now (book .entry)) (Open (record { id = id; source = source; destination = destination; period = period; second = second; account = account })) (now (out .entry)) r
+        (now (length .exit)) (now (out .exit)) ⌝ }
 {
     let asked = Asked {
         id,

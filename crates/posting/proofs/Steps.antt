@@ -161,6 +161,7 @@ pub asks-open : (r : Request) → r .opens ≡ true → {s out words : List ℕ}
 asks-open r e {s} {out} {words} {mains} {number} {len} w =
     subst (λ (t : Bool). Works mains s (cond t (Open (askedBy r)) (Close (r .id))) number len out words) (sym e) w
 
-pub asks-close : (r : Request) → r .opens ≡ false → {s out words : List ℕ} {mains number len : ℕ} → Works mains s (Close (r .id)) number len out words → Works mains s (theRequest r) number len out words
+pub asks-close : (r : Request) → r .opens ≡ false → {s out words : List ℕ} {mains number len : ℕ} → Works mains s (Close (r .id)) number len out words
+    → Works mains s (theRequest r) number len out words
 asks-close r e {s} {out} {words} {mains} {number} {len} w =
     subst (λ (t : Bool). Works mains s (cond t (Open (askedBy r)) (Close (r .id))) number len out words) (sym e) w

@@ -75,7 +75,8 @@ CloseUndoesOpen =
 -- a posted list leaves a lawful book of the same site, in which only the streams of records that were done have moved
 abbrev pub PostMovesItsOwn : Type 0
 PostMovesItsOwn =
-    (image : List ℕ) (v : ℕ) (b : Book) (mains : ℕ) (qs : List Request) → Stored image v b → NoBitFrom (nodes (b .site .links)) mains → length qs ≤ mostRequests → ((q : Request) → q ∈ qs → IdInRange q)
+    (image : List ℕ) (v : ℕ) (b : Book) (mains : ℕ) (qs : List Request) → Stored image v b → NoBitFrom (nodes (b .site .links)) mains → length qs ≤ mostRequests
+    → ((q : Request) → q ∈ qs → IdInRange q)
     → (number : ℕ) (answers last : List ℕ) → Posting Ample image mains qs number answers last
     → (w : ℕ) × (c : Book) × Stored last w c × (c .site ≡ b .site)
     × ((r : Row) → Each (λ (q : Request) (n : ℕ). n ≡ 0 → idOf q ≡ r .id → ⊥) qs answers → (r ∈ b .rows) ↔ (r ∈ c .rows))

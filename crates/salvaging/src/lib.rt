@@ -185,7 +185,8 @@ fn write_both(
     report: &mut [u8],
 ) -> Salvaged
     requires { ⌜ SiteRead (now image) book (now links) (now hearing) × Headed (now image) × HasRoom (now image) (length (now out)) (length (now report)) ⌝ }
-    ensures { λ r. ⌜ Replied (rowsRefusals (now (image .entry)) (length (now (out .entry))) (length (now (report .entry)))) (now (image .entry)) (now (out .entry)) (now (report .entry)) r (now (out .exit)) (now (report .exit)) ⌝ }
+    ensures { λ r. ⌜ Replied (rowsRefusals (now (image .entry)) (length (now (out .entry))) (length (now (report .entry)))) (now (image .entry)) (now (out .entry)) (now (report .entry)) r
+        (now (out .exit)) (now (report .exit)) ⌝ }
 {
     let walk = keep_rows(image, book, links, hearing, out, report);
     let kept = walk.kept;
@@ -208,7 +209,8 @@ fn salvage_rows(
     report: &mut [u8],
 ) -> Salvaged
     requires { ⌜ SiteRead (now image) book (now links) (now hearing) × Headed (now image) ⌝ }
-    ensures { λ r. ⌜ Replied (rowsRefusals (now (image .entry)) (length (now (out .entry))) (length (now (report .entry)))) (now (image .entry)) (now (out .entry)) (now (report .entry)) r (now (out .exit)) (now (report .exit)) ⌝ }
+    ensures { λ r. ⌜ Replied (rowsRefusals (now (image .entry)) (length (now (out .entry))) (length (now (report .entry)))) (now (image .entry)) (now (out .entry)) (now (report .entry)) r
+        (now (out .exit)) (now (report .exit)) ⌝ }
 {
     let cut = cutting::cut(image, book.rows_start());
     if report.len() < NOTE * cut.rows {
@@ -223,7 +225,8 @@ fn salvage_rows(
 // Salvages an image whose header and accounts are in order and that has its topologies.
 fn salvage_site(image: &[u8], book: Book, out: &mut [u8], report: &mut [u8]) -> Salvaged
     requires { ⌜ FieldsInRange (now image) × ListRead (now image) book × Headed (now image) ⌝ }
-    ensures { λ r. ⌜ Replied (siteRefusals (now (image .entry)) (length (now (out .entry))) (length (now (report .entry)))) (now (image .entry)) (now (out .entry)) (now (report .entry)) r (now (out .exit)) (now (report .exit)) ⌝ }
+    ensures { λ r. ⌜ Replied (siteRefusals (now (image .entry)) (length (now (out .entry))) (length (now (report .entry)))) (now (image .entry)) (now (out .entry)) (now (report .entry)) r
+        (now (out .exit)) (now (report .exit)) ⌝ }
 {
     let n = book.nodes;
     let linked = topologies::sets(image, book.links_place(), n);

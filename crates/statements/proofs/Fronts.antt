@@ -23,7 +23,15 @@ use Rattle.statements.specs.Figures.{FiguresSay, Decides}
 -- fields in their ranges state no more
 stated-most : (s : List ℕ) → FieldsInRange s → AccountsInRange (accountsOf s) → statedLength s ≤ longestImage newest
 stated-most s f g =
-    omega (arith, rows (hasWays (versionOf s)) (hasWide (versionOf s)) (hasAccounts (versionOf s)), hearing (hasHearing (versionOf s)), list (hasAccounts (versionOf s)) (g .most), f .nodes .1, f .streams, f .hops)
+    omega (
+      arith,
+      rows (hasWays (versionOf s)) (hasWide (versionOf s)) (hasAccounts (versionOf s)),
+      hearing (hasHearing (versionOf s)),
+      list (hasAccounts (versionOf s)) (g .most),
+      f .nodes .1,
+      f .streams,
+      f .hops,
+    )
   where
     list : (t : Bool) → length (cond t (accountsAt s (headerLength + 1) (accountCountOf s)) oldAccounts) ≤ mostAccounts → cond t (1 + 6 * accountCountOf s) 0 ≤ 1 + 6 * mostAccounts
     list true l = omega (arith, l, length-accounts-at s (headerLength + 1) (accountCountOf s))

@@ -16,7 +16,8 @@ returns-2 : tie.Need-returns-2
 returns-2 c =
     let start = c .before .before .before .before in
     let a = start .args in
-    tests-pays (a .image .now) (a .account) (c .drawn-from .result) (c .before .before .bought-of .result) (a .cost) (start .pre .2) (c .drawn-from .ensures .0) (c .before .before .bought-of .ensures)
+    tests-pays (a .image .now) (a .account) (c .drawn-from .result) (c .before .before .bought-of .result) (a .cost) (start .pre .2) (c .drawn-from .ensures .0)
+    (c .before .before .bought-of .ensures)
 
 pub pays-spec : {M : Type 1} → statement M
 pays-spec =

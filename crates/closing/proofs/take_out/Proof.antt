@@ -90,7 +90,8 @@ returns c =
     let next : ℕ = gone .rows-of .result .next in (
       c .done .ensures .0,
       λ mains. out-done (a .pre .0 .newest) (gone .rows-of .ensures) _ _ (streams-less gone) (hops-less gone) _ _ _ _ _
-          (rows-start (gone .before .before .read .ensures) (head .before .before .before .before .before .rows-start .ensures)) (c .done .ensures .1) (room (head .before .before .before .before .before .before))
+          (rows-start (gone .before .before .read .ensures) (head .before .before .before .before .before .rows-start .ensures)) (c .done .ensures .1)
+          (room (head .before .before .before .before .before .before))
           (head .put-head .ensures) (part-is s next) (part .put-part .ensures),
     )
 

@@ -61,7 +61,8 @@ returns-5 c =
     let four = c .before .before in
     let known = four .before .before .before .before .before .before .before .before in
     new-short (book (known .before .before .before .before)) (fits (four .before .before)) (given four) (λ i. known .before .before .before .shared-slice-known .given i .fits)
-    (λ i. known .before .before .shared-slice-known2 .given i .fits) (λ i. known .before .shared-slice-known3 .given i .fits) _ (c .before .if5 .taken) (c .refused5 .ensures .0) (c .refused5 .ensures .1)
+    (λ i. known .before .before .shared-slice-known2 .given i .fits) (λ i. known .before .shared-slice-known3 .given i .fits) _ (c .before .if5 .taken) (c .refused5 .ensures .0)
+    (c .refused5 .ensures .1)
 
 put-new-requires : tie.Need-put-new-requires
 put-new-requires c κs =
@@ -74,7 +75,8 @@ returns-6 c =
     let four = five .before in
     let known = four .before .before .before .before .before .before .before .before in
     new-done (book (known .before .before .before .before)) (fits (four .before .before)) (given four) (λ i. known .before .before .before .shared-slice-known .given i .fits)
-    (λ i. known .before .before .shared-slice-known2 .given i .fits) (λ i. known .before .shared-slice-known3 .given i .fits) _ (five .if5 .left) (c .done .ensures .0) (c .done .ensures .1) (c .before .before .before .put-new .ensures)
+    (λ i. known .before .before .shared-slice-known2 .given i .fits) (λ i. known .before .shared-slice-known3 .given i .fits) _ (five .if5 .left) (c .done .ensures .0) (c .done .ensures .1)
+    (c .before .before .before .put-new .ensures)
 
 -- the length is small
 small : tie.Need-add-length-4

@@ -103,7 +103,8 @@ module _ {M : Type 1} (𝓤 : URA M) (H : Heap 𝓤) (A : Atoms 𝓤) (mem₀ : 
   Whole = tripleOf 𝓤 H A post.signature (post.spec 𝓤 H A mem₀ run)
 
 module _ {M : Type 1} (𝓤 : URA M) (H : Heap 𝓤) (A : Atoms 𝓤) (W : Given 𝓤 H A) (mem₀ : Memory → SProp 𝓤) (run : Routine → Fun 𝓤) (κ κ₁ κᵢ κ₂ : Lft) (q q₁ qᵢ q₂ : Share)
-    (img : RefT (List ℕ)) (mains b o : ℕ) (γ : GName) (ys : List Request) (bᵢ oᵢ : ℕ) (γᵢ : GName) (index₀ : List ℕ) (b₂ o₂ : ℕ) (γ₂ : GName) (out₀ : List ℕ) (m-fits : mains < 2 ^ 64) (room : Room R (length ys)) (roomᵢ : Room u64 (length index₀)) (room₂ : Room u8 (length out₀)) where
+    (img : RefT (List ℕ)) (mains b o : ℕ) (γ : GName) (ys : List Request) (bᵢ oᵢ : ℕ) (γᵢ : GName) (index₀ : List ℕ) (b₂ o₂ : ℕ) (γ₂ : GName) (out₀ : List ℕ) (m-fits : mains < 2 ^ 64)
+    (room : Room R (length ys)) (roomᵢ : Room u64 (length index₀)) (room₂ : Room u8 (length out₀)) where
   abbrev records : RefT (List Request)
   records = record { ptr = (b, o); name = γ; now = ys }
 
@@ -185,24 +186,32 @@ module _ {M : Type 1} (𝓤 : URA M) (H : Heap 𝓤) (A : Atoms 𝓤) (W : Given
     body : Sq W Entry (runs C Λ En parts.t-1 (atRet En Post))
     body =
         assigns ! (addr ! (from ! (fld ! refl (hop ! (look-in ! 16 (sub ! 0 refl (whole !))) (stop !))))) (from ! (stop !)) (init ! 10 refl (tt, tt)) $
-        assigns ! (agg ! (and-then ! (load ! (from ! (stop !)) (look ! 10 refl)) (and-then ! (load ! (from ! (fld ! refl (stop !))) (look-in ! 16 (sub ! 1 refl (whole !)))) (no-more !)))) (from ! (stop !)) (init ! 8 refl (tt, (tt, (record { fits = room .0 }, tt)))) $
+        assigns ! (agg ! (and-then ! (load ! (from ! (stop !)) (look ! 10 refl)) (and-then ! (load ! (from ! (fld ! refl (stop !))) (look-in ! 16 (sub ! 1 refl (whole !)))) (no-more !))))
+        (from ! (stop !)) (init ! 8 refl (tt, (tt, (record { fits = room .0 }, tt)))) $
         assigns ! (addr ! (from ! (fld ! refl (hop ! (look-in ! 14 (sub ! 0 refl (whole !))) (stop !))))) (from ! (stop !)) (init ! 6 refl (tt, tt)) $
-        assigns ! (agg ! (and-then ! (load ! (from ! (stop !)) (look ! 6 refl)) (and-then ! (load ! (from ! (fld ! refl (stop !))) (look-in ! 14 (sub ! 1 refl (whole !)))) (no-more !)))) (from ! (stop !)) (init ! 4 refl (tt, (tt, (record { fits = roomᵢ .0 }, tt)))) $
+        assigns ! (agg ! (and-then ! (load ! (from ! (stop !)) (look ! 6 refl)) (and-then ! (load ! (from ! (fld ! refl (stop !))) (look-in ! 14 (sub ! 1 refl (whole !)))) (no-more !))))
+        (from ! (stop !)) (init ! 4 refl (tt, (tt, (record { fits = roomᵢ .0 }, tt)))) $
         assigns ! (addr ! (from ! (fld ! refl (hop ! (look-in ! 12 (sub ! 0 refl (whole !))) (stop !))))) (from ! (stop !)) (init ! 2 refl (tt, tt)) $
-        assigns ! (agg ! (and-then ! (load ! (from ! (stop !)) (look ! 2 refl)) (and-then ! (load ! (from ! (fld ! refl (stop !))) (look-in ! 12 (sub ! 1 refl (whole !)))) (no-more !)))) (from ! (stop !)) (init ! 0 refl (tt, (tt, (record { fits = room₂ .0 }, tt)))) $
+        assigns ! (agg ! (and-then ! (load ! (from ! (stop !)) (look ! 2 refl)) (and-then ! (load ! (from ! (fld ! refl (stop !))) (look-in ! 12 (sub ! 1 refl (whole !)))) (no-more !))))
+        (from ! (stop !)) (init ! 0 refl (tt, (tt, (record { fits = room₂ .0 }, tt)))) $
         move ! (24 ∷ 25 ∷ []) $ use2 W (raw (Whole 𝓤 H A mem₀ run .pre asks)) goes $
         calls-at ! (fmOf 𝓤 H (W .laws) 𝓣) (Whole 𝓤 H A mem₀ run) posts asks
-        (and-then ! (load ! (from ! (stop !)) (look ! 21 refl)) (and-then ! (load ! (from ! (stop !)) (look ! 19 refl)) (and-then ! (load ! (from ! (stop !)) (look ! 9 refl)) (and-then ! (load ! (from ! (stop !)) (look ! 5 refl)) (and-then ! (load ! (from ! (stop !)) (look ! 1 refl)) (no-more !)))))) (λ w.
+        (and-then ! (load ! (from ! (stop !)) (look ! 21 refl))
+        (and-then ! (load ! (from ! (stop !)) (look ! 19 refl))
+        (and-then ! (load ! (from ! (stop !)) (look ! 9 refl)) (and-then ! (load ! (from ! (stop !)) (look ! 5 refl)) (and-then ! (load ! (from ! (stop !)) (look ! 1 refl)) (no-more !)))))) (λ w.
         use1 W (later (some (λ (y : Answer). (Tokens ⊛ ‵ (An.the-row .own y (w ∷ []))) ⊛ raw (ensured 𝓤 H A post.ended (post.clauses 𝓤 H A mem₀ run) (κ, (κ₁, (κᵢ, (κ₂, tt)))) x tt y))))
         (id⊢ 𝓤 _) $ await ! tt $ pick ! (λ y. split ! $ move ! (1 ∷ []) $
         use1 W (some (λ (zs : Unit {0} × (Unit {0} × (List Request × (List ℕ × (List ℕ × Unit {0}))))). ‵ (lasts post.ended (κ, (κ₁, (κᵢ, (κ₂, tt)))) x zs) ⊛ raw
         (fact 𝓤 (Posts (img .now) mains ys index₀ out₀ y (zs .1 .1 .0) (zs .1 .1 .1 .0) (zs .1 .1 .1 .1 .0)))))
-        (id⊢ 𝓤 _) $ pick ! (λ zs. split ! $ move ! (1 ∷ []) $ heard ! (Posts (img .now) mains ys index₀ out₀ y (zs .1 .1 .0) (zs .1 .1 .1 .0) (zs .1 .1 .1 .1 .0)) (λ e. fsplit ! $ drop ! $ fsplit ! $ drop ! $
-        fsplit ! $ fsplit ! $ move ! (1 ∷ []) $ feqL ! (λ ln. move ! (1 ∷ []) $ fsplit ! $ fsplit ! $ move ! (1 ∷ []) $ feqL ! (λ lnᵢ. move ! (1 ∷ []) $ fsplit ! $ move ! (1 ∷ []) $ drop ! $ fsplit ! $ move ! (1 ∷ []) $ feqL ! (λ ln₂.
+        (id⊢ 𝓤 _) $ pick ! (λ zs. split ! $ move ! (1 ∷ []) $ heard ! (Posts (img .now) mains ys index₀ out₀ y (zs .1 .1 .0) (zs .1 .1 .1 .0) (zs .1 .1 .1 .1 .0))
+        (λ e. fsplit ! $ drop ! $ fsplit ! $ drop ! $
+        fsplit ! $ fsplit ! $ move ! (1 ∷ []) $ feqL ! (λ ln. move ! (1 ∷ []) $ fsplit ! $ fsplit ! $ move ! (1 ∷ [])
+        $ feqL ! (λ lnᵢ. move ! (1 ∷ []) $ fsplit ! $ move ! (1 ∷ []) $ drop ! $ fsplit ! $ move ! (1 ∷ []) $ feqL ! (λ ln₂.
         move ! (3 ∷ []) $ split ! $ move ! (1 ∷ []) $ peeks ! An.the-row (Is An.the-row) (shows 𝓤 H A An.the-row) y (w ∷ []) (λ is.
         land ! (from ! (stop !)) (init ! 27 refl (LL.lawful An.the-type An′.the-laws 𝓤 H A W .typed y _ is .0)) $
         rewrite ! 27 (λ (z : Val). ‵ (fat fullShare An′.mir l₀ 0 z)) (ap only (LL.tells An.the-type An′.the-laws y _ is)) refl $ drop ! $
-        returns ! (look ! 26 refl) $ forget ! 26 refl $ forget ! 24 refl $ forget ! 22 refl $ forget ! 20 refl $ forget ! 18 refl $ forget ! 16 refl $ forget ! 14 refl $ forget ! 12 refl $ forget ! 10 refl $ forget ! 8 refl $ forget ! 6 refl $ forget ! 4 refl $
+        returns ! (look ! 26 refl) $ forget ! 26 refl $ forget ! 24 refl $ forget ! 22 refl $ forget ! 20 refl $ forget ! 18 refl $ forget ! 16 refl $ forget ! 14 refl $ forget ! 12 refl
+        $ forget ! 10 refl $ forget ! 8 refl $ forget ! 6 refl $ forget ! 4 refl $
         move ! (26 ∷ 27 ∷ []) $ free1 ! $ move ! (24 ∷ 25 ∷ []) $ free1 ! $ move ! (22 ∷ 23 ∷ []) $ free1 ! $ move ! (20 ∷ 21 ∷ []) $ free1 ! $ move ! (18 ∷ 19 ∷ []) $ free1 ! $
         move ! (16 ∷ 17 ∷ []) $ free1 ! $ move ! (14 ∷ 15 ∷ []) $ free1 ! $ move ! (12 ∷ 13 ∷ []) $ free1 ! $ move ! (10 ∷ 11 ∷ []) $ free1 ! $ move ! (8 ∷ 9 ∷ []) $ free1 ! $
         move ! (6 ∷ 7 ∷ []) $ free1 ! $ move ! (4 ∷ 5 ∷ []) $ free1 ! $ free0 ! $ keep ! (3 ∷ 2 ∷ 1 ∷ 0 ∷ []) $
@@ -213,7 +222,8 @@ module _ {M : Type 1} (𝓤 : URA M) (H : Heap 𝓤) (A : Atoms 𝓤) (W : Given
       → ent 𝓤 (onEntry 𝓤 H A f.signature (κ, (κ₁, (κᵢ, (κ₂, tt)))) (q, (q₁, (qᵢ, (q₂, tt)))) x vals) (WpFn 𝓤 H (𝓣 .C) (𝓣 .Λ) code.function (v₁ ∷ vint w64 mains ∷ v₂ ∷ vᵢ ∷ v₃ ∷ []) Post)
   walk 𝓣 posts p =
       qed W (Tokens ∷ ‵ Owned ∷ []) ∵ enter ! (𝓣 .C) (𝓣 .Λ) code.function (v₁ ∷ vint w64 mains ∷ v₂ ∷ vᵢ ∷ v₃ ∷ []) _ $
-      alloc1 ! (λ l₀. alloc1 ! (λ l₁. alloc1 ! (λ lₘ. alloc1 ! (λ l₂. alloc1 ! (λ lᵢ. alloc1 ! (λ l₃. alloc1 ! (λ l₄. alloc1 ! (λ l₅. alloc1 ! (λ lᵣ. alloc1 ! (λ lₐ. alloc1 ! (λ l₆. alloc1 ! (λ l₇. alloc0 ! $ params1 ! $
+      alloc1 ! (λ l₀. alloc1 ! (λ l₁. alloc1 ! (λ lₘ. alloc1 !
+      (λ l₂. alloc1 ! (λ lᵢ. alloc1 ! (λ l₃. alloc1 ! (λ l₄. alloc1 ! (λ l₅. alloc1 ! (λ lᵣ. alloc1 ! (λ lₐ. alloc1 ! (λ l₆. alloc1 ! (λ l₇. alloc0 ! $ params1 ! $
       pass1 ! (init ! 20 refl (shr-slice-lawful 𝓤 H A W (named 0) κ u8 .typed img (v₁ ∷ []) p .0)) $ pass1 ! (init ! 18 refl (tt, record { fits = m-fits })) $
       pass1 ! (init ! 16 refl (tt, (tt, (record { fits = room .0 }, tt)))) $ pass1 ! (init ! 14 refl (tt, (tt, (record { fits = roomᵢ .0 }, tt)))) $
       pass1 ! (init ! 12 refl (tt, (tt, (record { fits = room₂ .0 }, tt)))) $ pass0 ! $
@@ -223,7 +233,13 @@ module _ {M : Type 1} (𝓤 : URA M) (H : Heap 𝓤) (A : Atoms 𝓤) (W : Given
     (posts : Triple 𝓤 (𝓣 .C #posting·post) (Whole 𝓤 H A mem₀ run)) where
   post-walks : Walks 𝓤 H A f.ended stayed (WpFn 𝓤 H (𝓣 .C) (𝓣 .Λ) code.function) (f.clauses 𝓤 H A mem₀ run)
   post-walks = walked 𝓤 H A f.ended stayed (f.clauses 𝓤 H A mem₀ run) (WpFn 𝓤 H (𝓣 .C) (𝓣 .Λ) code.function) (λ κs. (slice-vals, (uint-vals w64, (slice-vals, (slice-vals, (slice-vals, tt))))))
-      (λ κs. (shr-slice-tells (named 0) (κs .0) u8, (uint-tells w64, (mut-slice-tells (named 1) (κs .1 .0) R, (mut-slice-tells (named 2) (κs .1 .1 .0) u64, (mut-slice-tells (named 3) (κs .1 .1 .1 .0) u8, tt))))))
+      (λ κs. (
+        shr-slice-tells (named 0) (κs .0) u8,
+        (
+          uint-tells w64,
+          (mut-slice-tells (named 1) (κs .1 .0) R, (mut-slice-tells (named 2) (κs .1 .1 .0) u64, (mut-slice-tells (named 3) (κs .1 .1 .1 .0) u8, tt))),
+        ),
+      ))
       (λ κs qs bounds a g are. via 𝓤 _ (fst∗ 𝓤 _ (emp 𝓤)) (walk 𝓤 H A W mem₀ run (κs .0) (κs .1 .0) (κs .1 .1 .0) (κs .1 .1 .1 .0) (qs .0) (qs .1 .0) (qs .1 .1 .0) (qs .1 .1 .1 .0) (a .0) (a .1 .0)
       (a .1 .1 .0 .ptr .0) (a .1 .1 .0 .ptr .1) (a .1 .1 .0 .name) (a .1 .1 .0 .now) (a .1 .1 .1 .0 .ptr .0) (a .1 .1 .1 .0 .ptr .1) (a .1 .1 .1 .0 .name) (a .1 .1 .1 .0 .now)
       (a .1 .1 .1 .1 .0 .ptr .0) (a .1 .1 .1 .1 .0 .ptr .1) (a .1 .1 .1 .1 .0 .name) (a .1 .1 .1 .1 .0 .now)

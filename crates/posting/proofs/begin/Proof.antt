@@ -33,7 +33,8 @@ returns-2 : tie.Need-returns-2
 returns-2 c =
     let w = c .before .before in
     begun-beyond (w .before .before .before .verdict .ensures) _ _ _ _ _ (w .before .before .if1 .left)
-    (λ l. fails (w .within .ensures) (not-true _ (c .before .if2 .taken)) (subst (λ (N : ℕ). NoBitFrom N (w .before .before .before .before .before .before .args .mains)) (sym (w .before .read .ensures .nodes)) l))
+    (λ l. fails (w .within .ensures) (not-true _ (c .before .if2 .taken))
+    (subst (λ (N : ℕ). NoBitFrom N (w .before .before .before .before .before .before .args .mains)) (sym (w .before .read .ensures .nodes)) l))
     (c .refused2 .ensures .0) (c .refused2 .ensures .1)
 
 returns-3 : tie.Need-returns-3

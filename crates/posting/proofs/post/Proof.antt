@@ -352,7 +352,8 @@ module _ {M : Type 1} (𝓤 : URA M) (H : Heap 𝓤) (A : Atoms 𝓤) (W : Given
       (sep 𝓤 (sem 𝓤 H A (fsep (View θ l ζ s) (View′ θ′ l′ ζ′ w))) (sem 𝓤 H A (fsep Ix Ou))))
       (Settle 𝓤 H A mem₀ run .pre (asks-settle l l′ θ θ′ ζ ζ′ s w t))
   goes-settle l l′ θ θ′ ζ ζ′ s w t is wide =
-      qed W ((‵ (flft (θ ∷ []) fullShare) ⊛ ‵ (flft (θ′ ∷ []) fullShare) ⊛ ‵ (flft κᵢ qᵢ) ⊛ ‵ (flft κ₂ q₂) ⊛ ‵ ftrue) ∷ ‵ (fsep (View θ l ζ s) (View′ θ′ l′ ζ′ w)) ∷ ‵ (fsep Ix Ou) ∷ []) ∵ says ! wide $
+      qed W ((‵ (flft (θ ∷ []) fullShare) ⊛ ‵ (flft (θ′ ∷ []) fullShare) ⊛ ‵ (flft κᵢ qᵢ) ⊛ ‵ (flft κ₂ q₂) ⊛ ‵ ftrue) ∷ ‵ (fsep (View θ l ζ s) (View′ θ′ l′ ζ′ w)) ∷ ‵ (fsep Ix Ou)
+      ∷ []) ∵ says ! wide $
       -- [the index; the output; the tokens; the views]
       move ! (2 ∷ []) $ fsplit ! $ nothing ! $ move ! (2 ∷ 0 ∷ []) $ fjoin ! $ move ! (1 ∷ 0 ∷ []) $ fjoin ! $
       owned ! S.the-row (Is S.the-row) ((LL.makes S.the-type S′.the-plain) 𝓤 H A) t _ is $ fjoin ! $ move ! (2 ∷ []) $ fsplit ! $ move ! (1 ∷ 2 ∷ []) $ fjoin ! $
@@ -395,11 +396,13 @@ module _ {M : Type 1} (𝓤 : URA M) (H : Heap 𝓤) (A : Atoms 𝓤) (W : Given
         ∷ ‵ (froom part′ lₚ 0) ∷ ‵ (fdies part′ lₚ) ∷ ‵ (froom refᵢ lᵣ 0) ∷ ‵ (fdies refᵢ lᵣ) ∷ ‵ (froom againᵢ lₐ 0) ∷ ‵ (fdies againᵢ lₐ)
         ∷ ‵ (froom ref′ l₂₀ 0) ∷ ‵ (fdies ref′ l₂₀) ∷ ‵ (froom again′ l₂₁ 0) ∷ ‵ (fdies again′ l₂₁) ∷ []
 
-    leaves : (zs : List Request) (xs ws : List ℕ) (r : Answer) → Posts (img .now) mains ys index₀ out₀ r zs xs ws → length zs ≡ n → length xs ≡ nᵢ → length ws ≡ n₂ → Is An.the-row r (An′.lowered r ∷ [])
+    leaves : (zs : List Request) (xs ws : List ℕ) (r : Answer) → Posts (img .now) mains ys index₀ out₀ r zs xs ws → length zs ≡ n → length xs ≡ nᵢ → length ws ≡ n₂
+        → Is An.the-row r (An′.lowered r ∷ [])
         → Sq W (Meet zs xs ws r) (runs C Λ En parts.t-11 (atRet En Post))
     leaves zs xs ws r e l lᵢ′ l₂′ is =
         assigns ! (of-opd ! (load ! (from ! (stop !)) (look ! 7 refl))) (from ! (stop !)) (init ! 9 refl (LL.lawful An.the-type An′.the-laws 𝓤 H A W .typed r _ is .0)) $
-        returns ! (look ! 9 refl) $ forget ! 9 refl $ forget ! 7 refl $ move ! (9 ∷ 10 ∷ []) $ free1 ! $ move ! (9 ∷ 10 ∷ []) $ free1 ! $ move ! (9 ∷ 10 ∷ []) $ free1 ! $ move ! (9 ∷ 10 ∷ []) $ free1 ! $ move ! (9 ∷ 10 ∷ []) $ free1 ! $
+        returns ! (look ! 9 refl) $ forget ! 9 refl $ forget ! 7 refl $ move ! (9 ∷ 10 ∷ []) $ free1 ! $ move ! (9 ∷ 10 ∷ []) $ free1 ! $ move ! (9 ∷ 10 ∷ []) $ free1 ! $ move ! (9 ∷ 10 ∷ [])
+        $ free1 ! $ move ! (9 ∷ 10 ∷ []) $ free1 ! $
         move ! (9 ∷ 10 ∷ []) $ free1 ! $ move ! (9 ∷ 10 ∷ []) $ free1 ! $ move ! (9 ∷ 10 ∷ []) $ free1 ! $ move ! (9 ∷ 10 ∷ []) $ free1 ! $ move ! (9 ∷ 10 ∷ []) $ free1 ! $
         move ! (9 ∷ 10 ∷ []) $ free1 ! $ move ! (9 ∷ 10 ∷ []) $ free1 ! $ move ! (9 ∷ 10 ∷ []) $ free1 ! $ move ! (9 ∷ 10 ∷ []) $ free1 ! $ move ! (9 ∷ 10 ∷ []) $ free1 ! $
         move ! (9 ∷ 10 ∷ []) $ free1 ! $ move ! (7 ∷ 8 ∷ []) $ free1 ! $ move ! (7 ∷ 8 ∷ []) $ free1 ! $ move ! (7 ∷ 8 ∷ []) $ free1 ! $ move ! (7 ∷ 8 ∷ []) $ free1 ! $
@@ -441,7 +444,8 @@ module _ {M : Type 1} (𝓤 : URA M) (H : Heap 𝓤) (A : Atoms 𝓤) (W : Given
         ∷ ‵ (fdies againᵢ lₐ) ∷ ‵ (fdies ref′ l₂₀) ∷ ‵ (fdies again′ l₂₁) ∷ []
 
     -- the call is refused: the records, the index and the output are left alone
-    refuses : (y : Answer) (s w : List ℕ) → Begun (img .now) mains n nᵢ n₂ y s w → (y .number ≡ 0 → ⊥) → Is An.the-row y (An′.lowered y ∷ []) → Sq W (Begun-at y s w) (runs C Λ En (else-arm parts.s-10) Q)
+    refuses : (y : Answer) (s w : List ℕ) → Begun (img .now) mains n nᵢ n₂ y s w → (y .number ≡ 0 → ⊥) → Is An.the-row y (An′.lowered y ∷ [])
+        → Sq W (Begun-at y s w) (runs C Λ En (else-arm parts.s-10) Q)
     refuses y s w e f′ is =
         assigns-last ! (of-opd ! (load ! (from ! (stop !)) (look ! 15 refl))) (from ! (stop !))
         (init ! 23 refl (LL.lawful An.the-type An′.the-laws 𝓤 H A W .typed y _ is .0)) $ exec ! C Λ En parts.t-11 (atRet En Post) $ move ! (4 ∷ []) $
@@ -451,7 +455,8 @@ module _ {M : Type 1} (𝓤 : URA M) (H : Heap 𝓤) (A : Atoms 𝓤) (W : Given
         use1 W (‵ (froom bytes l₄ 0)) (lies-out 𝓤 H A W u8 (longestImage newest) s l₄) $ move ! (8 ∷ []) $
         use1 W (‵ (froom words l₅ 0)) (lies-out 𝓤 H A W u64 indexLength w l₅) $
         forget ! 10 refl $ forget ! 11 refl $ forget ! 12 refl $ forget ! 13 refl $ forget ! 14 refl $ forget ! 15 refl $
-        keep ! (4 ∷ 3 ∷ 2 ∷ 5 ∷ 6 ∷ 7 ∷ 8 ∷ 23 ∷ 52 ∷ 9 ∷ 36 ∷ 10 ∷ 37 ∷ 11 ∷ 38 ∷ 12 ∷ 39 ∷ 13 ∷ 40 ∷ 14 ∷ 41 ∷ 1 ∷ 42 ∷ 0 ∷ 43 ∷ 15 ∷ 44 ∷ 16 ∷ 45 ∷ 17 ∷ 46 ∷ 18 ∷ 47 ∷ 19 ∷ 48 ∷ 20 ∷ 49 ∷ 21 ∷ 50 ∷ 22 ∷ 51 ∷ 24 ∷ 53 ∷ 25 ∷ 54 ∷ 26 ∷ 55 ∷ 27 ∷ 56 ∷ 28 ∷ 57 ∷ 29 ∷ 58 ∷ 30 ∷ 59 ∷ 31 ∷ 60 ∷ 32 ∷ 61 ∷ 33 ∷ 62 ∷ 34 ∷ 63 ∷ 35 ∷ 64 ∷ []) $
+        keep ! (4 ∷ 3 ∷ 2 ∷ 5 ∷ 6 ∷ 7 ∷ 8 ∷ 23 ∷ 52 ∷ 9 ∷ 36 ∷ 10 ∷ 37 ∷ 11 ∷ 38 ∷ 12 ∷ 39 ∷ 13 ∷ 40 ∷ 14 ∷ 41 ∷ 1 ∷ 42 ∷ 0 ∷ 43 ∷ 15 ∷ 44 ∷ 16 ∷ 45 ∷ 17 ∷ 46 ∷ 18 ∷ 47 ∷ 19 ∷ 48 ∷ 20 ∷ 49 ∷ 21 ∷ 50
+        ∷ 22 ∷ 51 ∷ 24 ∷ 53 ∷ 25 ∷ 54 ∷ 26 ∷ 55 ∷ 27 ∷ 56 ∷ 28 ∷ 57 ∷ 29 ∷ 58 ∷ 30 ∷ 59 ∷ 31 ∷ 60 ∷ 32 ∷ 61 ∷ 33 ∷ 62 ∷ 34 ∷ 63 ∷ 35 ∷ 64 ∷ []) $
         leaves ys index₀ out₀ y (posts-refused mains ys index₀ out₀ y e f′) refl refl refl is
 
     -- the index is given, and the book is written where a record was done
@@ -459,13 +464,17 @@ module _ {M : Type 1} (𝓤 : URA M) (H : Heap 𝓤) (A : Atoms 𝓤) (W : Given
         → length zs ≡ n → Is S.the-row t (S′.lowered t ∷ []) → Sq W (Worked-at zs s w t) (runs C Λ En (after 5 (then-arm parts.s-10)) Q)
     ending y s₀ w₀ e z t zs s w p ln it =
         assigns ! (addr ! (from ! (stop !))) (from ! (stop !)) (init ! 28 refl (tt, tt)) $
-        assigns ! (agg ! (and-then ! (load ! (from ! (stop !)) (look ! 28 refl)) (and-then ! (big-lit ! (record { fits = lit< tt })) (no-more !)))) (from ! (stop !)) (init ! 29 refl (tt, (tt, (record { fits = lit< tt }, tt)))) $
+        assigns ! (agg ! (and-then ! (load ! (from ! (stop !)) (look ! 28 refl)) (and-then ! (big-lit ! (record { fits = lit< tt })) (no-more !)))) (from ! (stop !))
+        (init ! 29 refl (tt, (tt, (record { fits = lit< tt }, tt)))) $
         assigns ! (addr ! (from ! (stop !))) (from ! (stop !)) (init ! 30 refl (tt, tt)) $
-        assigns ! (agg ! (and-then ! (load ! (from ! (stop !)) (look ! 30 refl)) (and-then ! (big-lit ! (record { fits = lit< tt })) (no-more !)))) (from ! (stop !)) (init ! 31 refl (tt, (tt, (record { fits = lit< tt }, tt)))) $
+        assigns ! (agg ! (and-then ! (load ! (from ! (stop !)) (look ! 30 refl)) (and-then ! (big-lit ! (record { fits = lit< tt })) (no-more !)))) (from ! (stop !))
+        (init ! 31 refl (tt, (tt, (record { fits = lit< tt }, tt)))) $
         assigns ! (addr ! (from ! (fld ! refl (hop ! (look-in ! 13 (sub ! 0 refl (whole !))) (stop !))))) (from ! (stop !)) (init ! 32 refl (tt, tt)) $
-        assigns ! (agg ! (and-then ! (load ! (from ! (stop !)) (look ! 32 refl)) (and-then ! (load ! (from ! (fld ! refl (stop !))) (look-in ! 13 (sub ! 1 refl (whole !)))) (no-more !)))) (from ! (stop !)) (init ! 33 refl (tt, (tt, (record { fits = roomᵢ .0 }, tt)))) $
+        assigns ! (agg ! (and-then ! (load ! (from ! (stop !)) (look ! 32 refl)) (and-then ! (load ! (from ! (fld ! refl (stop !))) (look-in ! 13 (sub ! 1 refl (whole !)))) (no-more !))))
+        (from ! (stop !)) (init ! 33 refl (tt, (tt, (record { fits = roomᵢ .0 }, tt)))) $
         assigns ! (addr ! (from ! (fld ! refl (hop ! (look-in ! 14 (sub ! 0 refl (whole !))) (stop !))))) (from ! (stop !)) (init ! 34 refl (tt, tt)) $
-        assigns ! (agg ! (and-then ! (load ! (from ! (stop !)) (look ! 34 refl)) (and-then ! (load ! (from ! (fld ! refl (stop !))) (look-in ! 14 (sub ! 1 refl (whole !)))) (no-more !)))) (from ! (stop !)) (init ! 35 refl (tt, (tt, (record { fits = room₂ .0 }, tt)))) $
+        assigns ! (agg ! (and-then ! (load ! (from ! (stop !)) (look ! 34 refl)) (and-then ! (load ! (from ! (fld ! refl (stop !))) (look-in ! 14 (sub ! 1 refl (whole !)))) (no-more !))))
+        (from ! (stop !)) (init ! 35 refl (tt, (tt, (record { fits = room₂ .0 }, tt)))) $
         -- the book and the words are lent as slices for lifetimes θ and θ′
         rewrite ! 29 (λ (k : ℕ). ‵ (fat fullShare part l₁₉ 0 (sliceVal (l₄, 0) k))) (sym (p .standing .room)) refl $
         rewrite ! 31 (λ (k : ℕ). ‵ (fat fullShare part′ lₚ 0 (sliceVal (l₅, 0) k))) (sym (p .standing .image .index .size)) refl $ move ! (7 ∷ []) $
@@ -478,36 +487,47 @@ module _ {M : Type 1} (𝓤 : URA M) (H : Heap 𝓤) (A : Atoms 𝓤) (W : Given
         rewrite ! 0 (λ (k : ℕ). ‵ (arr-parts (shares u64) k .part fullShare w l₅ 0)) (sym (p .standing .image .index .size)) refl $
         lft-new ! tt (λ θ′. move ! (1 ∷ []) $
         use1 W (later (some (λ (ζ′ : GName). ‵ (View′ θ′ l₅ ζ′ w) ⊛ ‵ (flent (θ′ ∷ []) (arr-parts (shares u64) (length w) .part fullShare w l₅ 0)))))
-        (lends-shr-slice 𝓤 H A W u64 (named 1) (θ′ ∷ []) fullShare w l₅ 0 (words-room w (p .standing .image .index .size))) $ await ! tt $ pick ! (λ ζ′. split ! $ nothing ! $ move ! (10 ∷ 0 ∷ []) $ join ! $ move ! (9 ∷ 0 ∷ []) $ join ! $ move ! (3 ∷ 0 ∷ []) $ join ! $ move ! (5 ∷ 0 ∷ []) $ join ! $ move ! (8 ∷ 9 ∷ []) $ fjoin ! $ move ! (4 ∷ 2 ∷ []) $ fjoin ! $ move ! (2 ∷ 0 ∷ 1 ∷ []) $
+        (lends-shr-slice 𝓤 H A W u64 (named 1) (θ′ ∷ []) fullShare w l₅ 0 (words-room w (p .standing .image .index .size))) $ await ! tt
+        $ pick ! (λ ζ′. split ! $ nothing ! $ move ! (10 ∷ 0 ∷ []) $ join ! $ move ! (9 ∷ 0 ∷ []) $ join ! $ move ! (3 ∷ 0 ∷ []) $ join ! $ move ! (5 ∷ 0 ∷ []) $ join ! $ move ! (8 ∷ 9 ∷ [])
+        $ fjoin ! $ move ! (4 ∷ 2 ∷ []) $ fjoin ! $ move ! (2 ∷ 0 ∷ 1 ∷ []) $
         use3 W (raw (Settle 𝓤 H A mem₀ run .pre (asks-settle l₄ l₅ θ θ′ ζ ζ′ s w t)))
         (goes-settle l₄ l₅ θ θ′ ζ ζ′ s w t it (p .standing, subst (λ (k : ℕ). k ≤ n₂) (sym (p .standing .room)) (e .wide z), holds mains ys index₀ out₀ y e z t p)) $
         calls-at-last ! (fmOf 𝓤 H (W .laws) 𝓣) (Settle 𝓤 H A mem₀ run) settles (asks-settle l₄ l₅ θ θ′ ζ ζ′ s w t)
-        (and-then ! (load ! (from ! (stop !)) (look ! 26 refl)) (and-then ! (load ! (from ! (stop !)) (look ! 28 refl)) (and-then ! (load ! (from ! (stop !)) (look ! 13 refl)) (and-then ! (load ! (from ! (stop !)) (look ! 30 refl)) (and-then ! (load ! (from ! (stop !)) (look ! 32 refl)) (no-more !)))))) (λ wf.
+        (and-then ! (load ! (from ! (stop !)) (look ! 26 refl))
+        (and-then ! (load ! (from ! (stop !)) (look ! 28 refl))
+        (and-then ! (load ! (from ! (stop !)) (look ! 13 refl)) (and-then ! (load ! (from ! (stop !)) (look ! 30 refl)) (and-then ! (load ! (from ! (stop !)) (look ! 32 refl)) (no-more !))))))
+        (λ wf.
         use1 W (later (some (λ (r : Answer). ((‵ (flft (θ ∷ []) fullShare) ⊛ ‵ (flft (θ′ ∷ []) fullShare) ⊛ ‵ (flft κᵢ qᵢ) ⊛ ‵ (flft κ₂ q₂) ⊛ ‵ ftrue) ⊛ ‵ (An.the-row .own r (wf ∷ []))) ⊛ raw
         (Settles θ θ′ ζ ζ′ l₄ l₅ s w t r))))
         (id⊢ 𝓤 _) $ await ! tt $ pick ! (λ r. split ! $ move ! (1 ∷ []) $
         use1 W (some (λ (os : Unit {0} × (Unit {0} × (Unit {0} × (List ℕ × (List ℕ × Unit {0}))))). ‵ (lasts settle.ended (θ ∷ [], (θ′ ∷ [], (κᵢ, (κ₂, tt)))) (settle-args l₄ l₅ ζ ζ′ s w t) os) ⊛ raw
         (fact 𝓤 (Settled s w t index₀ out₀ r (os .1 .1 .1 .0) (os .1 .1 .1 .1 .0)))))
-        (id⊢ 𝓤 _) $ pick ! (λ os. split ! $ move ! (1 ∷ []) $ heard ! (Settled s w t index₀ out₀ r (os .1 .1 .1 .0) (os .1 .1 .1 .1 .0)) (λ f′. fsplit ! $ drop ! $ fsplit ! $ drop ! $ fsplit ! $ drop ! $
-        fsplit ! $ fsplit ! $ move ! (1 ∷ []) $ feqL ! (λ lnᵢ. move ! (1 ∷ []) $ fsplit ! $ move ! (1 ∷ []) $ drop ! $ fsplit ! $ move ! (1 ∷ []) $ feqL ! (λ ln₂. move ! (2 ∷ []) $ split ! $ move ! (1 ∷ []) $
+        (id⊢ 𝓤 _) $ pick ! (λ os. split ! $ move ! (1 ∷ []) $ heard ! (Settled s w t index₀ out₀ r (os .1 .1 .1 .0) (os .1 .1 .1 .1 .0))
+        (λ f′. fsplit ! $ drop ! $ fsplit ! $ drop ! $ fsplit ! $ drop ! $
+        fsplit ! $ fsplit ! $ move ! (1 ∷ []) $ feqL ! (λ lnᵢ. move ! (1 ∷ []) $ fsplit ! $ move ! (1 ∷ []) $ drop ! $ fsplit ! $ move ! (1 ∷ [])
+        $ feqL ! (λ ln₂. move ! (2 ∷ []) $ split ! $ move ! (1 ∷ []) $
         peeks ! An.the-row (Is An.the-row) (shows 𝓤 H A An.the-row) r (wf ∷ []) (λ ir.
         land-last ! (from ! (stop !)) (init ! 23 refl (LL.lawful An.the-type An′.the-laws 𝓤 H A W .typed r _ ir .0)) $ exec ! C Λ En parts.t-11 (atRet En Post) $
-        rewrite ! 23 (λ (z : Val). ‵ (fat fullShare An′.mir l₁₃ 0 z)) (ap only (LL.tells An.the-type An′.the-laws r _ ir)) refl $ drop ! $ split ! $ move ! (1 ∷ []) $ split ! $ move ! (1 ∷ []) $ split ! $ move ! (1 ∷ []) $ split ! $ move ! (1 ∷ []) $ drop ! $ move ! (3 ∷ []) $ lft-end ! tt $ move ! (0 ∷ 7 ∷ []) $ lent-back ! tt $
+        rewrite ! 23 (λ (z : Val). ‵ (fat fullShare An′.mir l₁₃ 0 z)) (ap only (LL.tells An.the-type An′.the-laws r _ ir)) refl $ drop ! $ split ! $ move ! (1 ∷ []) $ split ! $ move ! (1 ∷ [])
+        $ split ! $ move ! (1 ∷ []) $ split ! $ move ! (1 ∷ []) $ drop ! $ move ! (3 ∷ []) $ lft-end ! tt $ move ! (0 ∷ 7 ∷ []) $ lent-back ! tt $
         rewrite ! 0 (λ (k : ℕ). ‵ (arr-parts (shares u8) k .part fullShare s l₄ 0)) (p .standing .room) refl $
         use1 W (‵ (mem B .lies s l₄ 0)) (array-whole 𝓤 H A W u8 fullShare (longestImage newest) s l₄ 0) $
         use1 W (‵ (froom bytes l₄ 0)) (lies-out 𝓤 H A W u8 (longestImage newest) s l₄) $ move ! (3 ∷ []) $ lft-end ! tt $ move ! (0 ∷ 6 ∷ []) $ lent-back ! tt $
         rewrite ! 0 (λ (k : ℕ). ‵ (arr-parts (shares u64) k .part fullShare w l₅ 0)) (p .standing .image .index .size) refl $
         use1 W (‵ (mem X .lies w l₅ 0)) (array-whole 𝓤 H A W u64 fullShare indexLength w l₅ 0) $
         use1 W (‵ (froom words l₅ 0)) (lies-out 𝓤 H A W u64 indexLength w l₅) $
-        forget ! 10 refl $ forget ! 11 refl $ forget ! 12 refl $ forget ! 13 refl $ forget ! 14 refl $ forget ! 16 refl $ forget ! 28 refl $ forget ! 29 refl $ forget ! 30 refl $ forget ! 31 refl $ forget ! 32 refl $ forget ! 33 refl $ forget ! 34 refl $ forget ! 35 refl $
-        keep ! (8 ∷ 5 ∷ 4 ∷ 6 ∷ 7 ∷ 3 ∷ 2 ∷ 23 ∷ 52 ∷ 9 ∷ 36 ∷ 10 ∷ 37 ∷ 11 ∷ 38 ∷ 12 ∷ 39 ∷ 13 ∷ 40 ∷ 14 ∷ 41 ∷ 1 ∷ 42 ∷ 0 ∷ 43 ∷ 15 ∷ 44 ∷ 16 ∷ 45 ∷ 17 ∷ 46 ∷ 18 ∷ 47 ∷ 19 ∷ 48 ∷ 20 ∷ 49 ∷ 21 ∷ 50 ∷ 22 ∷ 51 ∷ 24 ∷ 53 ∷ 25 ∷ 54 ∷ 26 ∷ 55 ∷ 27 ∷ 56 ∷ 28 ∷ 57 ∷ 29 ∷ 58 ∷ 30 ∷ 59 ∷ 31 ∷ 60 ∷ 32 ∷ 61 ∷ 33 ∷ 62 ∷ 34 ∷ 63 ∷ 35 ∷ 64 ∷ []) $
+        forget ! 10 refl $ forget ! 11 refl $ forget ! 12 refl $ forget ! 13 refl $ forget ! 14 refl $ forget ! 16 refl $ forget ! 28 refl $ forget ! 29 refl $ forget ! 30 refl $ forget ! 31 refl
+        $ forget ! 32 refl $ forget ! 33 refl $ forget ! 34 refl $ forget ! 35 refl $
+        keep ! (8 ∷ 5 ∷ 4 ∷ 6 ∷ 7 ∷ 3 ∷ 2 ∷ 23 ∷ 52 ∷ 9 ∷ 36 ∷ 10 ∷ 37 ∷ 11 ∷ 38 ∷ 12 ∷ 39 ∷ 13 ∷ 40 ∷ 14 ∷ 41 ∷ 1 ∷ 42 ∷ 0 ∷ 43 ∷ 15 ∷ 44 ∷ 16 ∷ 45 ∷ 17 ∷ 46 ∷ 18 ∷ 47 ∷ 19 ∷ 48 ∷ 20 ∷ 49 ∷ 21 ∷ 50
+        ∷ 22 ∷ 51 ∷ 24 ∷ 53 ∷ 25 ∷ 54 ∷ 26 ∷ 55 ∷ 27 ∷ 56 ∷ 28 ∷ 57 ∷ 29 ∷ 58 ∷ 30 ∷ 59 ∷ 31 ∷ 60 ∷ 32 ∷ 61 ∷ 33 ∷ 62 ∷ 34 ∷ 63 ∷ 35 ∷ 64 ∷ []) $
         leaves zs (os .1 .1 .1 .0) (os .1 .1 .1 .1 .0) r (posts-done mains ys index₀ out₀ y e z t p r f′) ln lnᵢ ln₂ (is-answer r ir))))))))))))
 
     -- the list is worked through
     works : (y : Answer) (s w : List ℕ) → Begun (img .now) mains n nᵢ n₂ y s w → y .number ≡ 0 → Is An.the-row y (An′.lowered y ∷ []) → Sq W (Begun-at y s w) (runs C Λ En (then-arm parts.s-10) Q)
     works y s w e z is =
         assigns ! (addr ! (from ! (fld ! refl (hop ! (look-in ! 12 (sub ! 0 refl (whole !))) (stop !))))) (from ! (stop !)) (init ! 24 refl (tt, tt)) $
-        assigns ! (agg ! (and-then ! (load ! (from ! (stop !)) (look ! 24 refl)) (and-then ! (load ! (from ! (fld ! refl (stop !))) (look-in ! 12 (sub ! 1 refl (whole !)))) (no-more !)))) (from ! (stop !)) (init ! 25 refl (tt, (tt, (record { fits = room .0 }, tt)))) $
+        assigns ! (agg ! (and-then ! (load ! (from ! (stop !)) (look ! 24 refl)) (and-then ! (load ! (from ! (fld ! refl (stop !))) (look-in ! 12 (sub ! 1 refl (whole !)))) (no-more !))))
+        (from ! (stop !)) (init ! 25 refl (tt, (tt, (record { fits = room .0 }, tt)))) $
         assigns ! (addr ! (from ! (stop !))) (from ! (stop !)) (init ! 26 refl (tt, tt)) $
         assigns ! (addr ! (from ! (stop !))) (from ! (stop !)) (init ! 27 refl (tt, tt)) $
         -- the arrays are lent for lifetimes μ and μ′
@@ -516,24 +536,32 @@ module _ {M : Type 1} (𝓤 : URA M) (H : Heap 𝓤) (A : Atoms 𝓤) (W : Given
         await ! tt $ pick ! (λ ε. split ! $
         lft-new ! tt (λ μ′. move ! (11 ∷ []) $
         use1 W (later (some (λ (ε′ : GName). ‵ (LentX (named 2) μ′ l₅ ε′ w) ⊛ ‵ (flent (μ′ ∷ []) (Body (mem X) l₅ 0 ε′)))))
-        (lends-ref 𝓤 H A W X (named 2) (μ′ ∷ []) w l₅ 0) $ await ! tt $ pick ! (λ ε′. split ! $ nothing ! $ move ! (3 ∷ 0 ∷ []) $ join ! $ move ! (5 ∷ 0 ∷ []) $ join ! $ move ! (6 ∷ 0 ∷ []) $ join ! $ move ! (3 ∷ 1 ∷ []) $ fjoin ! $ move ! (1 ∷ 7 ∷ 0 ∷ []) $
+        (lends-ref 𝓤 H A W X (named 2) (μ′ ∷ []) w l₅ 0) $ await ! tt $ pick !
+        (λ ε′. split ! $ nothing ! $ move ! (3 ∷ 0 ∷ []) $ join ! $ move ! (5 ∷ 0 ∷ []) $ join ! $ move ! (6 ∷ 0 ∷ []) $ join ! $ move ! (3 ∷ 1 ∷ []) $ fjoin ! $ move ! (1 ∷ 7 ∷ 0 ∷ []) $
         use3 W (raw (All 𝓤 H A mem₀ run .pre (asks-all l₄ l₅ μ μ′ ε ε′ s w (y .length)))) (goes-all l₄ l₅ μ μ′ ε ε′ s w (y .length) (e .stands z .3 .0) (y-fits y is)) $
         calls-at ! (fmOf 𝓤 H (W .laws) 𝓣) (All 𝓤 H A mem₀ run) alls (asks-all l₄ l₅ μ μ′ ε ε′ s w (y .length))
-        (and-then ! (load ! (from ! (stop !)) (look ! 10 refl)) (and-then ! (load ! (from ! (stop !)) (look ! 24 refl)) (and-then ! (load ! (from ! (stop !)) (look ! 25 refl)) (and-then ! (load ! (from ! (stop !)) (look ! 26 refl)) (and-then ! (load ! (from ! (fld ! refl (stop !))) (look-in ! 14 (sub ! 1 refl (whole !)))) (no-more !)))))) (λ wa.
+        (and-then ! (load ! (from ! (stop !)) (look ! 10 refl))
+        (and-then ! (load ! (from ! (stop !)) (look ! 24 refl))
+        (and-then ! (load ! (from ! (stop !)) (look ! 25 refl))
+        (and-then ! (load ! (from ! (stop !)) (look ! 26 refl)) (and-then ! (load ! (from ! (fld ! refl (stop !))) (look-in ! 14 (sub ! 1 refl (whole !)))) (no-more !)))))) (λ wa.
         use1 W (later (some (λ (t : State). ((‵ (flft κ₁ q₁) ⊛ ‵ (flft (μ ∷ []) fullShare) ⊛ ‵ (flft (μ′ ∷ []) fullShare) ⊛ ‵ ftrue) ⊛ ‵ (S.the-row .own t (wa ∷ []))) ⊛ raw
         (Alls μ μ′ ε ε′ l₄ l₅ s w (y .length) t))))
         (id⊢ 𝓤 _) $ await ! tt $ pick ! (λ t. split ! $ move ! (1 ∷ []) $
-        use1 W (some (λ (xs : Unit {0} × (List Request × (List ℕ × (List ℕ × (Unit {0} × Unit {0}))))). ‵ (lasts all.ended (κ₁, (μ ∷ [], (μ′ ∷ [], tt))) (all-args l₄ l₅ ε ε′ s w (y .length)) xs) ⊛ raw
+        use1 W (some (λ (xs : Unit {0} × (List Request × (List ℕ × (List ℕ × (Unit {0} × Unit {0}))))). ‵
+        (lasts all.ended (κ₁, (μ ∷ [], (μ′ ∷ [], tt))) (all-args l₄ l₅ ε ε′ s w (y .length)) xs) ⊛ raw
         (fact 𝓤 (PostedAll mains ys s (y .length) t (xs .1 .0) (xs .1 .1 .0) (xs .1 .1 .1 .0)))))
         (id⊢ 𝓤 _) $ pick ! (λ xs. split ! $ move ! (1 ∷ []) $ heard ! (PostedAll mains ys s (y .length) t (xs .1 .0) (xs .1 .1 .0) (xs .1 .1 .1 .0)) (λ p. fsplit ! $ drop ! $ fsplit ! $ fsplit ! $
-        move ! (1 ∷ []) $ feqL ! (λ ln. move ! (1 ∷ []) $ fsplit ! $ move ! (1 ∷ []) $ fsplit ! $ move ! (1 ∷ []) $ drop ! $ move ! (3 ∷ []) $ split ! $ move ! (1 ∷ []) $ peeks ! S.the-row (Is S.the-row) (shows 𝓤 H A S.the-row) t (wa ∷ []) (λ it.
+        move ! (1 ∷ []) $ feqL ! (λ ln. move ! (1 ∷ []) $ fsplit ! $ move ! (1 ∷ []) $ fsplit ! $ move ! (1 ∷ []) $ drop ! $ move ! (3 ∷ []) $ split ! $ move ! (1 ∷ [])
+        $ peeks ! S.the-row (Is S.the-row) (shows 𝓤 H A S.the-row) t (wa ∷ []) (λ it.
         land ! (from ! (stop !)) (init ! 19 refl (LL.lawful S.the-type S′.the-laws 𝓤 H A W .typed t _ it .0)) $
-        rewrite ! 19 (λ (z : Val). ‵ (fat fullShare S′.mir l₇ 0 z)) (ap only (LL.tells S.the-type S′.the-laws t _ it)) refl $ drop ! $ split ! $ move ! (1 ∷ []) $ split ! $ move ! (1 ∷ []) $ split ! $ move ! (1 ∷ []) $ drop ! $ move ! (1 ∷ []) $ lft-end ! tt $ move ! (0 ∷ 7 ∷ 4 ∷ []) $
+        rewrite ! 19 (λ (z : Val). ‵ (fat fullShare S′.mir l₇ 0 z)) (ap only (LL.tells S.the-type S′.the-laws t _ it)) refl $ drop ! $ split ! $ move ! (1 ∷ []) $ split ! $ move ! (1 ∷ []) $ split !
+        $ move ! (1 ∷ []) $ drop ! $ move ! (1 ∷ []) $ lft-end ! tt $ move ! (0 ∷ 7 ∷ 4 ∷ []) $
         use3 W (later (‵ (mem B .lies (xs .1 .1 .0) l₄ 0))) (ref-back 𝓤 H A W B (μ ∷ []) ε (xs .1 .1 .0) l₄ 0) $ await ! tt $ move ! (1 ∷ []) $ lft-end ! tt $
         move ! (0 ∷ 5 ∷ 3 ∷ []) $
         use3 W (later (‵ (mem X .lies (xs .1 .1 .1 .0) l₅ 0))) (ref-back 𝓤 H A W X (μ′ ∷ []) ε′ (xs .1 .1 .1 .0) l₅ 0) $ await ! tt $
         forget ! 15 refl $ forget ! 24 refl $ forget ! 25 refl $ forget ! 26 refl $ forget ! 27 refl $
-        keep ! (4 ∷ 2 ∷ 5 ∷ 6 ∷ 3 ∷ 7 ∷ 8 ∷ 1 ∷ 0 ∷ 9 ∷ 10 ∷ 11 ∷ 12 ∷ 13 ∷ 14 ∷ 15 ∷ 16 ∷ 17 ∷ 18 ∷ 19 ∷ 20 ∷ 21 ∷ 22 ∷ 23 ∷ 24 ∷ 25 ∷ 26 ∷ 27 ∷ 28 ∷ 29 ∷ 30 ∷ 31 ∷ 32 ∷ 33 ∷ 34 ∷ 35 ∷ 36 ∷ 37 ∷ 38 ∷ 39 ∷ 40 ∷ 41 ∷ 42 ∷ 43 ∷ 44 ∷ 45 ∷ 46 ∷ 47 ∷ 48 ∷ 49 ∷ 50 ∷ 51 ∷ 52 ∷ 53 ∷ 54 ∷ 55 ∷ 56 ∷ 57 ∷ 58 ∷ 59 ∷ 60 ∷ 61 ∷ 62 ∷ 63 ∷ 64 ∷ []) $
+        keep ! (4 ∷ 2 ∷ 5 ∷ 6 ∷ 3 ∷ 7 ∷ 8 ∷ 1 ∷ 0 ∷ 9 ∷ 10 ∷ 11 ∷ 12 ∷ 13 ∷ 14 ∷ 15 ∷ 16 ∷ 17 ∷ 18 ∷ 19 ∷ 20 ∷ 21 ∷ 22 ∷ 23 ∷ 24 ∷ 25 ∷ 26 ∷ 27 ∷ 28 ∷ 29 ∷ 30 ∷ 31 ∷ 32 ∷ 33 ∷ 34 ∷ 35 ∷ 36 ∷ 37 ∷ 38
+        ∷ 39 ∷ 40 ∷ 41 ∷ 42 ∷ 43 ∷ 44 ∷ 45 ∷ 46 ∷ 47 ∷ 48 ∷ 49 ∷ 50 ∷ 51 ∷ 52 ∷ 53 ∷ 54 ∷ 55 ∷ 56 ∷ 57 ∷ 58 ∷ 59 ∷ 60 ∷ 61 ∷ 62 ∷ 63 ∷ 64 ∷ []) $
         ending y s w e z t (xs .1 .0) (xs .1 .1 .0) (xs .1 .1 .1 .0) p ln (is-state t it)))))))))))
 
     -- what is had once the parameters are passed
@@ -554,12 +582,14 @@ module _ {M : Type 1} (𝓤 : URA M) (H : Heap 𝓤) (A : Atoms 𝓤) (W : Given
 
     body : Sq W Entry (runs C Λ En parts.t-1 (atRet En Post))
     body =
-        move ! (59 ∷ []) $ fsplit ! $ move ! (1 ∷ []) $ fsplit ! $ drop ! $ fsplit ! $ move ! (1 ∷ []) $ fsplit ! $ move ! (1 ∷ []) $ fsplit ! $ move ! (1 ∷ []) $ drop ! $ move ! (62 ∷ []) $ split ! $ move ! (1 ∷ []) $ split ! $ move ! (1 ∷ []) $ split ! $ move ! (1 ∷ []) $ split ! $ move ! (1 ∷ []) $ drop ! $
+        move ! (59 ∷ []) $ fsplit ! $ move ! (1 ∷ []) $ fsplit ! $ drop ! $ fsplit ! $ move ! (1 ∷ []) $ fsplit ! $ move ! (1 ∷ []) $ fsplit ! $ move ! (1 ∷ []) $ drop ! $ move ! (62 ∷ []) $ split !
+        $ move ! (1 ∷ []) $ split ! $ move ! (1 ∷ []) $ split ! $ move ! (1 ∷ []) $ split ! $ move ! (1 ∷ []) $ drop ! $
         -- the two arrays are laid, and lie in memory
         owned ! u8 (Is u8) (uint-makes 𝓤 H A W w8) 0 _ (refl, lit< tt) $
         use1 W (‵ (B .own zeros (zero ∷ []))) (array-repeat 𝓤 H A W u8 (uint-copy 𝓤 H A W w8) (longestImage newest) 0 (vint w8 0)) $
         peeks ! B (Is B) (shows 𝓤 H A B) zeros (zero ∷ []) (λ is.
-        assigns ! (rep ! (longestImage newest) (lit ! tt)) (from ! (stop !)) (init ! 53 refl (array-typed u8 (uint-lawful 𝓤 H A W w8 .typed) (longestImage newest) zeros _ is .0)) $ move ! (53 ∷ 0 ∷ []) $
+        assigns ! (rep ! (longestImage newest) (lit ! tt)) (from ! (stop !)) (init ! 53 refl (array-typed u8 (uint-lawful 𝓤 H A W w8 .typed) (longestImage newest) zeros _ is .0))
+        $ move ! (53 ∷ 0 ∷ []) $
         use2 W (‵ (mem B .lies zeros l₄ 0)) (lies-in 𝓤 H A W u8 (longestImage newest) zeros zero l₄) $
         owned ! u64 (Is u64) (uint-makes 𝓤 H A W w64) 0 _ (refl, lit< tt) $
         use1 W (‵ (X .own zeros′ (zero′ ∷ []))) (array-repeat 𝓤 H A W u64 (uint-copy 𝓤 H A W w64) indexLength 0 (vint w64 0)) $
@@ -577,21 +607,29 @@ module _ {M : Type 1} (𝓤 : URA M) (H : Heap 𝓤) (A : Atoms 𝓤) (W : Given
         (lends-ref 𝓤 H A W B (named 1) (ν ∷ []) zeros l₄ 0) $ await ! tt $ pick ! (λ δ. split ! $
         lft-new ! tt (λ ν′. move ! (4 ∷ []) $
         use1 W (later (some (λ (δ′ : GName). ‵ (LentX (named 2) ν′ l₅ δ′ zeros′) ⊛ ‵ (flent (ν′ ∷ []) (Body (mem X) l₅ 0 δ′)))))
-        (lends-ref 𝓤 H A W X (named 2) (ν′ ∷ []) zeros′ l₅ 0) $ await ! tt $ pick ! (λ δ′. split ! $ nothing ! $ move ! (3 ∷ 0 ∷ []) $ join ! $ move ! (5 ∷ 0 ∷ []) $ join ! $ move ! (8 ∷ 0 ∷ []) $ join ! $ move ! (3 ∷ 1 ∷ []) $ fjoin ! $ move ! (1 ∷ 10 ∷ 0 ∷ []) $
+        (lends-ref 𝓤 H A W X (named 2) (ν′ ∷ []) zeros′ l₅ 0) $ await ! tt $ pick !
+        (λ δ′. split ! $ nothing ! $ move ! (3 ∷ 0 ∷ []) $ join ! $ move ! (5 ∷ 0 ∷ []) $ join ! $ move ! (8 ∷ 0 ∷ []) $ join ! $ move ! (3 ∷ 1 ∷ []) $ fjoin ! $ move ! (1 ∷ 10 ∷ 0 ∷ []) $
         use3 W (raw (Begin 𝓤 H A mem₀ run .pre (asks-begin l₄ l₅ ν ν′ δ δ′))) (goes-begin l₄ l₅ ν ν′ δ δ′) $
         calls-at ! (fmOf 𝓤 H (W .laws) 𝓣) (Begin 𝓤 H A mem₀ run) begins (asks-begin l₄ l₅ ν ν′ δ δ′)
-        (and-then ! (load ! (from ! (stop !)) (look ! 61 refl)) (and-then ! (load ! (from ! (stop !)) (look ! 59 refl)) (and-then ! (load ! (from ! (stop !)) (look ! 45 refl)) (and-then ! (load ! (from ! (stop !)) (look ! 43 refl)) (and-then ! (load ! (from ! (stop !)) (look ! 41 refl)) (and-then ! (load ! (from ! (stop !)) (look ! 39 refl)) (and-then ! (load ! (from ! (stop !)) (look ! 37 refl)) (no-more !))))))))
+        (and-then ! (load ! (from ! (stop !)) (look ! 61 refl))
+        (and-then ! (load ! (from ! (stop !)) (look ! 59 refl))
+        (and-then ! (load ! (from ! (stop !)) (look ! 45 refl))
+        (and-then ! (load ! (from ! (stop !)) (look ! 43 refl))
+        (and-then ! (load ! (from ! (stop !)) (look ! 41 refl)) (and-then ! (load ! (from ! (stop !)) (look ! 39 refl)) (and-then ! (load ! (from ! (stop !)) (look ! 37 refl)) (no-more !))))))))
         (λ wb.
         use1 W (later (some (λ (y : Answer). ((‵ (flft κ q) ⊛ ‵ (flft (ν ∷ []) fullShare) ⊛ ‵ (flft (ν′ ∷ []) fullShare) ⊛ ‵ ftrue) ⊛ ‵ (An.the-row .own y (wb ∷ []))) ⊛ raw
         (Begins ν ν′ δ δ′ l₄ l₅ y))))
         (id⊢ 𝓤 _) $ await ! tt $ pick ! (λ y. split ! $ move ! (1 ∷ []) $
-        use1 W (some (λ (zs : Unit {0} × (Unit {0} × (Unit {0} × (Unit {0} × (Unit {0} × (List ℕ × (List ℕ × Unit {0}))))))). ‵ (lasts begin.ended (κ, (ν ∷ [], (ν′ ∷ [], tt))) (begin-args l₄ l₅ δ δ′) zs) ⊛ raw
+        use1 W (some (λ (zs : Unit {0} × (Unit {0} × (Unit {0} × (Unit {0} × (Unit {0} × (List ℕ × (List ℕ × Unit {0}))))))). ‵
+        (lasts begin.ended (κ, (ν ∷ [], (ν′ ∷ [], tt))) (begin-args l₄ l₅ δ δ′) zs) ⊛ raw
         (fact 𝓤 (Begun (img .now) mains n nᵢ n₂ y (zs .1 .1 .1 .1 .1 .0) (zs .1 .1 .1 .1 .1 .1 .0)))))
-        (id⊢ 𝓤 _) $ pick ! (λ zs. split ! $ move ! (1 ∷ []) $ heard ! (Begun (img .now) mains n nᵢ n₂ y (zs .1 .1 .1 .1 .1 .0) (zs .1 .1 .1 .1 .1 .1 .0)) (λ e. fsplit ! $ drop ! $ fsplit ! $ drop ! $ fsplit ! $ drop ! $ fsplit ! $ drop ! $ fsplit ! $ drop ! $
+        (id⊢ 𝓤 _) $ pick ! (λ zs. split ! $ move ! (1 ∷ []) $ heard ! (Begun (img .now) mains n nᵢ n₂ y (zs .1 .1 .1 .1 .1 .0) (zs .1 .1 .1 .1 .1 .1 .0))
+        (λ e. fsplit ! $ drop ! $ fsplit ! $ drop ! $ fsplit ! $ drop ! $ fsplit ! $ drop ! $ fsplit ! $ drop ! $
         fsplit ! $ move ! (1 ∷ []) $ fsplit ! $ move ! (1 ∷ []) $ drop ! $ move ! (2 ∷ []) $ split ! $ move ! (1 ∷ []) $
         peeks ! An.the-row (Is An.the-row) (shows 𝓤 H A An.the-row) y (wb ∷ []) (λ is.
         land ! (from ! (stop !)) (init ! 52 refl (LL.lawful An.the-type An′.the-laws 𝓤 H A W .typed y _ is .0)) $
-        rewrite ! 52 (λ (z : Val). ‵ (fat fullShare An′.mir l₆ 0 z)) (ap only (LL.tells An.the-type An′.the-laws y _ is)) refl $ drop ! $ split ! $ move ! (1 ∷ []) $ split ! $ move ! (1 ∷ []) $ split ! $ move ! (1 ∷ []) $ drop ! $ move ! (1 ∷ []) $ lft-end ! tt $ move ! (0 ∷ 6 ∷ 4 ∷ []) $
+        rewrite ! 52 (λ (z : Val). ‵ (fat fullShare An′.mir l₆ 0 z)) (ap only (LL.tells An.the-type An′.the-laws y _ is)) refl $ drop ! $ split ! $ move ! (1 ∷ []) $ split ! $ move ! (1 ∷ [])
+        $ split ! $ move ! (1 ∷ []) $ drop ! $ move ! (1 ∷ []) $ lft-end ! tt $ move ! (0 ∷ 6 ∷ 4 ∷ []) $
         use3 W (later (‵ (mem B .lies (zs .1 .1 .1 .1 .1 .0) l₄ 0))) (ref-back 𝓤 H A W B (ν ∷ []) δ (zs .1 .1 .1 .1 .1 .0) l₄ 0) $ await ! tt $ move ! (1 ∷ []) $ lft-end ! tt $
         move ! (0 ∷ 4 ∷ 3 ∷ []) $
         use3 W (later (‵ (mem X .lies (zs .1 .1 .1 .1 .1 .1 .0) l₅ 0))) (ref-back 𝓤 H A W X (ν′ ∷ []) δ′ (zs .1 .1 .1 .1 .1 .1 .0) l₅ 0) $ await ! tt $
@@ -599,11 +637,13 @@ module _ {M : Type 1} (𝓤 : URA M) (H : Heap 𝓤) (A : Atoms 𝓤) (W : Given
         first ! $ branches ! (load ! (from ! (stop !)) (look ! 35 refl))
         (λ yes.
         forget ! 45 refl $ forget ! 43 refl $ forget ! 41 refl $ forget ! 39 refl $ forget ! 37 refl $ forget ! 35 refl $
-        keep ! (2 ∷ 5 ∷ 4 ∷ 3 ∷ 8 ∷ 7 ∷ 6 ∷ 1 ∷ 0 ∷ 63 ∷ 61 ∷ 59 ∷ 57 ∷ 55 ∷ 53 ∷ 49 ∷ 47 ∷ 45 ∷ 43 ∷ 41 ∷ 39 ∷ 37 ∷ 35 ∷ 33 ∷ 31 ∷ 29 ∷ 27 ∷ 25 ∷ 23 ∷ 21 ∷ 19 ∷ 17 ∷ 15 ∷ 13 ∷ 11 ∷ 9 ∷ 64 ∷ 62 ∷ 60 ∷ 58 ∷ 56 ∷ 54 ∷ 52 ∷ 51 ∷ 50 ∷ 48 ∷ 46 ∷ 44 ∷ 42 ∷ 40 ∷ 38 ∷ 36 ∷ 34 ∷ 32 ∷ 30 ∷ 28 ∷ 26 ∷ 24 ∷ 22 ∷ 20 ∷ 18 ∷ 16 ∷ 14 ∷ 12 ∷ 10 ∷ []) $
+        keep ! (2 ∷ 5 ∷ 4 ∷ 3 ∷ 8 ∷ 7 ∷ 6 ∷ 1 ∷ 0 ∷ 63 ∷ 61 ∷ 59 ∷ 57 ∷ 55 ∷ 53 ∷ 49 ∷ 47 ∷ 45 ∷ 43 ∷ 41 ∷ 39 ∷ 37 ∷ 35 ∷ 33 ∷ 31 ∷ 29 ∷ 27 ∷ 25 ∷ 23 ∷ 21 ∷ 19 ∷ 17 ∷ 15 ∷ 13 ∷ 11 ∷ 9 ∷ 64 ∷ 62 ∷ 60
+        ∷ 58 ∷ 56 ∷ 54 ∷ 52 ∷ 51 ∷ 50 ∷ 48 ∷ 46 ∷ 44 ∷ 42 ∷ 40 ∷ 38 ∷ 36 ∷ 34 ∷ 32 ∷ 30 ∷ 28 ∷ 26 ∷ 24 ∷ 22 ∷ 20 ∷ 18 ∷ 16 ∷ 14 ∷ 12 ∷ 10 ∷ []) $
         works y (zs .1 .1 .1 .1 .1 .0) (zs .1 .1 .1 .1 .1 .1 .0) e (eqb→eq (y .number) 0 yes) (is-answer y is))
         (λ no.
         forget ! 45 refl $ forget ! 43 refl $ forget ! 41 refl $ forget ! 39 refl $ forget ! 37 refl $ forget ! 35 refl $
-        keep ! (2 ∷ 5 ∷ 4 ∷ 3 ∷ 8 ∷ 7 ∷ 6 ∷ 1 ∷ 0 ∷ 63 ∷ 61 ∷ 59 ∷ 57 ∷ 55 ∷ 53 ∷ 49 ∷ 47 ∷ 45 ∷ 43 ∷ 41 ∷ 39 ∷ 37 ∷ 35 ∷ 33 ∷ 31 ∷ 29 ∷ 27 ∷ 25 ∷ 23 ∷ 21 ∷ 19 ∷ 17 ∷ 15 ∷ 13 ∷ 11 ∷ 9 ∷ 64 ∷ 62 ∷ 60 ∷ 58 ∷ 56 ∷ 54 ∷ 52 ∷ 51 ∷ 50 ∷ 48 ∷ 46 ∷ 44 ∷ 42 ∷ 40 ∷ 38 ∷ 36 ∷ 34 ∷ 32 ∷ 30 ∷ 28 ∷ 26 ∷ 24 ∷ 22 ∷ 20 ∷ 18 ∷ 16 ∷ 14 ∷ 12 ∷ 10 ∷ []) $
+        keep ! (2 ∷ 5 ∷ 4 ∷ 3 ∷ 8 ∷ 7 ∷ 6 ∷ 1 ∷ 0 ∷ 63 ∷ 61 ∷ 59 ∷ 57 ∷ 55 ∷ 53 ∷ 49 ∷ 47 ∷ 45 ∷ 43 ∷ 41 ∷ 39 ∷ 37 ∷ 35 ∷ 33 ∷ 31 ∷ 29 ∷ 27 ∷ 25 ∷ 23 ∷ 21 ∷ 19 ∷ 17 ∷ 15 ∷ 13 ∷ 11 ∷ 9 ∷ 64 ∷ 62 ∷ 60
+        ∷ 58 ∷ 56 ∷ 54 ∷ 52 ∷ 51 ∷ 50 ∷ 48 ∷ 46 ∷ 44 ∷ 42 ∷ 40 ∷ 38 ∷ 36 ∷ 34 ∷ 32 ∷ 30 ∷ 28 ∷ 26 ∷ 24 ∷ 22 ∷ 20 ∷ 18 ∷ 16 ∷ 14 ∷ 12 ∷ 10 ∷ []) $
         refuses y (zs .1 .1 .1 .1 .1 .0) (zs .1 .1 .1 .1 .1 .1 .0) e (λ z. T-not (eqb (y .number) 0) no (subst (λ (k : ℕ). Holds (eqb k 0)) (sym z) (eqb-refl 0))) (is-answer y is)))))))))))))
 
   -- the locals are made, and the parameters passed
@@ -626,7 +666,13 @@ module _ {M : Type 1} (𝓤 : URA M) (H : Heap 𝓤) (A : Atoms 𝓤) (W : Given
     (begins : Triple 𝓤 (𝓣 .C #begin) (Begin 𝓤 H A mem₀ run)) (alls : Triple 𝓤 (𝓣 .C #post-all) (All 𝓤 H A mem₀ run)) (settles : Triple 𝓤 (𝓣 .C #settle) (Settle 𝓤 H A mem₀ run)) where
   post-walks : Walks 𝓤 H A f.ended stayed (WpFn 𝓤 H (𝓣 .C) (𝓣 .Λ) code.function) (f.clauses 𝓤 H A mem₀ run)
   post-walks = walked 𝓤 H A f.ended stayed (f.clauses 𝓤 H A mem₀ run) (WpFn 𝓤 H (𝓣 .C) (𝓣 .Λ) code.function) (λ κs. (slice-vals, (uint-vals w64, (slice-vals, (slice-vals, (slice-vals, tt))))))
-      (λ κs. (shr-slice-tells (named 0) (κs .0) u8, (uint-tells w64, (mut-slice-tells (named 1) (κs .1 .0) R, (mut-slice-tells (named 2) (κs .1 .1 .0) u64, (mut-slice-tells (named 3) (κs .1 .1 .1 .0) u8, tt))))))
+      (λ κs. (
+        shr-slice-tells (named 0) (κs .0) u8,
+        (
+          uint-tells w64,
+          (mut-slice-tells (named 1) (κs .1 .0) R, (mut-slice-tells (named 2) (κs .1 .1 .0) u64, (mut-slice-tells (named 3) (κs .1 .1 .1 .0) u8, tt))),
+        ),
+      ))
       (λ κs qs bounds a g are. via 𝓤 _ (fst∗ 𝓤 _ (emp 𝓤)) (walk 𝓤 H A W mem₀ run (κs .0) (κs .1 .0) (κs .1 .1 .0) (κs .1 .1 .1 .0) (qs .0) (qs .1 .0) (qs .1 .1 .0) (qs .1 .1 .1 .0) (a .0) (a .1 .0)
       (a .1 .1 .0 .ptr .0) (a .1 .1 .0 .ptr .1) (a .1 .1 .0 .name) (a .1 .1 .0 .now) (a .1 .1 .1 .0 .ptr .0) (a .1 .1 .1 .0 .ptr .1) (a .1 .1 .1 .0 .name) (a .1 .1 .1 .0 .now)
       (a .1 .1 .1 .1 .0 .ptr .0) (a .1 .1 .1 .1 .0 .ptr .1) (a .1 .1 .1 .1 .0 .name) (a .1 .1 .1 .1 .0 .now)

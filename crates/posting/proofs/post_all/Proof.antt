@@ -351,7 +351,8 @@ module _ {M : Type 1} (𝓤 : URA M) (H : Heap 𝓤) (A : Atoms 𝓤) (W : Given
         made : (y : Answered) → Is R r (LL.vals T.the-type T′.the-laws r) → y .answer < 2 ^ 8 → Is R (withAnswer r (y .answer)) (T′.lowered (withAnswer r (y .answer)) ∷ [])
         made y was ok =
             let g = LL.owed T.the-type T′.the-laws r _ was in
-            LL.owes T.the-type T′.the-laws (withAnswer r (y .answer)) (g .0, (g .1 .0, (g .1 .1 .0, (g .1 .1 .1 .0, (g .1 .1 .1 .1 .0, (g .1 .1 .1 .1 .1 .0, (g .1 .1 .1 .1 .1 .1 .0, ((refl, ok), tt))))))))
+            LL.owes T.the-type T′.the-laws (withAnswer r (y .answer))
+            (g .0, (g .1 .0, (g .1 .1 .0, (g .1 .1 .1 .0, (g .1 .1 .1 .1 .0, (g .1 .1 .1 .1 .1 .0, (g .1 .1 .1 .1 .1 .1 .0, ((refl, ok), tt))))))))
 
     -- the turn that leaves the loop, and the rest of the body: the borrow is closed at the list in hand
     over : (m : M′) → n ≤ m .i → ltb (m .i) n ≡ false → Sq W (At m) (runs C Λ En parts.turn-1 (anyQ (Turned m)))
@@ -366,7 +367,8 @@ module _ {M : Type 1} (𝓤 : URA M) (H : Heap 𝓤) (A : Atoms 𝓤) (W : Given
         -- [obs; the borrow; the token; the book; its token; the index; its token; i; the state; _7 .. _14; the parameters; the result; and that each local dies]
         returns ! (look ! 21 refl) $ forget ! 7 refl $ forget ! 8 refl $ forget ! 10 refl $ forget ! 11 refl $ forget ! 17 refl $ forget ! 18 refl $ forget ! 19 refl $
         forget ! 20 refl $ forget ! 21 refl $ forget ! 37 refl $
-        move ! (21 ∷ 22 ∷ []) $ free1 ! $ move ! (35 ∷ 36 ∷ []) $ free1 ! $ move ! (17 ∷ 21 ∷ []) $ free1 ! $ move ! (17 ∷ 20 ∷ []) $ free1 ! $ move ! (17 ∷ 19 ∷ []) $ free1 ! $ move ! (17 ∷ 18 ∷ []) $ free1 ! $
+        move ! (21 ∷ 22 ∷ []) $ free1 ! $ move ! (35 ∷ 36 ∷ []) $ free1 ! $ move ! (17 ∷ 21 ∷ []) $ free1 ! $ move ! (17 ∷ 20 ∷ []) $ free1 ! $ move ! (17 ∷ 19 ∷ []) $ free1 !
+        $ move ! (17 ∷ 18 ∷ []) $ free1 ! $
         move ! (8 ∷ 17 ∷ []) $ free1 ! $ move ! (7 ∷ 16 ∷ []) $ free1 ! $ move ! (7 ∷ 15 ∷ []) $ free1 ! $ move ! (7 ∷ 14 ∷ []) $ free1 ! $ move ! (7 ∷ 13 ∷ []) $ free1 ! $
         move ! (7 ∷ 12 ∷ []) $ free1 ! $
         move ! (7 ∷ 11 ∷ []) $ free1 ! $ move ! (7 ∷ 10 ∷ []) $ free1 ! $ move ! (7 ∷ 9 ∷ []) $ free1 ! $ move ! (7 ∷ 8 ∷ []) $ free1 ! $ free0 ! $
@@ -389,7 +391,8 @@ module _ {M : Type 1} (𝓤 : URA M) (H : Heap 𝓤) (A : Atoms 𝓤) (W : Given
         ∷ ‵ (fat fullShare (tyRef (named 2) mut words) l₃ 0 (vptr b₂ o₂)) ∷ ‵ (fdies (tyRef (named 2) mut words) l₃)
         ∷ ‵ (fat fullShare (tyRef (named 1) mut bytes) l₂ 0 (vptr b₁ o₁)) ∷ ‵ (fdies (tyRef (named 1) mut bytes) l₂)
         ∷ ‵ (fat fullShare slice l₁ 0 (sliceVal (b, o) n)) ∷ ‵ (fdies slice l₁) ∷ ‵ (fat fullShare word lₘ 0 (vint w64 mains)) ∷ ‵ (fdies word lₘ)
-        ∷ ‵ (froom S′.mir l₀ 0) ∷ ‵ (fdies S′.mir l₀) ∷ (‵ (flft κ q) ⊛ ‵ (flft κ₁ q₁) ⊛ ‵ (flft κ₂ q₂) ⊛ ‵ ftrue) ∷ ‵ (owns (u64 ∷ MutSlice (named 0) κ R ∷ MutRef (named 1) κ₁ B ∷ MutRef (named 2) κ₂ X ∷ usize ∷ []) x vals) ∷ []
+        ∷ ‵ (froom S′.mir l₀ 0) ∷ ‵ (fdies S′.mir l₀) ∷ (‵ (flft κ q) ⊛ ‵ (flft κ₁ q₁) ⊛ ‵ (flft κ₂ q₂) ⊛ ‵ ftrue)
+        ∷ ‵ (owns (u64 ∷ MutSlice (named 0) κ R ∷ MutRef (named 1) κ₁ B ∷ MutRef (named 2) κ₂ X ∷ usize ∷ []) x vals) ∷ []
 
     -- the body up to the loop: the borrow is opened once, before it
     body : Standing buf₀ len words₀ → Sq W Entry (runs C Λ En parts.t-1 (atRet En Post))
@@ -413,7 +416,8 @@ module _ {M : Type 1} (𝓤 : URA M) (H : Heap 𝓤) (A : Atoms 𝓤) (W : Given
       enter ! (𝓣 .C) (𝓣 .Λ) code.function (vint w64 mains ∷ sliceVal (b, o) n ∷ vptr b₁ o₁ ∷ vptr b₂ o₂ ∷ vint w64 len ∷ []) _ $
       alloc1 ! (λ l₀. alloc1 ! (λ lₘ. alloc1 ! (λ l₁. alloc1 ! (λ l₂. alloc1 ! (λ l₃. alloc1 ! (λ l₄. alloc1 ! (λ l₅. alloc1 ! (λ l₆. alloc1 ! (λ l₇. alloc1 ! (λ l₈.
       alloc1 ! (λ l₉. alloc1 ! (λ l₁₀. alloc1 ! (λ l₁₁. alloc1 ! (λ l₁₂. alloc1 ! (λ l₁₃. alloc1 ! (λ l₁₄. alloc0 ! $ params1 ! $
-      pass1 ! (init ! 28 refl (tt, record { fits = m-fits })) $ pass1 ! (init ! 26 refl (tt, (tt, (record { fits = room .0 }, tt)))) $ pass1 ! (init ! 24 refl (tt, tt)) $ pass1 ! (init ! 22 refl (tt, tt)) $
+      pass1 ! (init ! 28 refl (tt, record { fits = m-fits })) $ pass1 ! (init ! 26 refl (tt, (tt, (record { fits = room .0 }, tt)))) $ pass1 ! (init ! 24 refl (tt, tt))
+      $ pass1 ! (init ! 22 refl (tt, tt)) $
       pass1 ! (init ! 20 refl (tt, record { fits = len-fits })) $ pass0 ! $
       body 𝓣 known l₀ lₘ l₁ l₂ l₃ l₄ l₅ l₆ l₇ l₈ l₉ l₁₀ l₁₁ l₁₂ l₁₃ l₁₄ stands))))))))))))))))
 

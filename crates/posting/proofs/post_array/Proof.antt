@@ -162,7 +162,8 @@ module _ {M : Type 1} (𝓤 : URA M) (H : Heap 𝓤) (A : Atoms 𝓤) (mem₀ : 
   Whole = tripleOf 𝓤 H A post.signature (post.spec 𝓤 H A mem₀ run)
 
 module _ {M : Type 1} (𝓤 : URA M) (H : Heap 𝓤) (A : Atoms 𝓤) (W : Given 𝓤 H A) (mem₀ : Memory → SProp 𝓤) (run : Routine → Fun 𝓤) (κ κᵢ κ₁ : Lft) (q qᵢ q₁ : Share)
-    (img : RefT (List ℕ)) (mains : ℕ) (rs : List Request) (count : ℕ) (bᵢ oᵢ : ℕ) (γᵢ : GName) (index₀ : List ℕ) (b o : ℕ) (γ : GName) (out₀ : List ℕ) (m-fits : mains < 2 ^ 64) (is₀ : Is L rs (row-vals rs)) (count-fits : count < 2 ^ 64) (roomᵢ : Room u64 (length index₀)) (room : Room u8 (length out₀))
+    (img : RefT (List ℕ)) (mains : ℕ) (rs : List Request) (count : ℕ) (bᵢ oᵢ : ℕ) (γᵢ : GName) (index₀ : List ℕ) (b o : ℕ) (γ : GName) (out₀ : List ℕ) (m-fits : mains < 2 ^ 64)
+    (is₀ : Is L rs (row-vals rs)) (count-fits : count < 2 ^ 64) (roomᵢ : Room u64 (length index₀)) (room : Room u8 (length out₀))
     (few : count ≤ listed) where
   abbrev nᵢ : ℕ
   nᵢ = length index₀
@@ -288,14 +289,18 @@ module _ {M : Type 1} (𝓤 : URA M) (H : Heap 𝓤) (A : Atoms 𝓤) (W : Given
 
     body : Sq W Entry (runs C Λ En parts.t-1 (atRet En Post))
     body =
-        move ! (33 ∷ []) $ fsplit ! $ move ! (1 ∷ []) $ fsplit ! $ drop ! $ fsplit ! $ move ! (1 ∷ []) $ fsplit ! $ drop ! $ fsplit ! $ move ! (1 ∷ []) $ fsplit ! $ move ! (1 ∷ []) $ drop ! $ move ! (36 ∷ []) $ split ! $ move ! (1 ∷ []) $ split ! $ move ! (1 ∷ []) $ split ! $ move ! (1 ∷ []) $ drop ! $
+        move ! (33 ∷ []) $ fsplit ! $ move ! (1 ∷ []) $ fsplit ! $ drop ! $ fsplit ! $ move ! (1 ∷ []) $ fsplit ! $ drop ! $ fsplit ! $ move ! (1 ∷ []) $ fsplit ! $ move ! (1 ∷ []) $ drop !
+        $ move ! (36 ∷ []) $ split ! $ move ! (1 ∷ []) $ split ! $ move ! (1 ∷ []) $ split ! $ move ! (1 ∷ []) $ drop ! $
         assigns ! (of-opd ! (load ! (from ! (stop !)) (look ! 31 refl))) (from ! (stop !)) (init ! 23 refl (array-typed R (LL.lawful T.the-type T′.the-laws 𝓤 H A W .typed) listed rs _ is₀ .0)) $
         assigns ! (addr ! (from ! (stop !))) (from ! (stop !)) (init ! 19 refl (tt, tt)) $
-        assigns ! (agg ! (and-then ! (load ! (from ! (stop !)) (look ! 19 refl)) (and-then ! (load ! (from ! (stop !)) (look ! 29 refl)) (no-more !)))) (from ! (stop !)) (init ! 17 refl (tt, (tt, (record { fits = count-fits }, tt)))) $
+        assigns ! (agg ! (and-then ! (load ! (from ! (stop !)) (look ! 19 refl)) (and-then ! (load ! (from ! (stop !)) (look ! 29 refl)) (no-more !)))) (from ! (stop !))
+        (init ! 17 refl (tt, (tt, (record { fits = count-fits }, tt)))) $
         assigns ! (addr ! (from ! (fld ! refl (hop ! (look-in ! 27 (sub ! 0 refl (whole !))) (stop !))))) (from ! (stop !)) (init ! 15 refl (tt, tt)) $
-        assigns ! (agg ! (and-then ! (load ! (from ! (stop !)) (look ! 15 refl)) (and-then ! (load ! (from ! (fld ! refl (stop !))) (look-in ! 27 (sub ! 1 refl (whole !)))) (no-more !)))) (from ! (stop !)) (init ! 13 refl (tt, (tt, (record { fits = roomᵢ .0 }, tt)))) $
+        assigns ! (agg ! (and-then ! (load ! (from ! (stop !)) (look ! 15 refl)) (and-then ! (load ! (from ! (fld ! refl (stop !))) (look-in ! 27 (sub ! 1 refl (whole !)))) (no-more !))))
+        (from ! (stop !)) (init ! 13 refl (tt, (tt, (record { fits = roomᵢ .0 }, tt)))) $
         assigns ! (addr ! (from ! (fld ! refl (hop ! (look-in ! 25 (sub ! 0 refl (whole !))) (stop !))))) (from ! (stop !)) (init ! 11 refl (tt, tt)) $
-        assigns ! (agg ! (and-then ! (load ! (from ! (stop !)) (look ! 11 refl)) (and-then ! (load ! (from ! (fld ! refl (stop !))) (look-in ! 25 (sub ! 1 refl (whole !)))) (no-more !)))) (from ! (stop !)) (init ! 9 refl (tt, (tt, (record { fits = room .0 }, tt)))) $
+        assigns ! (agg ! (and-then ! (load ! (from ! (stop !)) (look ! 11 refl)) (and-then ! (load ! (from ! (fld ! refl (stop !))) (look-in ! 25 (sub ! 1 refl (whole !)))) (no-more !))))
+        (from ! (stop !)) (init ! 9 refl (tt, (tt, (record { fits = room .0 }, tt)))) $
         -- the row of the first records is lent as a slice for a lifetime ν
         rewrite ! 17 (λ (k : ℕ). ‵ (fat fullShare again l₈ 0 (sliceVal (l₅, 0) k))) (sym long) refl $
         move ! (23 ∷ 5 ∷ []) $ use2 W (‵ (mem L .lies rs l₅ 0)) (lies-in 𝓤 H A W R listed rs v₂ l₅) $
@@ -310,16 +315,22 @@ module _ {M : Type 1} (𝓤 : URA M) (H : Heap 𝓤) (A : Atoms 𝓤) (W : Given
         move ! (5 ∷ 4 ∷ []) $ fjoin ! $ move ! (2 ∷ 0 ∷ []) $ fjoin ! $ move ! (1 ∷ 4 ∷ 0 ∷ []) $
         use3 W (raw (Whole 𝓤 H A mem₀ run .pre (asks-post l₅ ν δ))) (goes-post l₅ ν δ) $
         calls-at ! (fmOf 𝓤 H (W .laws) 𝓣) (Whole 𝓤 H A mem₀ run) posts (asks-post l₅ ν δ)
-        (and-then ! (load ! (from ! (stop !)) (look ! 30 refl)) (and-then ! (load ! (from ! (stop !)) (look ! 28 refl)) (and-then ! (load ! (from ! (stop !)) (look ! 13 refl)) (and-then ! (load ! (from ! (stop !)) (look ! 9 refl)) (and-then ! (load ! (from ! (stop !)) (look ! 5 refl)) (no-more !)))))) (λ w.
+        (and-then ! (load ! (from ! (stop !)) (look ! 30 refl))
+        (and-then ! (load ! (from ! (stop !)) (look ! 28 refl))
+        (and-then ! (load ! (from ! (stop !)) (look ! 13 refl)) (and-then ! (load ! (from ! (stop !)) (look ! 9 refl)) (and-then ! (load ! (from ! (stop !)) (look ! 5 refl)) (no-more !))))))
+        (λ w.
         use1 W (later (some (λ (y : Answer). ((‵ (flft κ q) ⊛ ‵ (flft (ν ∷ []) fullShare) ⊛ ‵ (flft κᵢ qᵢ) ⊛ ‵ (flft κ₁ q₁) ⊛ ‵ ftrue) ⊛ ‵ (An.the-row .own y (w ∷ []))) ⊛ raw (Ensured ν δ l₅ y))))
         (id⊢ 𝓤 _) $ await ! tt $ pick ! (λ y. split ! $ move ! (1 ∷ []) $
         use1 W (some (λ (zs : Unit {0} × (Unit {0} × (List Request × (List ℕ × (List ℕ × Unit {0}))))). ‵ (lasts post.ended (κ, (ν ∷ [], (κᵢ, (κ₁, tt)))) (post-args l₅ δ) zs) ⊛ raw
         (fact 𝓤 (Posts (img .now) mains xs index₀ out₀ y (zs .1 .1 .0) (zs .1 .1 .1 .0) (zs .1 .1 .1 .1 .0)))))
-        (id⊢ 𝓤 _) $ pick ! (λ zs. split ! $ move ! (1 ∷ []) $ heard ! (Posts (img .now) mains xs index₀ out₀ y (zs .1 .1 .0) (zs .1 .1 .1 .0) (zs .1 .1 .1 .1 .0)) (λ e. fsplit ! $ drop ! $ fsplit ! $ drop ! $
-        fsplit ! $ fsplit ! $ move ! (1 ∷ []) $ feqL ! (λ ln. move ! (1 ∷ []) $ fsplit ! $ fsplit ! $ move ! (1 ∷ []) $ feqL ! (λ lnᵢ. move ! (1 ∷ []) $ fsplit ! $ move ! (1 ∷ []) $ drop ! $ fsplit ! $ move ! (1 ∷ []) $ feqL ! (λ ln₂.
+        (id⊢ 𝓤 _) $ pick ! (λ zs. split ! $ move ! (1 ∷ []) $ heard ! (Posts (img .now) mains xs index₀ out₀ y (zs .1 .1 .0) (zs .1 .1 .1 .0) (zs .1 .1 .1 .1 .0))
+        (λ e. fsplit ! $ drop ! $ fsplit ! $ drop ! $
+        fsplit ! $ fsplit ! $ move ! (1 ∷ []) $ feqL ! (λ ln. move ! (1 ∷ []) $ fsplit ! $ fsplit ! $ move ! (1 ∷ [])
+        $ feqL ! (λ lnᵢ. move ! (1 ∷ []) $ fsplit ! $ move ! (1 ∷ []) $ drop ! $ fsplit ! $ move ! (1 ∷ []) $ feqL ! (λ ln₂.
         move ! (3 ∷ []) $ split ! $ move ! (1 ∷ []) $ peeks ! An.the-row (Is An.the-row) (shows 𝓤 H A An.the-row) y (w ∷ []) (λ is.
         land ! (from ! (stop !)) (init ! 21 refl (LL.lawful An.the-type An′.the-laws 𝓤 H A W .typed y _ is .0)) $
-        rewrite ! 21 (λ (z : Val). ‵ (fat fullShare An′.mir l₆ 0 z)) (ap only (LL.tells An.the-type An′.the-laws y _ is)) refl $ drop ! $ split ! $ move ! (1 ∷ []) $ split ! $ move ! (1 ∷ []) $ split ! $ move ! (1 ∷ []) $ split ! $ move ! (1 ∷ []) $ drop ! $
+        rewrite ! 21 (λ (z : Val). ‵ (fat fullShare An′.mir l₆ 0 z)) (ap only (LL.tells An.the-type An′.the-laws y _ is)) refl $ drop ! $ split ! $ move ! (1 ∷ []) $ split ! $ move ! (1 ∷ [])
+        $ split ! $ move ! (1 ∷ []) $ split ! $ move ! (1 ∷ []) $ drop ! $
         -- ν is ended, and the array is whole again
         move ! (2 ∷ []) $ lft-end ! tt $ move ! (0 ∷ 7 ∷ 6 ∷ []) $
         use3 W (later (‵ (Arr (mem R) (length xs) .lies (zs .1 .1 .0) l₅ 0))) (slice-back 𝓤 H A W R (ν ∷ []) δ (zs .1 .1 .0) (length xs) l₅ 0) $ await ! tt $ fsplit ! $ drop ! $
@@ -330,11 +341,13 @@ module _ {M : Type 1} (𝓤 : URA M) (H : Heap 𝓤) (A : Atoms 𝓤) (W : Given
         use1 W (‵ (mem L .lies (zs .1 .1 .0 ++ others) l₅ 0)) (array-whole 𝓤 H A W R fullShare listed (zs .1 .1 .0 ++ others) l₅ 0) $
         use1 W (given (Is L (zs .1 .1 .0 ++ others) (row-vals (zs .1 .1 .0 ++ others))) (‵ (fat fullShare array l₅ 0 (only (row-vals (zs .1 .1 .0 ++ others))))))
         (lies-told 𝓤 H A W R (LL.vals T.the-type T′.the-laws) (LL.tells T.the-type T′.the-laws) listed (zs .1 .1 .0 ++ others) l₅) $ learn ! (λ il.
-        assigns ! (of-opd ! (load ! (from ! (stop !)) (look ! 0 refl))) (from ! (stop !)) (init ! 6 refl (array-typed R (LL.lawful T.the-type T′.the-laws 𝓤 H A W .typed) listed (zs .1 .1 .0 ++ others) _ il .0)) $
+        assigns ! (of-opd ! (load ! (from ! (stop !)) (look ! 0 refl))) (from ! (stop !))
+        (init ! 6 refl (array-typed R (LL.lawful T.the-type T′.the-laws 𝓤 H A W .typed) listed (zs .1 .1 .0 ++ others) _ il .0)) $
         assigns ! (agg ! (and-then ! (load ! (from ! (stop !)) (look ! 20 refl)) (and-then ! (load ! (from ! (stop !)) (look ! 6 refl)) (no-more !)))) (from ! (stop !))
         (init ! 35 refl (LL.lawful Li.the-type Li′.the-laws 𝓤 H A W .typed (record { answer = y; requests = zs .1 .1 .0 ++ others }) _
         (is-listed (record { answer = y; requests = zs .1 .1 .0 ++ others }) (is-answer y is) il) .0)) $
-        returns ! (look ! 35 refl) $ forget ! 35 refl $ forget ! 33 refl $ forget ! 31 refl $ forget ! 29 refl $ forget ! 27 refl $ forget ! 25 refl $ forget ! 23 refl $ forget ! 0 refl $ forget ! 20 refl $ forget ! 18 refl $ forget ! 16 refl $ forget ! 14 refl $ forget ! 12 refl $ forget ! 10 refl $ forget ! 8 refl $ forget ! 6 refl $
+        returns ! (look ! 35 refl) $ forget ! 35 refl $ forget ! 33 refl $ forget ! 31 refl $ forget ! 29 refl $ forget ! 27 refl $ forget ! 25 refl $ forget ! 23 refl $ forget ! 0 refl
+        $ forget ! 20 refl $ forget ! 18 refl $ forget ! 16 refl $ forget ! 14 refl $ forget ! 12 refl $ forget ! 10 refl $ forget ! 8 refl $ forget ! 6 refl $
         move ! (35 ∷ 36 ∷ []) $ free1 ! $ move ! (33 ∷ 34 ∷ []) $ free1 ! $ move ! (31 ∷ 32 ∷ []) $ free1 ! $ move ! (29 ∷ 30 ∷ []) $ free1 ! $
         move ! (27 ∷ 28 ∷ []) $ free1 ! $ move ! (25 ∷ 26 ∷ []) $ free1 ! $ move ! (23 ∷ 24 ∷ []) $ free1 ! $ move ! (0 ∷ 22 ∷ []) $ free1 ! $
         move ! (19 ∷ 20 ∷ []) $ free1 ! $ move ! (17 ∷ 18 ∷ []) $ free1 ! $ move ! (15 ∷ 16 ∷ []) $ free1 ! $ move ! (13 ∷ 14 ∷ []) $ free1 ! $
@@ -345,23 +358,28 @@ module _ {M : Type 1} (𝓤 : URA M) (H : Heap 𝓤) (A : Atoms 𝓤) (W : Given
 
   -- the locals are made, and the parameters passed
   walk : (𝓣 : Tables 𝓤 H) → Triple 𝓤 (𝓣 .C #post) (Whole 𝓤 H A mem₀ run) → Is (ShrSlice (named 0) κ u8) img (v₁ ∷ [])
-      → ent 𝓤 (onEntry 𝓤 H A f.signature (κ, (κᵢ, (κ₁, tt))) (q, (qᵢ, (q₁, tt))) x vals) (WpFn 𝓤 H (𝓣 .C) (𝓣 .Λ) code.function (v₁ ∷ vint w64 mains ∷ v₂ ∷ vint w64 count ∷ sliceVal (bᵢ, oᵢ) nᵢ ∷ sliceVal (b, o) n ∷ []) Post)
+      → ent 𝓤 (onEntry 𝓤 H A f.signature (κ, (κᵢ, (κ₁, tt))) (q, (qᵢ, (q₁, tt))) x vals)
+      (WpFn 𝓤 H (𝓣 .C) (𝓣 .Λ) code.function (v₁ ∷ vint w64 mains ∷ v₂ ∷ vint w64 count ∷ sliceVal (bᵢ, oᵢ) nᵢ ∷ sliceVal (b, o) n ∷ []) Post)
   walk 𝓣 posts p =
-      qed W ((‵ (flft κ q) ⊛ ‵ (flft κᵢ qᵢ) ⊛ ‵ (flft κ₁ q₁) ⊛ ‵ ftrue) ∷ ‵ (owns (ShrSlice (named 0) κ u8 ∷ u64 ∷ L ∷ usize ∷ MutSlice (named 1) κᵢ u64 ∷ MutSlice (named 2) κ₁ u8 ∷ []) x vals) ∷ []) ∵
+      qed W ((‵ (flft κ q) ⊛ ‵ (flft κᵢ qᵢ) ⊛ ‵ (flft κ₁ q₁) ⊛ ‵ ftrue) ∷ ‵ (owns (ShrSlice (named 0) κ u8 ∷ u64 ∷ L ∷ usize ∷ MutSlice (named 1) κᵢ u64 ∷ MutSlice (named 2) κ₁ u8 ∷ []) x vals)
+      ∷ []) ∵
       enter ! (𝓣 .C) (𝓣 .Λ) code.function (v₁ ∷ vint w64 mains ∷ v₂ ∷ vint w64 count ∷ sliceVal (bᵢ, oᵢ) nᵢ ∷ sliceVal (b, o) n ∷ []) _ $
       alloc1 ! (λ l₀. alloc1 ! (λ l₁. alloc1 ! (λ lₘ. alloc1 ! (λ l₂. alloc1 ! (λ l₃. alloc1 ! (λ lᵢ. alloc1 ! (λ l₄. alloc1 ! (λ l₅. alloc1 ! (λ l₆.
       alloc1 ! (λ l₇. alloc1 ! (λ l₈. alloc1 ! (λ lᵣ. alloc1 ! (λ lₐ. alloc1 ! (λ l₉. alloc1 ! (λ l₁₀. alloc1 ! (λ l₁₁. alloc0 ! $ params1 ! $
       pass1 ! (init ! 28 refl (shr-slice-lawful 𝓤 H A W (named 0) κ u8 .typed img (v₁ ∷ []) p .0)) $ pass1 ! (init ! 26 refl (tt, record { fits = m-fits })) $
       pass1 ! (init ! 24 refl (array-typed R (LL.lawful T.the-type T′.the-laws 𝓤 H A W .typed) listed rs _ is₀ .0)) $
-      pass1 ! (init ! 22 refl (tt, record { fits = count-fits })) $ pass1 ! (init ! 20 refl (tt, (tt, (record { fits = roomᵢ .0 }, tt)))) $ pass1 ! (init ! 18 refl (tt, (tt, (record { fits = room .0 }, tt)))) $ pass0 ! $
+      pass1 ! (init ! 22 refl (tt, record { fits = count-fits })) $ pass1 ! (init ! 20 refl (tt, (tt, (record { fits = roomᵢ .0 }, tt))))
+      $ pass1 ! (init ! 18 refl (tt, (tt, (record { fits = room .0 }, tt)))) $ pass0 ! $
       body 𝓣 posts l₀ l₁ lₘ l₂ l₃ lᵢ l₄ l₅ l₆ l₇ l₈ lᵣ lₐ l₉ l₁₀ l₁₁))))))))))))))))
 
 module _ {M : Type 1} (𝓤 : URA M) (H : Heap 𝓤) (A : Atoms 𝓤) (W : Given 𝓤 H A) (mem₀ : Memory → SProp 𝓤) (run : Routine → Fun 𝓤) (𝓣 : Tables 𝓤 H)
     (posts : Triple 𝓤 (𝓣 .C #post) (Whole 𝓤 H A mem₀ run)) where
   post-array-walks : Walks 𝓤 H A f.ended stayed (WpFn 𝓤 H (𝓣 .C) (𝓣 .Λ) code.function) (f.clauses 𝓤 H A mem₀ run)
-  post-array-walks = walked 𝓤 H A f.ended stayed (f.clauses 𝓤 H A mem₀ run) (WpFn 𝓤 H (𝓣 .C) (𝓣 .Λ) code.function) (λ κs. (slice-vals, (uint-vals w64, (row-vals, (uint-vals w64, (slice-vals, (slice-vals, tt)))))))
+  post-array-walks = walked 𝓤 H A f.ended stayed (f.clauses 𝓤 H A mem₀ run) (WpFn 𝓤 H (𝓣 .C) (𝓣 .Λ) code.function)
+      (λ κs. (slice-vals, (uint-vals w64, (row-vals, (uint-vals w64, (slice-vals, (slice-vals, tt)))))))
       (λ κs. (shr-slice-tells (named 0) (κs .0) u8, (uint-tells w64, (row-tells, (uint-tells w64, (mut-slice-tells (named 1) (κs .1 .0) u64, (mut-slice-tells (named 2) (κs .1 .1 .0) u8, tt)))))))
-      (λ κs qs bounds a g are. needs 𝓤 (a .1 .1 .1 .0 ≤ listed) _ (λ few. walk 𝓤 H A W mem₀ run (κs .0) (κs .1 .0) (κs .1 .1 .0) (qs .0) (qs .1 .0) (qs .1 .1 .0) (a .0) (a .1 .0) (a .1 .1 .0) (a .1 .1 .1 .0)
+      (λ κs qs bounds a g are. needs 𝓤 (a .1 .1 .1 .0 ≤ listed) _
+      (λ few. walk 𝓤 H A W mem₀ run (κs .0) (κs .1 .0) (κs .1 .1 .0) (qs .0) (qs .1 .0) (qs .1 .1 .0) (a .0) (a .1 .0) (a .1 .1 .0) (a .1 .1 .1 .0)
       (a .1 .1 .1 .1 .0 .ptr .0) (a .1 .1 .1 .1 .0 .ptr .1) (a .1 .1 .1 .1 .0 .name) (a .1 .1 .1 .1 .0 .now) (a .1 .1 .1 .1 .1 .0 .ptr .0) (a .1 .1 .1 .1 .1 .0 .ptr .1)
       (a .1 .1 .1 .1 .1 .0 .name) (a .1 .1 .1 .1 .1 .0 .now) (are .1 .0 .1) (are .1 .1 .0) (are .1 .1 .1 .0 .1) (are .1 .1 .1 .1 .0 .0 .1) (are .1 .1 .1 .1 .1 .0 .0 .1)
       few 𝓣 posts (are .0)))
