@@ -1,11 +1,11 @@
 -- The second route is placed beside the book and the first's row.
-use mathlib.Core.Path.{_≡_, sym, ap, subst₂}
+use mathlib.Core.Path.{_≡_, sym, ap, subst}
 use mathlib.Core.List.{List, [], _∷_}
 use Prim.Native.Nat.{ℕ, _*_, _<_}
 use native.Mathlib.Omega.{arith}
 use lib.ListN.{length}
 use Rattle.rules.specs.Words.{total}
-use Rattle.rules.specs.Tiles.{Plan, periodAt}
+use Rattle.rules.specs.Tiles.{Plan}
 use Rattle.rules.specs.Topology.{hopCount}
 use Rattle.rules.specs.Book.{Offsets, LawfulBook}
 use Rattle.rules.specs.Placing.{Asked, FirstPlacing, Full, beside}
@@ -18,7 +18,7 @@ use Rattle.opening.specs.Keeping.{OneKept, TwoKept}
 use Rattle.opening.specs.Beside.{NewBeside, RouteBeside, PlacedBeside}
 use Rattle.opening.proofs.Routed.{room-left}
 
-module _ {s words : List ℕ} {book : Book} {q : Asked} {place at : ℕ} {hearing route : List ℕ} (w : RouteBeside s words book q place at hearing route) where
+module _ {s words : List ℕ} {book : Book} {q : Asked} {at : ℕ} {hearing route : List ℕ} (w : RouteBeside s words book q at hearing route) where
   lawful : LawfulBook (bookIn s)
   lawful = w .new .asked .image .newest .lawful .lawful
 
@@ -26,20 +26,20 @@ module _ {s words : List ℕ} {book : Book} {q : Asked} {place at : ℕ} {hearin
   route-slots = ap (λ (plan : Plan). plan .slots) (w .new .asked .header .plan)
 
   -- with an offset for each hop the route can be marked
-  pub route-markable : {offsets : List ℕ} → Offsets (planOf s .slots) (q .period) (hopCount route) offsets → Markable (book .plan .slots .0) place route offsets
+  pub route-markable : {offsets : List ℕ} → Offsets (planOf s .slots) (q .period) (hopCount route) offsets → Markable (book .plan .slots .0) (q .period) route offsets
   route-markable h = record {
     few = omega (arith, route-slots, lawful .site .plan .most);
     period = w .new .asked .period;
     count = omega (arith, h .count, w .path .some);
     known = λ a m. omega (arith, w .path .known a m, lawful .site .nodes .1);
-    within = λ o m. subst₂ (λ (K S : ℕ). o < K * S) (sym (w .new .asked .period-is)) (sym route-slots) (h .within o m);
+    within = λ o m. subst (λ (S : ℕ). o < q .period * S) (sym route-slots) (h .within o m);
   }
 
   route-parts : {offsets : List ℕ} → Offsets (planOf s .slots) (q .period) (hopCount route) offsets → Parts route offsets
   route-parts h = record { count = omega (arith, h .count, w .path .some); few = omega (arith, h .count, w .few) }
 
 -- with room for the rows the image can take them
-puttable : {s words : List ℕ} {book : Book} {q : Asked} {place at hops : ℕ} → NewBeside s words book q place at → (routes : List (List ℕ)) → (Full (bookIn s) routes → ⊥)
+puttable : {s words : List ℕ} {book : Book} {q : Asked} {at hops : ℕ} → NewBeside s words book q at → (routes : List (List ℕ)) → (Full (bookIn s) routes → ⊥)
     → total hopCount routes ≡ hops → Puttable s at q (length routes) hops
 puttable {s} w routes f e =
     let left = room-left s routes (w .asked .image .newest .lawful) f in
@@ -51,23 +51,22 @@ puttable {s} w routes f e =
     }
 
 -- a placed route with room for its row can be put in and marked
-pub one-kept : {s words : List ℕ} {book : Book} {q : Asked} {place at : ℕ} {hearing route offsets : List ℕ} → RouteBeside s words book q place at hearing route
-    → FirstPlacing (bookIn s) (q .period) route offsets → (Full (bookIn s) (route ∷ []) → ⊥) → OneKept s words book q place at route offsets
+pub one-kept : {s words : List ℕ} {book : Book} {q : Asked} {at : ℕ} {hearing route offsets : List ℕ} → RouteBeside s words book q at hearing route
+    → FirstPlacing (bookIn s) (q .period) route offsets → (Full (bookIn s) (route ∷ []) → ⊥) → OneKept s words book q at route offsets
 one-kept {s} {route = route} w p f = record {
   new = w .new;
   put = (puttable (w .new) (route ∷ []) f (omega (arith, p .placing .offsets-hold .count)), route-parts w (p .placing .offsets-hold));
   marked = record {
     slots-are = route-slots w;
-    period-is = w .new .asked .period-is;
     markable = route-markable w (p .placing .offsets-hold);
     index = w .new .asked .image .index;
   };
 }
 
 -- and the second beside the first
-pub two-kept : {s words : List ℕ} {book : Book} {q : Asked} {place at : ℕ} {hearing first offsets second others : List ℕ}
-    → (w : PlacedBeside s words book q place at hearing first offsets second) → FirstPlacing (beside (rowOn q 1 first offsets) (bookIn s)) (q .period) second others
-    → TwoKept s words book q place at first offsets second others
+pub two-kept : {s words : List ℕ} {book : Book} {q : Asked} {at : ℕ} {hearing first offsets second others : List ℕ}
+    → (w : PlacedBeside s words book q at hearing first offsets second) → FirstPlacing (beside (rowOn q 1 first offsets) (bookIn s)) (q .period) second others
+    → TwoKept s words book q at first offsets second others
 two-kept {s} {first = first} {second = second} w p =
     let r = w .routes in
     let h = w .placed .placing .offsets-hold in
@@ -80,7 +79,6 @@ two-kept {s} {first = first} {second = second} w p =
       );
       marked = record {
         slots-are = route-slots (r .first-route);
-        period-is = r .first-route .new .asked .period-is;
         markable = route-markable (r .first-route) h;
         index = r .first-route .new .asked .image .index;
       };

@@ -1,12 +1,12 @@
 -- Whether an account does not pay for the routes of an open.
-use mathlib.Core.Path.{_≡_, sym, ap₂, subst}
+use mathlib.Core.Path.{_≡_, sym, ap, subst}
 use mathlib.Core.Bool.{Bool, not, _&&_}
 use mathlib.Core.List.{List}
 use Prim.Native.Nat.{ℕ, _+_, _*_, _<_}
 use native.Mathlib.Omega.{arith}
 use lib.Dec.{eqb, ltb}
 use Rattle.rules.specs.Words.{_∈_, Tests, total}
-use Rattle.rules.specs.Tiles.{periodAt, repeats}
+use Rattle.rules.specs.Tiles.{repeats}
 use Rattle.rules.specs.Topology.{hopCount}
 use Rattle.rules.specs.Book.{Account, drawn}
 use Rattle.rules.specs.Placing.{Asked, NotPaid}
@@ -30,8 +30,7 @@ module _ (s : List ℕ) (q : Asked) (routes : List (List ℕ)) where
       go (yes h) = record { known = record { account = h .0; there = h .1; named = h .2 .0 }; short = h .2 .1 }
       go (no g) = absurd (f (λ a m n. let k : (a .bought < least) → ⊥ = λ l. g (a, m, (n, l)) in omega arith))
 
-  pub tests-short : (hops place : ℕ) {t : Bool} → total hopCount routes ≡ hops → periodAt place ≡ q .period
-      → Tests t (Pays s (q .account) (hops * repeats (periodAt place))) → Tests (not t) (NotPaid (bookIn s) q routes)
-  tests-short hops place {t} e p w =
-      alike (tests-not (subst (λ (n : ℕ). Tests t (Pays s (q .account) n)) (ap₂ (λ (h K : ℕ). h * repeats K) (sym e) p) w)) not-enough
+  pub tests-short : (hops : ℕ) {t : Bool} → total hopCount routes ≡ hops → Tests t (Pays s (q .account) (hops * repeats (q .period))) → Tests (not t) (NotPaid (bookIn s) q routes)
+  tests-short hops {t} e w =
+      alike (tests-not (subst (λ (n : ℕ). Tests t (Pays s (q .account) n)) (ap (λ (h : ℕ). h * repeats (q .period)) (sym e)) w)) not-enough
       (λ n f. omega (arith, f (n .known .account) (n .known .there) (n .known .named), n .short))

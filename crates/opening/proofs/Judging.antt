@@ -5,8 +5,7 @@ use mathlib.Core.List.{List}
 use Prim.Native.Nat.{ℕ, _<_, _≤_}
 use native.Mathlib.Omega.{arith}
 use native.Mathlib.Decide.{decLt}
-use Rattle.rules.specs.Tiles.{Period, periodAt}
-use Rattle.rules.specs.Periods.{InList}
+use Rattle.rules.specs.Tiles.{Period}
 use Rattle.rules.specs.Topology.{nodes}
 use Rattle.rules.specs.Placing.{Asked}
 use Rattle.rules.specs.Image.{linksPlace, versionOf, planOf, nodesOf, linksOf}
@@ -46,8 +45,8 @@ module _ (q : Asked) (N : ℕ) where
         pub no-period : (Period (q .period) → ⊥) → JudgedBy q N (Refused 6)
         no-period f = (inr (id, inr (known, inr (apart, inl (f, refl)))), λ z. omega arith)
 
-        pub in-order : {place : ℕ} → Period (q .period) → InList place → periodAt place ≡ q .period → JudgedBy q N (InOrder place)
-        in-order p i e = ((id, (known, (apart, ((λ f. f p), tt)))), i, e)
+        pub in-order : Period (q .period) → JudgedBy q N InOrder
+        in-order p = ((id, (known, (apart, ((λ f. f p), tt)))), p)
 
 -- ON A BOOK: what was judged by the nodes that the header gives
 known-nodes : {s : List ℕ} {book : head.Book} → HeaderOf s book → book .nodes ≡ nodes (linksOf s)
@@ -76,11 +75,11 @@ module _ {s : List ℕ} {book : head.Book} {q : Asked} (h : HeaderOf s book) whe
       let k = subst (λ (N : ℕ). JudgedBy q N (Refused number)) (known-nodes h) (subst (λ (m : ℕ). JudgedBy q (book .nodes) (Refused m)) (sym e) j) in
       works (out-first (askedRefusals q (nodes (linksOf s))) _ (k .0) (k .1) i)
 
-  module _ {place : ℕ} (j : JudgedBy q (book .nodes) (InOrder place)) where
+  module _ (j : JudgedBy q (book .nodes) InOrder) where
     pub judged-opens : {mains number len : ℕ} {out words : List ℕ} → OpensAsked s mains q number len out words → Works mains s (Open q) number len out words
     judged-opens r = works (out-then (askedRefusals q (nodes (linksOf s))) _ (subst (λ (N : ℕ). None (askedRefusals q N)) (known-nodes h) (j .0)) r)
 
-    pub judged-beside : {words : List ℕ} → ImageBeside s words → AskedBeside s words book q place
+    pub judged-beside : {words : List ℕ} → ImageBeside s words → AskedBeside s words book q
     judged-beside i = record {
       image = i;
       header = h;
@@ -88,5 +87,4 @@ module _ {s : List ℕ} {book : head.Book} {q : Asked} (h : HeaderOf s book) whe
       destination = below h (q .destination) (λ l. j .0 .1 .0 (inr l));
       apart = j .0 .1 .1 .0;
       period = j .1;
-      period-is = j .2;
     }

@@ -1,21 +1,19 @@
 -- Rows that were put in and marked: the index is that of the book with them.
-use mathlib.Core.Path.{_≡_, sym, subst, subst₂}
+use mathlib.Core.Path.{_≡_, sym, subst}
 use mathlib.Core.Logic.{inl, inr}
 use mathlib.Core.List.{List, [], _∷_, _++_}
 use Prim.Native.Nat.{ℕ}
 use native.Mathlib.Omega.{arith}
 use Rattle.rules.specs.Words.{_∈_, Reordered}
-use Rattle.rules.specs.Tiles.{Period, periodAt}
 use Rattle.rules.specs.Topology.{hopCount}
 use Rattle.rules.specs.Book.{Row, Plus}
 use Rattle.rules.specs.Placing.{Asked, NotPaid}
 use Rattle.rules.specs.Image.{planOf}
-use Rattle.rules.proofs.Periods.{at-period}
 use Rattle.rules.proofs.Lists.{reordered-in, reordered-back}
 use Rattle.rules.proofs.Reading.{rowsIn, bookIn}
 use Rattle.image.specs.declared.Book.{Book}
 use Rattle.index.specs.Index.{IndexOf}
-use Rattle.index.specs.Marks.{Adds, Notes, HopsTake}
+use Rattle.index.specs.Marks.{Adds, HopsTake}
 use Rattle.index.proofs.Rows.{index-more, index-alike}
 use Rattle.placing.specs.Marking as marking
 use Rattle.placing.specs.Marking.{Marked}
@@ -25,19 +23,19 @@ use Rattle.opening.specs.Keeping.{Keeps, MarkedAs, OneKept, TwoKept}
 use Rattle.opening.proofs.Outcomes.{out-next, out-done}
 
 -- the marks of a route are those of its row
-pub marked-row : {s words marks : List ℕ} {q : Asked} {slots place : ℕ} {rows : List Row} {route offsets : List ℕ} (way : ℕ)
-    → MarkedAs s words q slots place rows route offsets → Marked slots place route offsets words marks → IndexOf (planOf s .slots) (rowOn q way route offsets ∷ rows) marks
+pub marked-row : {s words marks : List ℕ} {q : Asked} {slots : ℕ} {rows : List Row} {route offsets : List ℕ} (way : ℕ)
+    → MarkedAs s words q slots rows route offsets → Marked slots (q .period) route offsets words marks → IndexOf (planOf s .slots) (rowOn q way route offsets ∷ rows) marks
 marked-row {words = words} {marks} {q} {route = route} {offsets} way w m =
-    index-more (omega (arith, w .slots-are, w .markable .few)) (w .index) (subst Period (w .period-is) (at-period _ (w .markable .period)))
-    (subst₂ (λ (K S : ℕ). Adds (HopsTake S (marking.rowOn (q .id) way (q .account) K route offsets) (hopCount route)) words (m .words)) (w .period-is) (w .slots-are)
+    index-more (omega (arith, w .slots-are, w .markable .few)) (w .index) (w .markable .period)
+    (subst (λ (S : ℕ). Adds (HopsTake S (marking.rowOn (q .id) way (q .account) (q .period) route offsets) (hopCount route)) words (m .words)) (w .slots-are)
     (m .adds (q .id) way (q .account)))
-    (subst (λ (K : ℕ). Notes K (m .words) marks) (w .period-is) (m .notes))
+    (m .notes)
 
 -- a second is marked beside the first
-pub first-marked : {s words mid : List ℕ} {book : Book} {q : Asked} {place at : ℕ} {first offsets second others : List ℕ}
-    → TwoKept s words book q place at first offsets second others → Marked (book .plan .slots .0) place first offsets words mid
-    → MarkedAs s mid q (book .plan .slots .0) place (rowOn q 1 first offsets ∷ rowsIn s) second others
-first-marked w m = record { slots-are = w .marked .slots-are; period-is = w .marked .period-is; markable = w .markable; index = marked-row 1 (w .marked) m }
+pub first-marked : {s words mid : List ℕ} {book : Book} {q : Asked} {at : ℕ} {first offsets second others : List ℕ}
+    → TwoKept s words book q at first offsets second others → Marked (book .plan .slots .0) (q .period) first offsets words mid
+    → MarkedAs s mid q (book .plan .slots .0) (rowOn q 1 first offsets ∷ rowsIn s) second others
+first-marked w m = record { slots-are = w .marked .slots-are; markable = w .markable; index = marked-row 1 (w .marked) m }
 
 -- the rows put in, in whatever order they are marked
 pub kept : {s out words : List ℕ} {new rows : List Row} {len : ℕ} → PutIn s new len out → IndexOf (planOf s .slots) rows words
@@ -49,17 +47,17 @@ kept p i f g = record {
   index = index-alike (λ x m. reordered-back x (p .plus .rows) (f x m)) (λ x m. g x (reordered-in x (p .plus .rows) m)) i;
 }
 
-module _ {s words marks out : List ℕ} {book : Book} {q : Asked} {place at number len size : ℕ} (e : number ≡ 0) (l : len ≡ size) where
-  pub keep-one : {route offsets : List ℕ} → OneKept s words book q place at route offsets → (NotPaid (bookIn s) q (route ∷ []) → ⊥)
-      → PutIn s (rowOn q 1 route offsets ∷ []) size out → Marked (book .plan .slots .0) place route offsets words marks
+module _ {s words marks out : List ℕ} {book : Book} {q : Asked} {at number len size : ℕ} (e : number ≡ 0) (l : len ≡ size) where
+  pub keep-one : {route offsets : List ℕ} → OneKept s words book q at route offsets → (NotPaid (bookIn s) q (route ∷ []) → ⊥)
+      → PutIn s (rowOn q 1 route offsets ∷ []) size out → Marked (book .plan .slots .0) (q .period) route offsets words marks
       → Keeps s q (route ∷ []) (rowOn q 1 route offsets ∷ []) number len out marks
   keep-one {route} {offsets} w f p m =
       out-next f (out-done e
       (subst (λ (n : ℕ). Kept (Plus (bookIn s) (rowOn q 1 route offsets ∷ [])) s n out marks) (sym l) (kept p (marked-row 1 (w .marked) m) (λ x k. k) (λ x k. k))))
 
-  module _ {first offsets second others mid : List ℕ} (w : TwoKept s words book q place at first offsets second others) (m : Marked (book .plan .slots .0) place first offsets words mid) where
+  module _ {first offsets second others mid : List ℕ} (w : TwoKept s words book q at first offsets second others) (m : Marked (book .plan .slots .0) (q .period) first offsets words mid) where
     pub keep-two : (NotPaid (bookIn s) q (first ∷ second ∷ []) → ⊥) → PutIn s (rowOn q 1 first offsets ∷ rowOn q 2 second others ∷ []) size out
-        → Marked (book .plan .slots .0) place second others mid marks → Keeps s q (first ∷ second ∷ []) (rowOn q 1 first offsets ∷ rowOn q 2 second others ∷ []) number len out marks
+        → Marked (book .plan .slots .0) (q .period) second others mid marks → Keeps s q (first ∷ second ∷ []) (rowOn q 1 first offsets ∷ rowOn q 2 second others ∷ []) number len out marks
     keep-two f p n =
         out-next f (out-done e
         (subst (λ (k : ℕ). Kept (Plus (bookIn s) (rowOn q 1 first offsets ∷ rowOn q 2 second others ∷ [])) s k out marks) (sym l)

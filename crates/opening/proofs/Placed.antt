@@ -6,13 +6,12 @@ use Prim.Native.Nat.{ℕ, _-_, _<_, _≤_}
 use native.Mathlib.Omega.{arith}
 use lib.ListN.{length, getD}
 use Rattle.rules.specs.Words.{_∈_}
-use Rattle.rules.specs.Tiles.{Plan, Period, periodAt, shortTiles}
+use Rattle.rules.specs.Tiles.{Plan, shortTiles}
 use Rattle.rules.specs.Topology.{Topology}
 use Rattle.rules.specs.Periods.{thePlan}
 use Rattle.rules.specs.Book.{Row, LawfulBook}
 use Rattle.rules.specs.Placing.{Asked, beside}
 use Rattle.rules.specs.Image.{planOf, hearingOf, streamsOf, rowsPlace}
-use Rattle.rules.proofs.Periods.{at-period}
 use Rattle.rules.proofs.Reading.{rowsIn, bookIn}
 use Rattle.image.specs.declared.Book.{Book}
 use Rattle.bitset.specs.Rows.{topology}
@@ -28,20 +27,17 @@ use Rattle.opening.specs.Beside.{RouteAsked, RouteBeside, PlacedOn, Plac
 use Rattle.opening.proofs.Around.{image-beside}
 
 -- what is asked of a route is known where its row would stand
-pub asked-route : {s words : List ℕ} {book : Book} {q : Asked} {place at : ℕ} {hearing route : List ℕ} → RouteBeside s words book q place at hearing route
-    → RouteAsked s words book q place hearing route
+pub asked-route : {s words : List ℕ} {book : Book} {q : Asked} {at : ℕ} {hearing route : List ℕ} → RouteBeside s words book q at hearing route
+    → RouteAsked s words book q hearing route
 asked-route w = record { asked = w .new .asked; heard = w .heard; path = w .path; few = w .few }
 
-module _ {s words : List ℕ} {book : Book} {q : Asked} {place : ℕ} {hearing route : List ℕ} (w : RouteAsked s words book q place hearing route) where
+module _ {s words : List ℕ} {book : Book} {q : Asked} {hearing route : List ℕ} (w : RouteAsked s words book q hearing route) where
   lawful : LawfulBook (bookIn s)
   lawful = w .asked .image .newest .lawful .lawful
 
-  pub asked-period : Period (q .period)
-  asked-period = subst Period (w .asked .period-is) (at-period place (w .asked .period))
-
-  pub placing-asked : placing.Asked (thePlan (book .plan)) (topology hearing) route place
+  pub placing-asked : placing.Asked (thePlan (book .plan)) (topology hearing) route (q .period)
   placing-asked =
-      subst₂ (λ (plan : Plan) (T : Topology). placing.Asked plan T route place) (sym (w .asked .header .plan)) (sym (ap topology (w .heard))) (record {
+      subst₂ (λ (plan : Plan) (T : Topology). placing.Asked plan T route (q .period)) (sym (w .asked .header .plan)) (sym (ap topology (w .heard))) (record {
         in-range = lawful .site .plan;
         sound = lawful .site .topologies .hearing-sound;
         most = omega (arith, lawful .site .topologies .even, lawful .site .nodes .1);
@@ -67,20 +63,20 @@ module _ {s words : List ℕ} {book : Book} {q : Asked} {place : ℕ} {hearing r
       stands-around fits small =
           record { there = record { each = λ i l. rows-stand .each i (omega (arith, l, v .most)); few = omega (arith, v .most, rows-stand .few) }; fits = fits; small = small }
 
-      pub placed-on : (r : Placing) → AnswersBy (thePlan (book .plan)) (topology hearing) (around words s start rows moduli first taken) (periodAt place) route (r .found) (r .offsets)
+      pub placed-on : (r : Placing) → AnswersBy (thePlan (book .plan)) (topology hearing) (around words s start rows moduli first taken) (q .period) route (r .found) (r .offsets)
           → PlacedOn s q route first taken r
       placed-on r a c h =
           let b = image-beside (w .asked .image) in
           let weighs = subst₂ (λ (k m : ℕ). Weighs s k m (q .period) moduli rows) e f (subst (λ (K : ℕ). Weighs s start n K moduli rows) g v) in
           record {
-            placed = first-beside b asked-period weighs h route (r .found) (r .offsets) answers;
-            none = none-beside b asked-period weighs h route (r .found) (r .offsets) answers;
+            placed = first-beside b (w .asked .period) weighs h route (r .found) (r .offsets) answers;
+            none = none-beside b (w .asked .period) weighs h route (r .found) (r .offsets) answers;
           }
         where
           answers : AnswersBy (planOf s) (hearingOf s) (around words s (rowsPlace s) rows moduli first taken) (q .period) route (r .found) (r .offsets)
           answers =
-              subst₂ (λ (k K : ℕ). AnswersBy (planOf s) (hearingOf s) (around words s k rows moduli first taken) K route (r .found) (r .offsets)) e (w .asked .period-is)
-              (subst₂ (λ (plan : Plan) (T : Topology). AnswersBy plan T (around words s start rows moduli first taken) (periodAt place) route (r .found) (r .offsets))
+              subst (λ (k : ℕ). AnswersBy (planOf s) (hearingOf s) (around words s k rows moduli first taken) (q .period) route (r .found) (r .offsets)) e
+              (subst₂ (λ (plan : Plan) (T : Topology). AnswersBy plan T (around words s start rows moduli first taken) (q .period) route (r .found) (r .offsets))
               (w .asked .header .plan) (ap topology (w .heard)) a)
 
 -- the book itself has no other row
@@ -89,7 +85,7 @@ covers-none s K =
     record { site = refl; known = λ x m. m; each = λ x m. inl m; other = λ l. absurd (omega arith); count = refl; within = λ o m. absurd m }
 
 -- and with the first's row it has that one
-pub covers-first : {s words : List ℕ} {book : Book} {q : Asked} {place at : ℕ} {hearing first offsets second : List ℕ} → PlacedBeside s words book q place at hearing first offsets second
+pub covers-first : {s words : List ℕ} {book : Book} {q : Asked} {at : ℕ} {hearing first offsets second : List ℕ} → PlacedBeside s words book q at hearing first offsets second
     → Covers s (rowsIn s) (q .period) first offsets (beside (rowOn q 1 first offsets) (bookIn s))
 covers-first {s} {q = q} {first = first} {offsets} w = record {
   site = refl;
@@ -105,8 +101,8 @@ covers-first {s} {q = q} {first = first} {offsets} w = record {
     each x (inr m) = inl m
 
 -- the second is asked for beside the first
-pub beside-asked : {s words : List ℕ} {book : Book} {q : Asked} {place at : ℕ} {hearing first offsets second : List ℕ} → PlacedBeside s words book q place at hearing first offsets second
-    → RouteAsked s words book q place hearing second × (length offsets ≤ length first - 1) × ((a : ℕ) → a ∈ first → a < 64)
+pub beside-asked : {s words : List ℕ} {book : Book} {q : Asked} {at : ℕ} {hearing first offsets second : List ℕ} → PlacedBeside s words book q at hearing first offsets second
+    → RouteAsked s words book q hearing second × (length offsets ≤ length first - 1) × ((a : ℕ) → a ∈ first → a < 64)
 beside-asked w = (
   asked-route (w .routes .second-route),
   omega (arith, w .placed .placing .offsets-hold .count),

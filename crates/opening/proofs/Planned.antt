@@ -38,7 +38,7 @@ module _ {s : List ℕ} (h : LawfulImage s) where
   pub nodes-few : nodes (linksOf s) ≤ 64
   nodes-few = h .lawful .site .nodes .1
 
-module _ {s words : List ℕ} {book : head.Book} {q : placing.Asked} {place : ℕ} (w : AskedBeside s words book q place) where
+module _ {s words : List ℕ} {book : head.Book} {q : placing.Asked} (w : AskedBeside s words book q) where
   lawful : LawfulImage s
   lawful = w .image .newest .lawful
 

@@ -17,7 +17,7 @@ use Rattle.routes.specs.Second.{SecondSays}
 use Rattle.opening.specs.Beside.{NewBeside, RouteBeside, RoutesBeside, SecondBeside}
 use Rattle.opening.proofs.Planned.{asked-links}
 
-module _ {s words : List ℕ} {mains : ℕ} {book : Book} {q : Asked} {place at : ℕ} {links hearing first : List ℕ} (w : SecondBeside s words mains book q place at links hearing first) where
+module _ {s words : List ℕ} {mains : ℕ} {book : Book} {q : Asked} {at : ℕ} {links hearing first : List ℕ} (w : SecondBeside s words mains book q at links hearing first) where
   pub second-asked : routes.Asked (topology links) (q .source) (q .destination) × Route (topology links) mains (q .source) (q .destination) first
   second-asked = (
     asked-links (w .planned .new .asked) (w .planned .linked),
@@ -45,7 +45,7 @@ module _ {s words : List ℕ} {mains : ℕ} {book : Book} {q : Asked} {place at 
       pub second-planned : Planned (linksOf s) mains q (first ∷ take (r .hops + 1) (r .nodes) ∷ [])
       second-planned = two (w .asked-two) (w .planned .planned) second
 
-      pub second-routes : RoutesBeside s words book q place at hearing first (take (r .hops + 1) (r .nodes))
+      pub second-routes : RoutesBeside s words book q at hearing first (take (r .hops + 1) (r .nodes))
       second-routes = record {
         first-route = record { new = w .planned .new; heard = w .heard; path = w .planned .planned .is .between .path; few = w .planned .planned .is .most };
         second-route = record { new = w .planned .new; heard = w .heard; path = second .is .0 .path; few = omega (arith, second .is .1 .short) };

@@ -5,9 +5,8 @@ use mathlib.Core.List.{List, [], _∷_}
 use Prim.Native.Nat.{ℕ, _<_, _≤_}
 use lib.ListN.{take}
 use Rattle.rules.specs.Book as rules
-use Rattle.rules.specs.Tiles.{periodAt}
+use Rattle.rules.specs.Tiles.{Period}
 use Rattle.rules.specs.Topology.{Path, hopCount, mostRouteHops, Route}
-use Rattle.rules.specs.Periods.{InList}
 use Rattle.rules.specs.Placing as placing
 use Rattle.rules.specs.Placing.{Asked, FirstPlacing, Full}
 use Rattle.rules.specs.Image.{nodesOf, accountsOf, linksOf, hearingOf}
@@ -20,25 +19,24 @@ use Rattle.placing.specs.declared.Placing.{Placing}
 use Rattle.placing.specs.declared.Found.the-variants.{Placed, NoPlacing}
 use Rattle.finding.specs.Spot.{Vacant}
 
--- with what the header says; the request is in order, its period at the place
-pub record AskedBeside (s words : List ℕ) (book : Book) (q : Asked) (place : ℕ) : Type 0 where
+-- with what the header says; the request is in order
+pub record AskedBeside (s words : List ℕ) (book : Book) (q : Asked) : Type 0 where
   pub image : ImageBeside s words
   pub header : HeaderOf s book
   pub source : q .source < nodesOf s
   pub destination : q .destination < nodesOf s
   pub apart : q .source ≡ q .destination → ⊥
-  pub period : InList place
-  pub period-is : periodAt place ≡ q .period
+  pub period : Period (q .period)
 
 -- and its account is known, and its id new: its row would stand at the place
-pub record NewBeside (s words : List ℕ) (book : Book) (q : Asked) (place at : ℕ) : Type 0 where
-  pub asked : AskedBeside s words book q place
+pub record NewBeside (s words : List ℕ) (book : Book) (q : Asked) (at : ℕ) : Type 0 where
+  pub asked : AskedBeside s words book q
   pub account : rules.KnownAccount (accountsOf s) (q .account)
   pub vacant : Vacant s (q .id) at
 
 -- with the hearing, and a route
-pub record RouteAsked (s words : List ℕ) (book : Book) (q : Asked) (place : ℕ) (hearing route : List ℕ) : Type 0 where
-  pub asked : AskedBeside s words book q place
+pub record RouteAsked (s words : List ℕ) (book : Book) (q : Asked) (hearing route : List ℕ) : Type 0 where
+  pub asked : AskedBeside s words book q
   pub heard : hearing ≡ hearingOf s .rows
   pub path : Path (linksOf s) route
   pub few : hopCount route ≤ mostRouteHops
@@ -53,31 +51,31 @@ abbrev pub PlacedOn : List ℕ → Asked → List ℕ → List ℕ → List ℕ 
 PlacedOn s q route first taken r = (c : rules.Book) → Covers s (rowsIn s) (q .period) first taken c → PlacedIn c q route r
 
 -- and with the hearing, and a route
-pub record RouteBeside (s words : List ℕ) (book : Book) (q : Asked) (place at : ℕ) (hearing route : List ℕ) : Type 0 where
-  pub new : NewBeside s words book q place at
+pub record RouteBeside (s words : List ℕ) (book : Book) (q : Asked) (at : ℕ) (hearing route : List ℕ) : Type 0 where
+  pub new : NewBeside s words book q at
   pub heard : hearing ≡ hearingOf s .rows
   pub path : Path (linksOf s) route
   pub few : hopCount route ≤ mostRouteHops
 
 -- and with a second one
-pub record RoutesBeside (s words : List ℕ) (book : Book) (q : Asked) (place at : ℕ) (hearing first second : List ℕ) : Type 0 where
-  pub first-route : RouteBeside s words book q place at hearing first
-  pub second-route : RouteBeside s words book q place at hearing second
+pub record RoutesBeside (s words : List ℕ) (book : Book) (q : Asked) (at : ℕ) (hearing first second : List ℕ) : Type 0 where
+  pub first-route : RouteBeside s words book q at hearing first
+  pub second-route : RouteBeside s words book q at hearing second
 
 -- and the first placed, with room for both
-pub record PlacedBeside (s words : List ℕ) (book : Book) (q : Asked) (place at : ℕ) (hearing first offsets second : List ℕ) : Type 0 where
-  pub routes : RoutesBeside s words book q place at hearing first second
+pub record PlacedBeside (s words : List ℕ) (book : Book) (q : Asked) (at : ℕ) (hearing first offsets second : List ℕ) : Type 0 where
+  pub routes : RoutesBeside s words book q at hearing first second
   pub placed : FirstPlacing (bookIn s) (q .period) first offsets
   pub room : Full (bookIn s) (first ∷ second ∷ []) → ⊥
 
 -- where the first is the planner's, with the set of nodes that may stand in the middle: with the links
-pub record PlannedBeside (s words : List ℕ) (mains : ℕ) (book : Book) (q : Asked) (place at : ℕ) (links first : List ℕ) : Type 0 where
-  pub new : NewBeside s words book q place at
+pub record PlannedBeside (s words : List ℕ) (mains : ℕ) (book : Book) (q : Asked) (at : ℕ) (links first : List ℕ) : Type 0 where
+  pub new : NewBeside s words book q at
   pub linked : links ≡ linksOf s .rows
   pub planned : Route (linksOf s) mains (q .source) (q .destination) first
 
 -- and a second one is asked for, with the hearing
-pub record SecondBeside (s words : List ℕ) (mains : ℕ) (book : Book) (q : Asked) (place at : ℕ) (links hearing first : List ℕ) : Type 0 where
-  pub planned : PlannedBeside s words mains book q place at links first
+pub record SecondBeside (s words : List ℕ) (mains : ℕ) (book : Book) (q : Asked) (at : ℕ) (links hearing first : List ℕ) : Type 0 where
+  pub planned : PlannedBeside s words mains book q at links first
   pub heard : hearing ≡ hearingOf s .rows
   pub asked-two : q .second ≡ true

@@ -3,7 +3,6 @@ use mathlib.Core.Path.{_≡_}
 use mathlib.Core.List.{List, [], _∷_}
 use Prim.Native.Nat.{ℕ}
 use Rattle.rules.specs.Says.{_when_}
-use Rattle.rules.specs.Tiles.{periodAt}
 use Rattle.rules.specs.Book.{Row}
 use Rattle.rules.specs.Placing.{Asked, NotPaid}
 use Rattle.rules.specs.Image.{planOf}
@@ -20,21 +19,20 @@ abbrev pub Keeps : List ℕ → Asked → List (List ℕ) → List Row → ℕ �
 Keeps s q routes new = Outcome ((23 when NotPaid (bookIn s) q routes) ∷ []) (WithRows s new) s
 
 -- a route that can be put in and marked, beside the index of these rows
-pub record MarkedAs (s words : List ℕ) (q : Asked) (slots place : ℕ) (rows : List Row) (route offsets : List ℕ) : Type 0 where
+pub record MarkedAs (s words : List ℕ) (q : Asked) (slots : ℕ) (rows : List Row) (route offsets : List ℕ) : Type 0 where
   pub slots-are : slots ≡ planOf s .slots
-  pub period-is : periodAt place ≡ q .period
-  pub markable : Markable slots place route offsets
+  pub markable : Markable slots (q .period) route offsets
   pub index : IndexOf (planOf s .slots) rows words
 
 -- one route, beside the rows of the image
-pub record OneKept (s words : List ℕ) (book : Book) (q : Asked) (place at : ℕ) (route offsets : List ℕ) : Type 0 where
-  pub new : NewBeside s words book q place at
+pub record OneKept (s words : List ℕ) (book : Book) (q : Asked) (at : ℕ) (route offsets : List ℕ) : Type 0 where
+  pub new : NewBeside s words book q at
   pub put : OnePut s at q route offsets
-  pub marked : MarkedAs s words q (book .plan .slots .0) place (rowsIn s) route offsets
+  pub marked : MarkedAs s words q (book .plan .slots .0) (rowsIn s) route offsets
 
 -- and a second
-pub record TwoKept (s words : List ℕ) (book : Book) (q : Asked) (place at : ℕ) (first offsets second others : List ℕ) : Type 0 where
-  pub new : NewBeside s words book q place at
+pub record TwoKept (s words : List ℕ) (book : Book) (q : Asked) (at : ℕ) (first offsets second others : List ℕ) : Type 0 where
+  pub new : NewBeside s words book q at
   pub put : TwoPut s at q first offsets second others
-  pub marked : MarkedAs s words q (book .plan .slots .0) place (rowsIn s) first offsets
-  pub markable : Markable (book .plan .slots .0) place second others
+  pub marked : MarkedAs s words q (book .plan .slots .0) (rowsIn s) first offsets
+  pub markable : Markable (book .plan .slots .0) (q .period) second others

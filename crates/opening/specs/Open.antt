@@ -3,8 +3,7 @@ use mathlib.Core.Path.{_≡_}
 use mathlib.Core.List.{List, [], _∷_}
 use Prim.Native.Nat.{ℕ}
 use Rattle.rules.specs.Says.{Refusal, _when_, Says}
-use Rattle.rules.specs.Tiles.{periodAt}
-use Rattle.rules.specs.Periods.{InList}
+use Rattle.rules.specs.Tiles.{Period}
 use Rattle.rules.specs.Topology.{NoRoute, TooFar}
 use Rattle.rules.specs.Book.{Row, Book, KnownAccount, Known, Plus}
 use Rattle.rules.specs.Placing.{Asked, NoSecond, Full, NewRows, NoPlacings, NotPaid}
@@ -24,10 +23,10 @@ pub record Kept (R : Book → Type 0) (s : List ℕ) (len : ℕ) (out words : Li
   pub laid : Laid s (encode newest after) len out
   pub index : IndexOf (planOf s .slots) (after .rows) words
 
--- what is wrong with a request by itself; or nothing is, and its period is at the place
+-- what is wrong with a request by itself; or nothing is
 abbrev pub JudgedBy : Asked → ℕ → Judged → Type 0
 JudgedBy q N (Refused n) = Says (askedRefusals q N) n × (n ≡ 0 → ⊥)
-JudgedBy q N (InOrder place) = None (askedRefusals q N) × InList place × (periodAt place ≡ q .period)
+JudgedBy q N InOrder = None (askedRefusals q N) × Period (q .period)
 
 -- the number that the refusals say; where it is done, the image of a book with R and the index of its rows, and otherwise the index as it was
 pub record Outcome (refusals : List Refusal) (R : Book → Type 0) (s : List ℕ) (number len : ℕ) (out words : List ℕ) : Type 0 where

@@ -15,10 +15,10 @@ use rules::Place;
 mod paying;
 mod ways;
 
-// What is wrong with a request by itself; or nothing is, and its period is at the place.
+// What is wrong with a request by itself; or nothing is.
 pub enum Judged {
     Refused(u8),
-    InOrder(usize),
+    InOrder,
 }
 
 // Seeks the route of a request that is in order, with only members of the set in the middle, and opens the stream on it.
@@ -28,11 +28,10 @@ fn open_new(
     mains: u64,
     book: Book,
     q: Asked,
-    place: usize,
     at: usize,
     out: &mut [u8; Book::LONGEST],
 ) -> Answer
-    requires { ⌜ NewBeside (now image) (now index) book (theAsked q) place at ⌝ }
+    requires { ⌜ NewBeside (now image) (now index) book (theAsked q) at ⌝ }
     ensures { λ r. ⌜ OpensNew (now (image .entry)) mains (theAsked q) (r .number) (r .length) (now (out .exit)) (now (index .exit)) ⌝ }
 {
     let n = book.nodes;
@@ -50,7 +49,6 @@ fn open_new(
             mains,
             book,
             q,
-            place,
             at,
             &rows[..n],
             &nodes[..end],
@@ -66,10 +64,9 @@ fn open_asked(
     mains: u64,
     book: Book,
     q: Asked,
-    place: usize,
     out: &mut [u8; Book::LONGEST],
 ) -> Answer
-    requires { ⌜ AskedBeside (now image) (now index) book (theAsked q) place ⌝ }
+    requires { ⌜ AskedBeside (now image) (now index) book (theAsked q) ⌝ }
     ensures { λ r. ⌜ OpensAsked (now (image .entry)) mains (theAsked q) (r .number) (r .length) (now (out .exit)) (now (index .exit)) ⌝ }
 {
     if !accounts::is_known(image, book, q.account) {
@@ -77,7 +74,7 @@ fn open_asked(
     }
     match finding::find(image, q.id) {
         Spot::Here(_) => answers::refused(2),
-        Spot::Between(at) => open_new(image, index, mains, book, q, place, at, out),
+        Spot::Between(at) => open_new(image, index, mains, book, q, at, out),
     }
 }
 
@@ -98,7 +95,7 @@ fn judge(q: Asked, nodes: usize) -> Judged
         return Judged::Refused(5);
     }
     match rules::place_of(q.period) {
-        Place::At(place) => Judged::InOrder(place),
+        Place::At(_) => Judged::InOrder,
         Place::Nowhere => Judged::Refused(6),
     }
 }
@@ -117,6 +114,6 @@ pub fn open_on(
     let book = Book::read(image);
     match judge(q, book.nodes) {
         Judged::Refused(number) => answers::refused(number),
-        Judged::InOrder(place) => open_asked(image, index, mains, book, q, place, out),
+        Judged::InOrder => open_asked(image, index, mains, book, q, out),
     }
 }

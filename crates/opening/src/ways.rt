@@ -36,13 +36,12 @@ fn place_beside(
     index: &[u64; index::WORDS],
     book: Book,
     q: Asked,
-    place: usize,
     hearing: &[u64],
     route: &[u8],
     first: &[u8],
     taken: &[u16],
 ) -> Placing
-    requires { ⌜ RouteAsked (now image) (now index) book (theAsked q) place (now hearing) (now route) × (length (now taken) ≤ length (now first) - 1)
+    requires { ⌜ RouteAsked (now image) (now index) book (theAsked q) (now hearing) (now route) × (length (now taken) ≤ length (now first) - 1)
         × ((a : ℕ) → a ∈ now first → a < 64) ⌝ }
     ensures { λ r. ⌜ PlacedOn (now (image .entry)) (theAsked q) (now (route .entry)) (now (first .entry)) (now (taken .entry)) r ⌝ }
 {
@@ -63,7 +62,7 @@ fn place_beside(
         plan,
         hearing,
         route,
-        place,
+        q.period,
         index,
         image,
         start,
@@ -80,11 +79,10 @@ fn place_alone(
     index: &[u64; index::WORDS],
     book: Book,
     q: Asked,
-    place: usize,
     hearing: &[u64],
     route: &[u8],
 ) -> Placing
-    requires { ⌜ RouteAsked (now image) (now index) book (theAsked q) place (now hearing) (now route) ⌝ }
+    requires { ⌜ RouteAsked (now image) (now index) book (theAsked q) (now hearing) (now route) ⌝ }
     ensures { λ r. ⌜ PlacedIn (bookIn (now (image .entry))) (theAsked q) (now (route .entry)) r ⌝ }
 {
     let none = [0u16; 1];
@@ -93,7 +91,6 @@ fn place_alone(
         index,
         book,
         q,
-        place,
         hearing,
         route,
         &route[..0],
@@ -107,21 +104,20 @@ fn keep_one(
     index: &mut [u64; index::WORDS],
     book: Book,
     q: Asked,
-    place: usize,
     at: usize,
     route: &[u8],
     offsets: &[u16],
     out: &mut [u8; Book::LONGEST],
 ) -> Answer
-    requires { ⌜ OneKept (now image) (now index) book (theAsked q) place at (now route) (now offsets) ⌝ }
+    requires { ⌜ OneKept (now image) (now index) book (theAsked q) at (now route) (now offsets) ⌝ }
     ensures { λ r. ⌜ Keeps (now (image .entry)) (theAsked q) (now (route .entry) ∷ []) (rowOn (theAsked q) 1 (now (route .entry)) (now (offsets .entry)) ∷ []) (r .number) (r .length)
         (now (out .exit)) (now (index .exit)) ⌝ }
 {
-    if !paying::is_paid(image, book, q.account, place, offsets.len()) {
+    if !paying::is_paid(image, book, q.account, q.period, offsets.len()) {
         return answers::refused(23);
     }
     let length = adding::put_one(image, at, q, route, offsets, out);
-    placing::marking::mark(book.plan.slots, place, route, offsets, index);
+    placing::marking::mark(book.plan.slots, q.period, route, offsets, index);
     answers::done(length)
 }
 
@@ -131,35 +127,24 @@ fn open_one(
     index: &mut [u64; index::WORDS],
     book: Book,
     q: Asked,
-    place: usize,
     at: usize,
     hearing: &[u64],
     route: &[u8],
     out: &mut [u8; Book::LONGEST],
 ) -> Answer
-    requires { ⌜ RouteBeside (now image) (now index) book (theAsked q) place at (now hearing) (now route) ⌝ }
+    requires { ⌜ RouteBeside (now image) (now index) book (theAsked q) at (now hearing) (now route) ⌝ }
     ensures { λ r. ⌜ Routed (now (image .entry)) (theAsked q) (now (route .entry) ∷ []) (r .number) (r .length) (now (out .exit)) (now (index .exit)) ⌝ }
 {
     let hops = route.len() - 1;
     if is_full(book, 1, hops) {
         return answers::refused(8);
     }
-    let placing = place_alone(image, index, book, q, place, hearing, route);
+    let placing = place_alone(image, index, book, q, hearing, route);
     let found = placing.found;
     let offsets = placing.offsets;
     match found {
         Found::NoPlacing => answers::refused(9),
-        Found::Placed => keep_one(
-            image,
-            index,
-            book,
-            q,
-            place,
-            at,
-            route,
-            &offsets[..hops],
-            out,
-        ),
+        Found::Placed => keep_one(image, index, book, q, at, route, &offsets[..hops], out),
     }
 }
 
@@ -169,7 +154,6 @@ fn keep_two(
     index: &mut [u64; index::WORDS],
     book: Book,
     q: Asked,
-    place: usize,
     at: usize,
     first: &[u8],
     offsets: &[u16],
@@ -177,18 +161,18 @@ fn keep_two(
     others: &[u16],
     out: &mut [u8; Book::LONGEST],
 ) -> Answer
-    requires { ⌜ TwoKept (now image) (now index) book (theAsked q) place at (now first) (now offsets) (now second) (now others) ⌝ }
+    requires { ⌜ TwoKept (now image) (now index) book (theAsked q) at (now first) (now offsets) (now second) (now others) ⌝ }
     ensures { λ r. ⌜ Keeps (now (image .entry)) (theAsked q) (now (first .entry) ∷ now (second .entry) ∷ [])
         (rowOn (theAsked q) 1 (now (first .entry)) (now (offsets .entry)) ∷ rowOn (theAsked q) 2 (now (second .entry)) (now (others .entry)) ∷ []) (r .number) (r .length) (now (out .exit))
         (now (index .exit)) ⌝ }
 {
     let hops = offsets.len() + others.len();
-    if !paying::is_paid(image, book, q.account, place, hops) {
+    if !paying::is_paid(image, book, q.account, q.period, hops) {
         return answers::refused(23);
     }
     let length = adding::put_two(image, at, q, first, offsets, second, others, out);
-    placing::marking::mark(book.plan.slots, place, first, offsets, index);
-    placing::marking::mark(book.plan.slots, place, second, others, index);
+    placing::marking::mark(book.plan.slots, q.period, first, offsets, index);
+    placing::marking::mark(book.plan.slots, q.period, second, others, index);
     answers::done(length)
 }
 
@@ -198,7 +182,6 @@ fn place_second(
     index: &mut [u64; index::WORDS],
     book: Book,
     q: Asked,
-    place: usize,
     at: usize,
     hearing: &[u64],
     first: &[u8],
@@ -206,21 +189,11 @@ fn place_second(
     second: &[u8],
     out: &mut [u8; Book::LONGEST],
 ) -> Answer
-    requires { ⌜ PlacedBeside (now image) (now index) book (theAsked q) place at (now hearing) (now first) (now offsets) (now second) ⌝ }
+    requires { ⌜ PlacedBeside (now image) (now index) book (theAsked q) at (now hearing) (now first) (now offsets) (now second) ⌝ }
     ensures { λ r. ⌜ Routed (now (image .entry)) (theAsked q) (now (first .entry) ∷ now (second .entry) ∷ []) (r .number) (r .length) (now (out .exit)) (now (index .exit)) ⌝ }
 {
     let hops = second.len() - 1;
-    let placing = place_beside(
-        image,
-        index,
-        book,
-        q,
-        place,
-        hearing,
-        second,
-        first,
-        offsets,
-    );
+    let placing = place_beside(image, index, book, q, hearing, second, first, offsets);
     let found = placing.found;
     let others = placing.offsets;
     match found {
@@ -230,7 +203,6 @@ fn place_second(
             index,
             book,
             q,
-            place,
             at,
             first,
             offsets,
@@ -247,21 +219,20 @@ fn open_both(
     index: &mut [u64; index::WORDS],
     book: Book,
     q: Asked,
-    place: usize,
     at: usize,
     hearing: &[u64],
     first: &[u8],
     second: &[u8],
     out: &mut [u8; Book::LONGEST],
 ) -> Answer
-    requires { ⌜ RoutesBeside (now image) (now index) book (theAsked q) place at (now hearing) (now first) (now second) ⌝ }
+    requires { ⌜ RoutesBeside (now image) (now index) book (theAsked q) at (now hearing) (now first) (now second) ⌝ }
     ensures { λ r. ⌜ Routed (now (image .entry)) (theAsked q) (now (first .entry) ∷ now (second .entry) ∷ []) (r .number) (r .length) (now (out .exit)) (now (index .exit)) ⌝ }
 {
     let hops = first.len() - 1;
     if is_full(book, 2, hops + (second.len() - 1)) {
         return answers::refused(8);
     }
-    let placing = place_alone(image, index, book, q, place, hearing, first);
+    let placing = place_alone(image, index, book, q, hearing, first);
     let found = placing.found;
     let offsets = placing.offsets;
     match found {
@@ -271,7 +242,6 @@ fn open_both(
             index,
             book,
             q,
-            place,
             at,
             hearing,
             first,
@@ -289,14 +259,13 @@ fn open_beside(
     mains: u64,
     book: Book,
     q: Asked,
-    place: usize,
     at: usize,
     links: &[u64],
     hearing: &[u64],
     first: &[u8],
     out: &mut [u8; Book::LONGEST],
 ) -> Answer
-    requires { ⌜ SecondBeside (now image) (now index) mains book (theAsked q) place at (now links) (now hearing) (now first) ⌝ }
+    requires { ⌜ SecondBeside (now image) (now index) mains book (theAsked q) at (now links) (now hearing) (now first) ⌝ }
     ensures { λ r. ⌜ OpensNew (now (image .entry)) mains (theAsked q) (r .number) (r .length) (now (out .exit)) (now (index .exit)) ⌝ }
 {
     let sought = routes::second::second(links, mains, q.source, q.destination, first);
@@ -311,7 +280,6 @@ fn open_beside(
         index,
         book,
         q,
-        place,
         at,
         hearing,
         first,
@@ -327,33 +295,20 @@ pub fn open_routed(
     mains: u64,
     book: Book,
     q: Asked,
-    place: usize,
     at: usize,
     links: &[u64],
     first: &[u8],
     out: &mut [u8; Book::LONGEST],
 ) -> Answer
-    requires { ⌜ PlannedBeside (now image) (now index) mains book (theAsked q) place at (now links) (now first) ⌝ }
+    requires { ⌜ PlannedBeside (now image) (now index) mains book (theAsked q) at (now links) (now first) ⌝ }
     ensures { λ r. ⌜ OpensNew (now (image .entry)) mains (theAsked q) (r .number) (r .length) (now (out .exit)) (now (index .exit)) ⌝ }
 {
     let n = book.nodes;
     let heard = topologies::sets(image, book.hearing_place(), n);
     let hearing = &heard[..n];
     if q.second {
-        open_beside(
-            image,
-            index,
-            mains,
-            book,
-            q,
-            place,
-            at,
-            links,
-            hearing,
-            first,
-            out,
-        )
+        open_beside(image, index, mains, book, q, at, links, hearing, first, out)
     } else {
-        open_one(image, index, book, q, place, at, hearing, first, out)
+        open_one(image, index, book, q, at, hearing, first, out)
     }
 }

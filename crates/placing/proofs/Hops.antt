@@ -1,23 +1,21 @@
 -- The hops of a placing, marked one after the other.
-use mathlib.Core.Path.{_≡_, subst}
+use mathlib.Core.Path.{subst}
 use mathlib.Core.Bool.{Bool}
 use mathlib.Core.List.{List}
 use Prim.Native.Nat.{ℕ, _+_, _<_}
 use native.Mathlib.Numerals.{add-one}
 use native.Mathlib.Omega.{arith}
 use lib.ListN.{length, getD}
-use Rattle.rules.specs.Tiles.{periodAt}
-use Rattle.rules.specs.Topology.{hopCount}
 use Rattle.rules.proofs.Lists.{at-in}
 use Rattle.clash.specs.declared.Reach.{Reach}
 use Rattle.index.specs.declared.Repeats.{Repeats}
 use Rattle.index.specs.Turns.{RepeatsOf, InIndex}
-use Rattle.index.specs.Marks.{Adds, Notes, HopsTake, Marks}
+use Rattle.index.specs.Marks.{Adds, HopsTake, Marks}
 use Rattle.index.proofs.Rows.{hops-more}
 use Rattle.index.proofs.Turns.{in-index}
-use Rattle.placing.specs.Marking.{Markable, Marked, rowOn}
+use Rattle.placing.specs.Marking.{Markable, rowOn}
 
-module _ {S place : ℕ} {route offsets : List ℕ} (w : Markable S place route offsets) {repeats : Repeats} (v : RepeatsOf S (periodAt place) repeats) where
+module _ {S K : ℕ} {route offsets : List ℕ} (w : Markable S K route offsets) {repeats : Repeats} (v : RepeatsOf S K repeats) where
   pub hop-inside : (i : ℕ) → i < length offsets → InIndex repeats (getD offsets i 0)
   hop-inside i l = in-index v (w .few) (w .within (getD offsets i 0) (at-in offsets i l))
 
@@ -31,9 +29,3 @@ pub marked-more : {S K : ℕ} {route offsets before after index : List ℕ} {rep
 marked-more {S} {K} {route} {offsets} {before} {after} {index} {repeats} {reach} {t} v i id way account a m =
     hops-more S (rowOn id way account K route offsets) i v a
     (subst (λ (j : ℕ). Marks repeats (getD offsets i 0) (record { from = getD route i 0; to = getD route j 0 }) reach index after t) (add-one i) m .adds)
-
--- and the period is noted
-pub marked : {S place K : ℕ} {route offsets before words after : List ℕ}
-    → ((id way account : ℕ) → Adds (HopsTake S (rowOn id way account (periodAt place) route offsets) (hopCount route)) before words) → K ≡ periodAt place → Notes K words after
-    → Marked S place route offsets before after
-marked {words = words} {after} a e n = record { words = words; adds = a; notes = subst (λ (K : ℕ). Notes K words after) e n }

@@ -6,12 +6,11 @@ use native.Mathlib.Omega.{arith}
 use native.Mathlib.Nat.{mul-le-mul}
 use native.Mathlib.Numerals.{add-one}
 use lib.ListN.{getD}
-use Rattle.rules.specs.Tiles.{Plan, PlanInRange, periodAt, cycleTiles}
+use Rattle.rules.specs.Tiles.{Plan, PlanInRange, Period, cycleTiles}
 use Rattle.rules.specs.Topology.{Topology, Hop, hopCount}
-use Rattle.rules.specs.Periods.{InList}
+use Rattle.rules.proofs.Bytes.{period-small}
 use Rattle.rules.proofs.Greedy.{Least}
 use Rattle.rules.proofs.Lists.{at-in}
-use Rattle.rules.proofs.Periods.{period-most}
 use Rattle.clash.specs.Reach.{End, Clashes, Between, ReachOf}
 use Rattle.clash.specs.declared.Reach.{Reach}
 use Rattle.index.specs.Marks.{InReach}
@@ -22,8 +21,8 @@ use Rattle.placing.specs.declared.Next.{Next}
 use Rattle.placing.specs.declared.Next.the-variants.{At, Nowhere}
 
 -- the offsets of a period fit two bytes
-pub span-most : {plan : Plan} {place : ℕ} → PlanInRange plan → InList place → periodAt place * plan .slots ≤ cycleTiles * 32
-span-most {place = place} w h = mul-le-mul (period-most place h) (w .most)
+pub span-most : {plan : Plan} {K : ℕ} → PlanInRange plan → Period K → K * plan .slots ≤ cycleTiles * 32
+span-most {K = K} w h = mul-le-mul (period-small K h) (w .most)
 
 -- a search for what holds alike finds the same
 pub searched-alike : {F G : ℕ → Type 0} (lo end : ℕ) (r : Next) → ((k : ℕ) → F k → G k) → ((k : ℕ) → G k → F k) → Searched F lo end r → Searched G lo end r
@@ -71,7 +70,7 @@ module _ (plan : Plan) (hearing : Topology) (a : Around) (K : ℕ) (route : List
   search-failed h lo end {r} e s = subst (Searched (FreeAt plan hearing a K route h) lo end) e (hop-searched h lo end r s)
 
 -- each is one between nodes of the topology
-pub asked-hop : {plan : Plan} {hearing : Topology} {route : List ℕ} {place : ℕ} → Asked plan hearing route place → (i : ℕ) → i < hopCount route
+pub asked-hop : {plan : Plan} {hearing : Topology} {route : List ℕ} {K : ℕ} → Asked plan hearing route K → (i : ℕ) → i < hopCount route
     → Between hearing (record { from = getD route i 0; to = getD route (i + 1) 0 })
 asked-hop {route = route} w i l = record {
   sound = w .sound;

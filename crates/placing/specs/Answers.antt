@@ -4,9 +4,8 @@ use mathlib.Core.List.{List}
 use Prim.Native.Nat.{ℕ, _*_, _-_, _<_, _≤_}
 use lib.ListN.{length, take, drop, replicate}
 use Rattle.rules.specs.Words.{_∈_}
-use Rattle.rules.specs.Tiles.{Plan, PlanInRange}
+use Rattle.rules.specs.Tiles.{Plan, PlanInRange, Period}
 use Rattle.rules.specs.Topology.{Topology, nodes, SoundTopology, hopAt, hopCount, mostRouteHops}
-use Rattle.rules.specs.Periods.{InList}
 use Rattle.rules.specs.Book.{OnData}
 use Rattle.rules.proofs.Greedy.{Least, FirstPlaces, NoPlaces}
 use Rattle.clash.specs.Reach.{End, Clashes}
@@ -49,15 +48,15 @@ abbrev pub Searched : (ℕ → Type 0) → ℕ → ℕ → Next → Type 0
 Searched F lo end (At o) = Least F lo end o
 Searched F lo end Nowhere = (k : ℕ) → lo ≤ k → k < end → F k → ⊥
 
--- what a placing is asked for: a plan, a topology, a route over its nodes, the place of a period
-pub record Asked (plan : Plan) (hearing : Topology) (route : List ℕ) (place : ℕ) : Type 0 where
+-- what a placing is asked for: a plan, a topology, a route over its nodes, a period
+pub record Asked (plan : Plan) (hearing : Topology) (route : List ℕ) (K : ℕ) : Type 0 where
   pub in-range : PlanInRange plan
   pub sound : SoundTopology hearing
   pub most : nodes hearing ≤ 64
   pub some : 1 ≤ length route
   pub few : hopCount route ≤ mostRouteHops
   pub known : (a : ℕ) → a ∈ route → a < nodes hearing
-  pub period : InList place
+  pub period : Period K
 
 -- hop i of the route may have the offset: it meets no hop that clashes with it
 abbrev pub FreeAt : Plan → Topology → Around → ℕ → List ℕ → ℕ → ℕ → Type 0

@@ -3,7 +3,7 @@ ghost use mathlib.Core.Path.{_≡_};
 ghost use Prim.Native.Nat.{_*_, _<_};
 ghost use lib.ListN.{length};
 ghost use Rattle.rules.specs.Words.{Tests};
-ghost use Rattle.rules.specs.Tiles.{PlanInRange, Period, periodAt};
+ghost use Rattle.rules.specs.Tiles.{PlanInRange, Period};
 ghost use Rattle.rules.specs.Periods.{thePlan};
 ghost use Rattle.bitset.specs.Rows.{topology};
 ghost use Rattle.clash.specs.Reach.{hop, Clashes, Between};
@@ -154,12 +154,12 @@ fn next_offset(
     )
 }
 
-// The first placing of the route, at the period of the place.
+// The first placing of the route, of the period.
 pub fn first_placing(
     plan: Plan,
     hearing: &[u64],
     route: &[u8],
-    place: usize,
+    period: Tile,
     index: &[u64; index::WORDS],
     image: &[u8],
     start: usize,
@@ -168,12 +168,11 @@ pub fn first_placing(
     first: &[u8],
     taken: &[u16],
 ) -> Placing
-    requires { ⌜ Asked (thePlan plan) (topology (now hearing)) (now route) place × Standing (around (now index) (now image) start rows (now moduli) (now first) (now taken)) ⌝ }
+    requires { ⌜ Asked (thePlan plan) (topology (now hearing)) (now route) (period .0) × Standing (around (now index) (now image) start rows (now moduli) (now first) (now taken)) ⌝ }
     ensures { λ r. ⌜ AnswersBy (thePlan plan) (topology (now (hearing .entry)))
-        (around (now (index .entry)) (now (image .entry)) start rows (now (moduli .entry)) (now (first .entry)) (now (taken .entry))) (periodAt place) (now (route .entry)) (r .found) (r .offsets) ⌝ }
+        (around (now (index .entry)) (now (image .entry)) start rows (now (moduli .entry)) (now (first .entry)) (now (taken .entry))) (period .0) (now (route .entry)) (r .found) (r .offsets) ⌝ }
 {
     let hops = route.len() - 1;
-    let period = rules::period_at(place);
     let repeats = index::repeats_of(plan.slots, period);
     let mut offsets = [0u16; 15];
     let mut lo: u16 = 0;

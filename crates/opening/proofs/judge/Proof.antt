@@ -24,18 +24,18 @@ returns-4 c =
 
 returns-5 : tie.Need-returns-5
 returns-5 c =
-    let four = c .before .before .before .before in
-    let p = found-at (c .before .before .before .place-of .ensures) (c .before .place .given .1) in
-    in-order (theAsked (c .before .before .before .before .before .before .before .before .before .before .before .before .args .q)) _
+    let four = c .before .before .before in
+    let p = found-at (c .before .before .place-of .ensures) (c .enum-told .given .1) in
+    in-order (theAsked (c .before .before .before .before .before .before .before .before .before .before .before .args .q)) _
     (four .before .before .before .before .before .before .if1 .left) (four .before .before .before .before .if2 .left) (four .before .before .if3 .left) (four .if4 .left)
-    (subst Period (p .1) (at-period _ (p .0))) (p .0) (p .1)
+    (subst Period (p .1) (at-period _ (p .0)))
 
 returns-6 : tie.Need-returns-6
 returns-6 c =
     let four = c .before .before .before in
     no-period (theAsked (c .before .before .before .before .before .before .before .before .before .before .before .args .q)) _
     (four .before .before .before .before .before .before .if1 .left) (four .before .before .before .before .if2 .left) (four .before .before .if3 .left) (four .if4 .left)
-    (found-nowhere (c .before .before .place-of .ensures) (c .enum-told .given .1))
+    (found-nowhere (c .before .before .place-of .ensures) (c .enum-told2 .given .1))
 
 pub judge-spec : {M : Type 1} → statement M
 judge-spec =

@@ -11,9 +11,8 @@ read-requires : tie.Need-read-requires
 read-requires c κs = stored-long (c .before .pre .newest .lawful)
 
 open-asked-requires : tie.Need-open-asked-requires
-open-asked-requires c κs = judged-beside (c .before .before .before .before .before .before .read .ensures)
-    (subst (JudgedBy _ _) (c .before .before .before .place .given .1) (c .before .before .before .before .before .judge .ensures))
-    (c .before .before .before .before .before .before .before .before .pre)
+open-asked-requires c κs = judged-beside (c .before .before .before .before .before .read .ensures)
+    (subst (JudgedBy _ _) (c .before .before .enum-told .given .1) (c .before .before .before .before .judge .ensures)) (c .before .before .before .before .before .before .before .pre)
 
 returns : tie.Need-returns
 returns c = judged-refused (c .before .before .before .before .before .read .ensures)
@@ -21,8 +20,8 @@ returns c = judged-refused (c .before .before .before .before .before .read .ens
     (c .before .before .before .before .before .before .before .pre .index)
 
 returns-2 : tie.Need-returns-2
-returns-2 c = judged-opens (c .before .before .before .before .before .before .before .read .ensures)
-    (subst (JudgedBy _ _) (c .before .before .before .before .place .given .1) (c .before .before .before .before .before .before .judge .ensures)) (c .open-asked .ensures)
+returns-2 c = judged-opens (c .before .before .before .before .before .before .read .ensures)
+    (subst (JudgedBy _ _) (c .before .before .before .enum-told .given .1) (c .before .before .before .before .before .judge .ensures)) (c .open-asked .ensures)
 
 pub open-on-spec : {M : Type 1} → statement M
 open-on-spec =

@@ -3,7 +3,7 @@ use mathlib.Core.Path.{_≡_, refl, ap}
 use borrow.Author.Needs.{needs}
 use Rattle.rules.specs.Tiles.{Plan}
 use Rattle.image.proofs.Walks.{rows-start}
-use Rattle.opening.proofs.Placed.{asked-period, placing-asked, rows-stand, none-noted, stands-around, placed-on}
+use Rattle.opening.proofs.Placed.{placing-asked, rows-stand, none-noted, stands-around, placed-on}
 use Rattle.opening.proofs.ways.place_beside.Statement.{statement}
 use Rattle.opening.proofs.ways.place_beside.Tie as tie
 
@@ -15,7 +15,7 @@ weigh-requires c κs =
       rows-stand w e f,
       w .asked .image .newest .lawful .lawful .site .plan,
       ap (λ (plan : Plan). plan .slots) (w .asked .header .plan),
-      asked-period w,
+      w .asked .period,
       refl,
       λ z. none-noted w e f (c .before .has-slow .ensures z),
     )

@@ -1,47 +1,38 @@
 -- The hops are marked one after the other.
-use mathlib.Core.Path.{sym, subst}
 use Prim.Native.Nat.{ℕ, _-_, _≤_}
 use native.Mathlib.Omega.{arith}
 use lib.ListN.{length}
-use Rattle.rules.specs.Tiles.{Period, periodAt}
-use Rattle.rules.proofs.Periods.{at-period}
 use Rattle.index.specs.Turns.{RepeatsOf}
 use Rattle.index.specs.Marks.{Adds, HopsTake}
 use Rattle.index.proofs.Rows.{hops-none, hops-done}
 use Rattle.placing.specs.Marking.{rowOn}
-use Rattle.placing.proofs.Hops.{hop-inside, node-small, marked-more, marked}
+use Rattle.placing.proofs.Hops.{hop-inside, node-small, marked-more}
 use Rattle.placing.proofs.marking.mark.Statement.{statement}
 use Rattle.placing.proofs.marking.mark.Tie as tie
 
 abbrev Inv-loop : tie.InvT-loop
-Inv-loop place route offsets index₀ period repeats i₀ index i =
+Inv-loop period route offsets index₀ repeats i₀ index i =
     (i ≤ length offsets)
-    × ((S : ℕ) → RepeatsOf S (periodAt place) repeats → (id way account : ℕ) → Adds (HopsTake S (rowOn id way account (periodAt place) route offsets) i) index₀ index)
+    × ((S : ℕ) → RepeatsOf S (period .0) repeats → (id way account : ℕ) → Adds (HopsTake S (rowOn id way account (period .0) route offsets) i) index₀ index)
 
 abbrev μ-loop : tie.MeasureT-loop
-μ-loop place route offsets index₀ period repeats i₀ index i = length offsets - i
+μ-loop period route offsets index₀ repeats i₀ index i = length offsets - i
 
 repeats-of-requires : tie.Need-repeats-of-requires Inv-loop μ-loop
-repeats-of-requires c κs =
-    let w = c .before .before .before .pre .0 in
-    (w .few, subst Period (sym (c .period-at .ensures .0)) (at-period _ (w .period)))
+repeats-of-requires c κs = let w = c .before .before .pre .0 in (w .few, w .period)
 
 abbrev start : tie.After-repeats-of Inv-loop μ-loop → tie.Start Inv-loop μ-loop
-start c = c .before .before .before .before
-
--- how the period at the place repeats
-repeating : (c : tie.After-repeats-of Inv-loop μ-loop) → RepeatsOf (start c .args .slots .0) (periodAt (start c .args .place)) (c .repeats-of .result)
-repeating c = subst (λ (K : ℕ). RepeatsOf (start c .args .slots .0) K (c .repeats-of .result)) (c .before .period-at .ensures .0) (c .repeats-of .ensures)
+start c = c .before .before .before
 
 loop-holds : tie.Need-loop-holds Inv-loop μ-loop
 loop-holds c = (omega arith, λ S w id way account. hops-none _ _ _)
 
-shared-slice-read-t17 : tie.Need-shared-slice-read-t17 Inv-loop μ-loop
-shared-slice-read-t17 c = omega (arith, c .before .before .before .before .before .before .before .before .before .pre .0 .count, c .before .before .before .loop-test .taken)
+shared-slice-read-t16 : tie.Need-shared-slice-read-t16 Inv-loop μ-loop
+shared-slice-read-t16 c = omega (arith, c .before .before .before .before .before .before .before .before .pre .0 .count, c .before .before .before .loop-test .taken)
 
-shared-slice-read-t21 : tie.Need-shared-slice-read-t21 Inv-loop μ-loop
-shared-slice-read-t21 c =
-    omega (arith, c .before .before .before .before .before .before .before .before .before .before .pre .0 .count, c .before .before .before .before .loop-test .taken)
+shared-slice-read-t20 : tie.Need-shared-slice-read-t20 Inv-loop μ-loop
+shared-slice-read-t20 c =
+    omega (arith, c .before .before .before .before .before .before .before .before .before .pre .0 .count, c .before .before .before .before .loop-test .taken)
 
 mark-requires : tie.Need-mark-requires Inv-loop μ-loop
 mark-requires c κs =
@@ -49,7 +40,7 @@ mark-requires c κs =
     let p = start (loop .before) .pre in
     let i = loop .loop .i in
     let l = c .before .before .before .before .loop-test .taken in
-    let v = repeating (loop .before) in
+    let v = loop .before .repeats-of .ensures in
     let kept = loop .loop .inv .1 _ v 0 0 0 .size in
     (omega (arith, kept, p .1), hop-inside (p .0) v i l, node-small (p .0) v i (omega arith), node-small (p .0) v _ (omega arith))
 
@@ -63,15 +54,18 @@ loop-again c =
 note-requires : tie.Need-note-requires Inv-loop μ-loop
 note-requires c κs =
     let loop = c .before .before in
-    omega (arith, start (loop .before) .pre .1, loop .loop .inv .1 _ (repeating (loop .before)) 0 0 0 .size)
+    omega (arith, start (loop .before) .pre .1, loop .loop .inv .1 _ (loop .before .repeats-of .ensures) 0 0 0 .size)
 
 returns : tie.Need-returns Inv-loop μ-loop
 returns c =
     let loop = c .before .before .before in
     let p = start (loop .before) .pre in
-    marked
-    (λ id way account. hops-done _ _ (omega (arith, loop .loop .inv .0, c .before .before .loop-test .left, p .0 .count)) (loop .loop .inv .1 _ (repeating (loop .before)) id way account))
-    (loop .before .before .period-at .ensures .0) (c .note .ensures)
+    record {
+      words = loop .loop .index;
+      adds = λ id way account. hops-done _ _ (omega (arith, loop .loop .inv .0, c .before .before .loop-test .left, p .0 .count))
+          (loop .loop .inv .1 _ (loop .before .repeats-of .ensures) id way account);
+      notes = c .note .ensures;
+    }
 
 pub mark-spec : {M : Type 1} → statement M
 mark-spec =
@@ -79,14 +73,13 @@ mark-spec =
     (tie.spec
     Inv-loop
     μ-loop
-    (λ c κs. c .before .before .pre .0 .period)
     repeats-of-requires
     loop-holds
     (λ c. omega arith)
     (λ c. omega arith)
-    shared-slice-read-t17
+    shared-slice-read-t16
     (λ c. omega arith)
-    shared-slice-read-t21
+    shared-slice-read-t20
     mark-requires
     (λ c. omega arith)
     (λ c. omega arith)
