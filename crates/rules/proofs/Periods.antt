@@ -15,7 +15,6 @@ use Rattle.rules.specs.declared.Place.{Place}
 use Rattle.rules.specs.declared.Place.the-variants.{At, Nowhere}
 use Rattle.rules.proofs.Every.{both, both-left, both-right, every, at}
 use Rattle.rules.proofs.Lists.{at-in, in-append, in-left}
-use Rattle.rules.proofs.Bytes.{period-small}
 use Rattle.rules.proofs.Meeting.{in-at, member, cycle-period}
 
 -- REPEATS
@@ -51,9 +50,6 @@ nowhere K f h = let p = in-at K periods h in f (p .0) (p .1) (sym (p .2))
 -- and one that stands at a place is
 pub at-period : (i : ℕ) → InList i → Period (periodAt i)
 at-period i h = at-in periods i h
-
-pub period-most : (i : ℕ) → InList i → periodAt i ≤ cycleTiles
-period-most i h = period-small (periodAt i) (at-period i h)
 
 -- a period has a tile, and comes in a cycle
 pub period-some : (K : ℕ) → Period K → 0 < K
