@@ -7,14 +7,14 @@ use native.Mathlib.Omega.{arith}
 use lib.ListN.{length}
 use Rattle.rules.specs.Words.{_∈_, With}
 use Rattle.rules.specs.Book.{Row, Book, hops, hopsInAll, key, RisingByKey, LawfulBook}
-use Rattle.rules.specs.Image.{rowLength, inTurn, encodeRow, versionOf, planOf}
+use Rattle.rules.specs.Image.{rowLength, inTurn, encodeRow, versionOf, siteOf}
 use Rattle.rules.proofs.Encoding.{AllSized, length-rows, lawful-sized}
 use Rattle.rules.proofs.Lists.{with-in, with-this, with-other, with-less, with-alone, in-left}
 use Rattle.rules.proofs.Reading.{rowsIn, bookIn}
-use Rattle.index.specs.Index.{IndexOf}
+use Rattle.index.specs.Index.{Beside}
 use Rattle.index.specs.Marks.{Removes, HopsTake}
-use Rattle.index.proofs.Rows.{index-alike}
-use Rattle.index.proofs.Apart.{index-without, lawful-quiet}
+use Rattle.index.proofs.Behind.{beside-alike}
+use Rattle.index.proofs.Apart.{beside-without, lawful-quiet}
 use Rattle.image.specs.Places.{rowAt, nextAt, rowsFrom, Stands, RowHere}
 use Rattle.image.proofs.Places.{next-hops}
 use Rattle.image.proofs.Stands.{stands-split, stands-row, stands-next, stands-end}
@@ -26,10 +26,10 @@ use Rattle.closing.specs.Gone.{RowOut, GoneAt}
 
 -- one of some rows of a lawful book is taken out of their index
 row-out : {b : Book} {r : Row} {rows more : List Row} {t u : List ℕ} → LawfulBook b → With r rows more → RisingByKey more → ((x : Row) → x ∈ more → x ∈ b .rows)
-    → IndexOf (b .site .plan .slots) more t → Removes (HopsTake (b .site .plan .slots) r (hops r)) t u → IndexOf (b .site .plan .slots) rows u
+    → Beside (b .site) more t → Removes (HopsTake (b .site .plan .slots) r (hops r)) t u → Beside (b .site) rows u
 row-out {b} {r} {rows} {more} l p up known w a =
-    index-without (b .site) r rows (l .rows r (known r (with-this p)) .period) (λ x m. lawful-quiet b l r x (known r (with-this p)) (known x (with-other x p m)) (λ e. with-alone x p up m (sym e)))
-    (index-alike (λ x m. with-in x p m) (λ x m. ⊎-elim (λ (e : x ≡ r). subst (λ (v : Row). v ∈ more) (sym e) (with-this p)) (λ (k : x ∈ rows). with-other x p k) m) w) a
+    beside-without (b .site) r rows (l .rows r (known r (with-this p)) .period) (λ x m. lawful-quiet b l r x (known r (with-this p)) (known x (with-other x p m)) (λ e. with-alone x p up m (sym e)))
+    (beside-alike (λ x m. with-in x p m) (λ x m. ⊎-elim (λ (e : x ≡ r). subst (λ (v : Row). v ∈ more) (sym e) (with-this p)) (λ (k : x ∈ rows). with-other x p k) m) w) a
 
 module _ {s : List ℕ} {id at : ℕ} (t : Taken s id at) where
   -- the row at the place, the place behind it, and how many rows stand there
@@ -65,14 +65,14 @@ module _ {s : List ℕ} {id at : ℕ} (t : Taken s id at) where
   all-known : (x : Row) → x ∈ (t .stands .before ++ (first ∷ rowsFrom s behind to)) → x ∈ rowsIn s
   all-known x m = subst (λ (rows : List Row). x ∈ rows) (sym all-split) m
 
-  first-out : {u v : List ℕ} → IndexOf (planOf s .slots) (rowsIn s) u → RowOut s at u v → IndexOf (planOf s .slots) (t .stands .before ++ rowsFrom s behind to) v
+  first-out : {u v : List ℕ} → Beside (siteOf s) (rowsIn s) u → RowOut s at u v → Beside (siteOf s) (t .stands .before ++ rowsFrom s behind to) v
   first-out {u} w a =
       row-out {b = bookIn s} (t .stands .stored .lawful) (with-middle first (t .stands .before) (rowsFrom s behind to)) all-rise all-known
-      (subst (λ (rows : List Row). IndexOf (planOf s .slots) rows u) all-split w) a
+      (subst (λ (rows : List Row). Beside (siteOf s) rows u) all-split w) a
 
   -- rows of the id, and higher ones behind them
   gone-at : (gone rest : List Row) → first ∷ rowsFrom s behind to ≡ gone ++ rest → ((r : Row) → r ∈ gone → r .id ≡ id) → ((r : Row) → r ∈ rest → id < r .id)
-      → {words : List ℕ} → IndexOf (planOf s .slots) (t .stands .before ++ rest) words
+      → {words : List ℕ} → Beside (siteOf s) (t .stands .before ++ rest) words
       → (g : Gone) → g .rows ≡ length gone → g .hops ≡ hopsInAll gone → g .next ≡ at + (rowLength (versionOf s) * length gone + 3 * hopsInAll gone) → g .next ≤ length s
       → GoneAt s id at words g
   gone-at gone rest split same above w g n h e l = record {
@@ -95,7 +95,7 @@ module _ {s : List ℕ} {id at : ℕ} (t : Taken s id at) where
       sized : AllSized (versionOf s) gone
       sized r m = lawful-sized (rest-lawful (t .more) (t .stands) r (subst (λ (rows : List Row). r ∈ rows) (sym split) (in-left r gone rest m)))
 
-  module _ {u v : List ℕ} (w : IndexOf (planOf s .slots) (rowsIn s) u) (a : RowOut s at u v) where
+  module _ {u v : List ℕ} (w : Beside (siteOf s) (rowsIn s) u) (a : RowOut s at u v) where
     -- ONE ROW
     alone : (g : Gone) → g .rows ≡ 1 → g .hops ≡ hops first → g .next ≡ to → ((r : Row) → r ∈ rowsFrom s behind to → id < r .id) → GoneAt s id at v g
     alone g n h e above =
@@ -128,13 +128,13 @@ module _ {s : List ℕ} {id at : ℕ} (t : Taken s id at) where
           higher = omega (arith, above-first, t .named, other, rest-lawful more on second (inl refl) .way-most)
 
       -- TWO ROWS
-      second-out : {next : ℕ} {z : List ℕ} → next ≡ to → RowOut s next v z → IndexOf (planOf s .slots) (t .stands .before ++ rowsFrom s (behind - 1) (nextAt s to)) z
+      second-out : {next : ℕ} {z : List ℕ} → next ≡ to → RowOut s next v z → Beside (siteOf s) (t .stands .before ++ rowsFrom s (behind - 1) (nextAt s to)) z
       second-out {z = z} e b =
           let p = with-middle first (t .stands .before) (rowsFrom s behind to) in
           row-out {b = bookIn s} (t .stands .stored .lawful) (with-middle second (t .stands .before) (rowsFrom s (behind - 1) (nextAt s to)))
           (subst (λ (rows : List Row). RisingByKey (t .stands .before ++ rows)) split (with-less _ p all-rise))
           (λ x m. all-known x (with-other x p (subst (λ (rows : List Row). x ∈ (t .stands .before ++ rows)) (sym split) m)))
-          (subst (λ (rows : List Row). IndexOf (planOf s .slots) (t .stands .before ++ rows) v) split (first-out w a)) (subst (λ (k : ℕ). RowOut s k v z) e b)
+          (subst (λ (rows : List Row). Beside (siteOf s) (t .stands .before ++ rows) v) split (first-out w a)) (subst (λ (k : ℕ). RowOut s k v z) e b)
 
       pub both : {next : ℕ} {z : List ℕ} → next ≡ to → RowOut s next v z → (g : Gone) → g .rows ≡ 2 → g .hops ≡ hops first + hops second → g .next ≡ nextAt s to
           → second .id ≡ id → GoneAt s id at z g

@@ -5,9 +5,9 @@ use Prim.Native.Nat.{ℕ, _+_, _<_, _≤_}
 use lib.ListN.{length, drop}
 use Rattle.rules.specs.Words.{_∈_}
 use Rattle.rules.specs.Book.{Row, hops, hopsInAll}
-use Rattle.rules.specs.Image.{inTurn, encodeRow, versionOf, planOf}
+use Rattle.rules.specs.Image.{inTurn, encodeRow, versionOf, planOf, siteOf}
 use Rattle.rules.proofs.Reading.{rowsIn}
-use Rattle.index.specs.Index.{IndexOf}
+use Rattle.index.specs.Index.{Beside}
 use Rattle.index.specs.Marks.{Removes, HopsTake}
 use Rattle.image.specs.Places.{rowAt}
 use Rattle.closing.specs.declared.Gone.{Gone}
@@ -31,4 +31,4 @@ pub record GoneAt (s : List ℕ) (id at : ℕ) (words : List ℕ) (g : Gone) : T
   pub hops : g .hops ≡ hopsInAll gone
   pub next : g .next ≡ at + length (inTurn (encodeRow (versionOf s)) gone)
   pub fits : g .next ≤ length s
-  pub index : IndexOf (planOf s .slots) (before ++ rest) words
+  pub index : Beside (siteOf s) (before ++ rest) words

@@ -5,8 +5,8 @@ use mathlib.Core.List.{List}
 use Prim.Native.Nat.{ℕ, zero, suc, _+_, _*_, _<_}
 use native.Mathlib.Decide.{ℕ-discrete}
 use native.Mathlib.Omega.{arith}
-use lib.ListN.{length, getD, set, replicate, length-set}
-use lib.Seq.{getD-set-same, getD-set-other}
+use lib.ListN.{length, getD, set, drop, replicate, length-set}
+use lib.Seq.{getD-set-same, getD-set-other, drop-set-lt}
 use Rattle.rules.specs.Words.{Has, NoBitFrom}
 use Rattle.rules.specs.Topology.{Hop}
 use Rattle.bitset.specs.Sets.{SetOf}
@@ -73,10 +73,9 @@ module _ (t : List ℕ) (slot : ℕ) (h : Hop) (v w : ℕ) (inside : 2 * slot + 
   elsewhere receiver s f =
       getD-set-other (set t (2 * slot) v) (2 * slot + 1) (2 * s + 1) w 0 (λ e. f (omega arith)) ∙ getD-set-other t (2 * slot) (2 * s + 1) v 0 (λ e. omega arith)
 
-  -- and so does the word behind the slots
-  pub behind-slots : slot < indexSlots → getD after slowPlace 0 ≡ getD t slowPlace 0
-  behind-slots l =
-      getD-set-other (set t (2 * slot) v) (2 * slot + 1) slowPlace w 0 (λ e. omega arith) ∙ getD-set-other t (2 * slot) slowPlace v 0 (λ e. omega arith)
+  -- and so does what stands behind the slots
+  pub behind-slots : slot < indexSlots → drop slowPlace after ≡ drop slowPlace t
+  behind-slots l = drop-set-lt slowPlace (set t (2 * slot) v) (2 * slot + 1) w (omega arith) ∙ drop-set-lt slowPlace t (2 * slot) v (omega arith)
 
   module _ (low : slot < indexSlots) (first : SetOf (λ (node : ℕ). AtWork t sender slot node ⊎ (node ≡ h .from)) v)
       (second : SetOf (λ (node : ℕ). AtWork t receiver slot node ⊎ (node ≡ h .to)) w) where

@@ -9,10 +9,10 @@ use Rattle.rules.specs.Topology.{Hop, Touches}
 use Rattle.rules.specs.Book.{Site, Row, Book, key, hops, rowHop, RowsMeet, LawfulBook}
 use Rattle.clash.specs.Reach.{End, nodeAt}
 use Rattle.clash.specs.Reach.End.{sender, receiver}
-use Rattle.index.specs.Index.{Ends, IndexOf}
+use Rattle.index.specs.Index.{Ends, Beside}
 use Rattle.index.specs.Marks.{Removes, HopsTake}
 use Rattle.index.proofs.Turns.{short-takes}
-use Rattle.index.proofs.Removing.{index-less}
+use Rattle.index.proofs.Behind.{beside-less}
 
 -- the node at an end is one of the hop
 touches : (end : End) (h : Hop) {node : ℕ} → node ≡ nodeAt end h → Touches node h
@@ -34,8 +34,8 @@ module _ (site : Site) (r : Row) (rows : List Row) (period : Period (r .period))
   })
 
   -- once its hops are taken out, the words are the index of the others
-  pub index-without : {t u : List ℕ} → IndexOf (site .plan .slots) (r ∷ rows) t → Removes (HopsTake (site .plan .slots) r (hops r)) t u → IndexOf (site .plan .slots) rows u
-  index-without w a = index-less w period a apart
+  pub beside-without : {t u : List ℕ} → Beside site (r ∷ rows) t → Removes (HopsTake (site .plan .slots) r (hops r)) t u → Beside site rows u
+  beside-without w a = beside-less w period a apart
 
 -- a row of a lawful book meets none of another key
 pub lawful-quiet : (b : Book) → LawfulBook b → (r x : Row) → r ∈ b .rows → x ∈ b .rows → (key r ≡ key x → ⊥) → RowsMeet (b .site) r x → ⊥

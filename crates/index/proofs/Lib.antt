@@ -5,4 +5,5 @@ pub mod Seeing
 pub mod Rows
 pub mod Meets
 pub mod Removing
+pub mod Behind
 pub mod Apart

@@ -19,7 +19,7 @@ use Rattle.index.specs.Index.{indexSlots, wordAt, AtWork, Ends, IndexOf}
 use Rattle.index.specs.Turns.{RepeatsOf, TakesFirst, TakesShort, TakesIn}
 use Rattle.index.specs.Marks.{Removes, HopsTake}
 use Rattle.index.proofs.Adding.{after, the-word, here, elsewhere, behind-slots}
-use Rattle.index.proofs.Rows.{one-more, own-hop}
+use Rattle.index.proofs.Rows.{one-more, own-hop, same-slow}
 use Rattle.index.proofs.Turns.{Turning, turning-inside, more, split, in-takes, takes-in}
 
 pub removes-none : {P : End → ℕ → ℕ → Type 0} (t : List ℕ) → ((end : End) (slot node : ℕ) → P end slot node → ⊥) → Removes P t t
@@ -132,7 +132,7 @@ pub index-less : {S : ℕ} {r : Row} {rows : List Row} {t u : List ℕ} → Inde
 index-less {S} {r} {rows} {t} {u} w p a apart = record {
   size = a .size ∙ w .size;
   sets = λ end slot l. record { fits = a .fits end slot (w .sets end slot l .fits); only = only end slot l; all = all end slot l };
-  none-slow = λ z x m. w .none-slow (sym (a .behind) ∙ z) x (inr m);
+  none-slow = λ z x m. w .none-slow (same-slow t u (a .behind) z) x (inr m);
 }
   where
     only : (end : End) (slot : ℕ) → slot < shortTiles * S → (node : ℕ) → AtWork u end slot node → Ends S rows end slot node

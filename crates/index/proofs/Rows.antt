@@ -5,7 +5,8 @@ use mathlib.Core.List.{List, [], _∷_}
 use Prim.Native.Nat.{ℕ, _+_, _*_, _/_, _<_, _≤_}
 use native.Mathlib.Omega.{arith}
 use native.Mathlib.Nat.{eq-or-lt-of-le, mul-le-mul-right, div-add-mod'}
-use lib.ListN.{getD, replicate}
+use lib.ListN.{getD, drop, replicate}
+use lib.Seq.{getD-drop}
 use Rattle.rules.specs.Words.{_∈_}
 use Rattle.rules.specs.Tiles.{Period, shortTiles}
 use Rattle.rules.specs.Book.{Row, hops, rowHop, rowOffset}
@@ -14,7 +15,7 @@ use Rattle.bitset.specs.Sets.{SetOf}
 use Rattle.bitset.proofs.Bits.{zero-none}
 use Rattle.clash.specs.Reach.{End, nodeAt}
 use Rattle.index.specs.declared.Repeats.{Repeats}
-use Rattle.index.specs.Index.{indexLength, wordAt, AtWork, Ends, IndexOf}
+use Rattle.index.specs.Index.{slowPlace, indexLength, wordAt, AtWork, Ends, IndexOf}
 use Rattle.index.specs.Turns.{RepeatsOf, TakesShort, TakesIn}
 use Rattle.index.specs.Marks.{Adds, Notes, HopsTake}
 use Rattle.index.proofs.Adding.{adds-none, adds-alike, adds-both, all-zero}
@@ -75,6 +76,10 @@ own-hop {S} {r} {rows} {end} {slot} {node} p l k e = subst (λ (x : Row). HopsTa
 turn-short : {K n : ℕ} → n < shortTiles / K → K ≤ shortTiles
 turn-short {K} {n} l = omega (arith, div-add-mod' shortTiles K, mul-le-mul-right K l)
 
+-- with the same words behind the slots, no period over 100 is noted in both or in neither
+pub same-slow : (t u : List ℕ) → drop slowPlace u ≡ drop slowPlace t → getD u slowPlace 0 ≡ 0 → getD t slowPlace 0 ≡ 0
+same-slow t u e z = sym (getD-drop slowPlace t 0 0) ∙ ap (λ (l : List ℕ). getD l 0 0) (sym e) ∙ getD-drop slowPlace u 0 0 ∙ z
+
 -- the row is marked, and its period noted
 pub index-more : {S : ℕ} {r : Row} {rows : List Row} {t u v : List ℕ} → S ≤ 32 → IndexOf S rows t → Period (r .period) → Adds (HopsTake S r (hops r)) t u
     → Notes (r .period) u v → IndexOf S (r ∷ rows) v
@@ -84,7 +89,7 @@ index-more {S} {r} {rows} {t} {u} {v} most w p a b = record {
       subst (SetOf (Ends S (r ∷ rows) end slot)) (sym (b .same end slot (omega (arith, l, most))))
       (record { fits = a .fits end slot (w .sets end slot l .fits); only = only end slot l; all = all end slot l });
   none-slow = λ z x m.
-      ⊎-elim (λ (e : x ≡ r). omega (arith, ap (λ (y : Row). y .period) e, b .short z)) (λ (k : x ∈ rows). w .none-slow (sym (a .behind) ∙ b .kept z) x k) m;
+      ⊎-elim (λ (e : x ≡ r). omega (arith, ap (λ (y : Row). y .period) e, b .short z)) (λ (k : x ∈ rows). w .none-slow (same-slow t u (a .behind) (b .kept z)) x k) m;
 }
   where
     first : {end : End} {slot node : ℕ} → HopsTake S r (hops r) end slot node → Ends S (r ∷ rows) end slot node

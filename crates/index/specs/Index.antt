@@ -2,10 +2,10 @@
 use mathlib.Core.Path.{_≡_}
 use mathlib.Core.List.{List}
 use Prim.Native.Nat.{ℕ, _+_, _*_, _<_, _≤_}
-use lib.ListN.{length, getD}
+use lib.ListN.{length, getD, take, drop}
 use Rattle.rules.specs.Words.{Has, _∈_}
 use Rattle.rules.specs.Tiles.{shortTiles, Takes}
-use Rattle.rules.specs.Book.{Row, hops, rowHop, rowOffset}
+use Rattle.rules.specs.Book.{Site, Row, hops, rowHop, rowOffset}
 use Rattle.bitset.specs.Sets.{SetOf}
 use Rattle.clash.specs.Reach.{End, nodeAt}
 use Rattle.clash.specs.Reach.End.{sender, receiver}
@@ -18,9 +18,17 @@ indexSlots = shortTiles * 32
 abbrev pub slowPlace : ℕ
 slowPlace = 2 * indexSlots
 
--- two words for each slot, and that one
+-- behind it stand the links of a site, a word for each node,
+abbrev pub linksBehind : ℕ
+linksBehind = slowPlace + 1
+
+-- and its hearing
+abbrev pub hearingBehind : ℕ
+hearingBehind = linksBehind + 64
+
+-- two words for each slot, and all that
 abbrev pub indexLength : ℕ
-indexLength = slowPlace + 1
+indexLength = hearingBehind + 64
 
 -- where they stand: the nodes that send, then the nodes that receive
 abbrev pub wordAt : End → ℕ → ℕ
@@ -46,3 +54,20 @@ pub record IndexOf (S : ℕ) (rows : List Row) (words : List ℕ) : Type 0 where
   pub size : length words ≡ indexLength
   pub sets : (end : End) (slot : ℕ) → slot < shortTiles * S → SetOf (Ends S rows end slot) (getD words (wordAt end slot) 0)
   pub none-slow : getD words slowPlace 0 ≡ 0 → (x : Row) → x ∈ rows → x .period ≤ shortTiles
+
+-- from a place on stand these words
+abbrev pub StandAt : ℕ → List ℕ → List ℕ → Type 0
+StandAt place these words = take (length these) (drop place words) ≡ these
+
+-- links and hearing were put behind an index
+pub record SitePut (links hearing before after : List ℕ) : Type 0 where
+  pub size : length after ≡ length before
+  pub front : take linksBehind after ≡ take linksBehind before
+  pub links-stand : StandAt linksBehind links after
+  pub hearing-stands : StandAt hearingBehind hearing after
+
+-- the words are the index of the rows, and behind it stand the links and the hearing of their site
+pub record Beside (site : Site) (rows : List Row) (words : List ℕ) : Type 0 where
+  pub slots : IndexOf (site .plan .slots) rows words
+  pub links : StandAt linksBehind (site .links .rows) words
+  pub hearing : StandAt hearingBehind (site .hearing .rows) words

@@ -4,14 +4,14 @@ use mathlib.Core.Logic.{_⊎_}
 use mathlib.Core.Bool.{Bool}
 use mathlib.Core.List.{List}
 use Prim.Native.Nat.{ℕ, _<_, _≤_}
-use lib.ListN.{length, getD}
+use lib.ListN.{length, getD, drop}
 use Rattle.rules.specs.Words.{Has, NoBitFrom, Tests}
 use Rattle.rules.specs.Tiles.{shortTiles}
 use Rattle.rules.specs.Topology.{Hop}
 use Rattle.rules.specs.Book.{Row, rowHop, rowOffset}
 use Rattle.clash.specs.Reach.{End, nodeAt, setAt}
 use Rattle.clash.specs.declared.Reach.{Reach}
-use Rattle.index.specs.Index.{indexSlots, slowPlace, wordAt, AtWork}
+use Rattle.index.specs.Index.{indexSlots, slowPlace, linksBehind, wordAt, AtWork}
 use Rattle.index.specs.Turns.{TakesFirst, TakesShort, TakesIn}
 use Rattle.index.specs.declared.Repeats.{Repeats}
 
@@ -22,7 +22,7 @@ pub record Adds (P : End → ℕ → ℕ → Type 0) (before after : List ℕ) :
   pub only : (end : End) (slot node : ℕ) → AtWork after end slot node → AtWork before end slot node ⊎ P end slot node
   pub kept : (end : End) (slot node : ℕ) → AtWork before end slot node → AtWork after end slot node
   pub all : (end : End) (slot node : ℕ) → P end slot node → AtWork after end slot node
-  pub behind : getD after slowPlace 0 ≡ getD before slowPlace 0
+  pub behind : drop slowPlace after ≡ drop slowPlace before
 
 -- the sets have the nodes that they had before, without those with P
 pub record Removes (P : End → ℕ → ℕ → Type 0) (before after : List ℕ) : Type 0 where
@@ -30,7 +30,7 @@ pub record Removes (P : End → ℕ → ℕ → Type 0) (before after : List ℕ
   pub fits : (end : End) (slot : ℕ) → NoBitFrom 64 (getD before (wordAt end slot) 0) → NoBitFrom 64 (getD after (wordAt end slot) 0)
   pub only : (end : End) (slot node : ℕ) → AtWork after end slot node → AtWork before end slot node × (P end slot node → ⊥)
   pub all : (end : End) (slot node : ℕ) → AtWork before end slot node → (P end slot node → ⊥) → AtWork after end slot node
-  pub behind : getD after slowPlace 0 ≡ getD before slowPlace 0
+  pub behind : drop slowPlace after ≡ drop slowPlace before
 
 -- a period was noted: where none is over 100, it is not, and the sets are as before
 pub record Notes (K : ℕ) (before after : List ℕ) : Type 0 where
@@ -38,6 +38,7 @@ pub record Notes (K : ℕ) (before after : List ℕ) : Type 0 where
   pub same : (end : End) (slot : ℕ) → slot < indexSlots → getD after (wordAt end slot) 0 ≡ getD before (wordAt end slot) 0
   pub kept : getD after slowPlace 0 ≡ 0 → getD before slowPlace 0 ≡ 0
   pub short : getD after slowPlace 0 ≡ 0 → K ≤ shortTiles
+  pub behind : drop linksBehind after ≡ drop linksBehind before
 
 -- one of the row's first n hops takes the slot in the first 100 tiles, with the node at this end
 pub record HopsTake (S : ℕ) (r : Row) (n : ℕ) (end : End) (slot node : ℕ) : Type 0 where

@@ -2,13 +2,14 @@
 // in streams of periods up to 100.
 ghost use mathlib.Core.Path.{_≡_};
 ghost use mathlib.Core.Bool.{false};
-ghost use Prim.Native.Nat.{ℕ, _*_, _<_, _≤_};
-ghost use lib.ListN.{length, getD};
+ghost use Prim.Native.Nat.{ℕ, _+_, _*_, _<_, _≤_};
+ghost use lib.ListN.{length, getD, take, drop};
+ghost use lib.Seq.{paste};
 ghost use Rattle.rules.specs.Words.{Tests};
 ghost use Rattle.rules.specs.Tiles.{Period, shortTiles};
 ghost use Rattle.bitset.specs.Sets.{SetOf};
 ghost use Rattle.clash.specs.Reach.{End, nodeAt, hop};
-ghost use Rattle.index.specs.Index.{indexLength, slowPlace};
+ghost use Rattle.index.specs.Index.{slowPlace, linksBehind, hearingBehind, indexLength, SitePut};
 ghost use Rattle.index.specs.Turns.{RepeatsOf, TakesIn, InIndex};
 ghost use Rattle.index.specs.Marks.{Removes, Notes, Common, Marks, InReach, Finds};
 use clash::Reach;
@@ -19,8 +20,14 @@ use rules::Tile;
 // Behind the slots stands a word that is 0 only where no period is over 100.
 const SLOW: usize = 6400;
 
-// Two words for each slot of 100 tiles of 32 slots, and that one.
-pub const WORDS: usize = 6401;
+// Behind it stand the links of a site, a word for each node,
+const LINKS: usize = 6401;
+
+// and its hearing.
+const HEARING: usize = 6465;
+
+// Two words for each slot of 100 tiles of 32 slots, and all that.
+pub const WORDS: usize = 6529;
 
 // How a period repeats: the slots from a turn to the next, and how many turns 100 tiles have.
 pub struct Repeats {
@@ -62,6 +69,53 @@ pub fn has_slow(index: &[u64; WORDS]) -> bool
     ensures { λ r. ⌜ (r ≡ false → getD (now (index .entry)) slowPlace 0 ≡ 0) ⌝ }
 {
     index[SLOW] != 0
+}
+
+// Puts words into others, from a place on.
+pub fn put_words(words: &[u64], out: &mut [u64], at: usize)
+    requires { ⌜ at + length (now words) ≤ length (now out) ⌝ }
+    ensures { λ _. ⌜ now (out .exit) ≡ paste (now (out .entry)) at (now (words .entry)) (length (now (words .entry))) ⌝ }
+{
+    let mut i: usize = 0;
+    while i < words.len() {
+        out[at + i] = words[i];
+        i += 1;
+    }
+}
+
+// Puts the links and the hearing of a site behind an index.
+pub fn put_site(links: &[u64], hearing: &[u64], index: &mut [u64; WORDS])
+    requires { ⌜ (length (now links) ≤ 64) × (length (now hearing) ≤ 64) × (length (now index) ≡ indexLength) ⌝ }
+    ensures { λ _. ⌜ SitePut (now (links .entry)) (now (hearing .entry)) (now (index .entry)) (now (index .exit)) ⌝ }
+{
+    put_words(hearing, index, HEARING);
+    put_words(links, index, LINKS);
+}
+
+// So many words of an index from a place on.
+fn part(index: &[u64; WORDS], place: usize, count: usize) -> &[u64]
+    requires { ⌜ place + count ≤ indexLength ⌝ }
+    ensures { λ r. ⌜ now r ≡ take count (drop place (now (index .entry))) ⌝ }
+{
+    let all = &index[..];
+    let end = place + count;
+    &all[place..end]
+}
+
+// The links of the site, which has so many nodes.
+pub fn links(index: &[u64; WORDS], nodes: usize) -> &[u64]
+    requires { ⌜ nodes ≤ 64 ⌝ }
+    ensures { λ r. ⌜ now r ≡ take nodes (drop linksBehind (now (index .entry))) ⌝ }
+{
+    part(index, LINKS, nodes)
+}
+
+// Its hearing.
+pub fn hearing(index: &[u64; WORDS], nodes: usize) -> &[u64]
+    requires { ⌜ nodes ≤ 64 ⌝ }
+    ensures { λ r. ⌜ now r ≡ take nodes (drop hearingBehind (now (index .entry))) ⌝ }
+{
+    part(index, HEARING, nodes)
 }
 
 // Which of the nodes that send and of those that receive are in reach.

@@ -8,14 +8,14 @@ use lib.ListN.{length}
 use Rattle.rules.specs.Says.{Refusal, _when_, Says}
 use Rattle.rules.specs.Topology.{SoundTopologies}
 use Rattle.rules.specs.Book.{Row, AccountsInRange, ClashingHopsMeet}
-use Rattle.rules.specs.Image.{headerLength, imageLength, planOf, statedLength, FieldsInRange, accountsOf, linksPlace, linksOf, hearingOf, bookOf, RowsOf, imageRefusals}
+use Rattle.rules.specs.Image.{headerLength, imageLength, statedLength, FieldsInRange, accountsOf, linksPlace, linksOf, hearingOf, siteOf, bookOf, RowsOf, imageRefusals}
 use Rattle.rules.proofs.Written.{Bytes, stored}
 use Rattle.rules.proofs.Reading.{rowsIn, bookIn, rows-are}
 use Rattle.image.specs.Header.{HeaderOf}
 use Rattle.image.specs.declared.Book.{Book}
 use Rattle.image.proofs.Marks.{Marked}
 use Rattle.rows.specs.Frame.{Framed}
-use Rattle.index.specs.Index.{IndexOf}
+use Rattle.index.specs.Index.{Beside}
 use Rattle.lawful.specs.Verdict.{Verdict}
 
 -- the refusals that are left where the header, the account list and the length are in order
@@ -87,7 +87,7 @@ module _ (s : List ℕ) (marked : Marked s) (w : Framed s) (list : AccountsInRan
           let met : (rows : List Row) × RowsOf s rows × ClashingHopsMeet (bookOf s rows) = (rowsIn s, rows, m) in
           refusal (rest-says (inr (λ f. f sound, inr (λ f. f _ rows, inl (met, refl))))) (λ e. omega arith)
 
-      pub lawful-book : {words : List ℕ} → Bytes s → (ClashingHopsMeet (bookIn s) → ⊥) → IndexOf (planOf s .slots) (rowsIn s) words → Verdict s 0 words
+      pub lawful-book : {words : List ℕ} → Bytes s → (ClashingHopsMeet (bookIn s) → ⊥) → Beside (siteOf s) (rowsIn s) words → Verdict s 0 words
       lawful-book b n index = record {
         says = rest-says (inr (λ f. f sound, inr (λ f. f (rowsIn s) rows, inr (met, refl))));
         stored = λ e. stored s b (rowsIn s) long (marked .0) (marked .1) (w .fields) list (w .size) sound rows n;

@@ -27,10 +27,11 @@ fn body_verdict(image: &[u8], book: Book, index: &mut [u64; index::WORDS]) -> u8
     if meeting::hops_meet(image, book, hearing, index) {
         return 16;
     }
+    index::put_site(links, hearing, index);
     0
 }
 
-// The number that a check of an image gives; where it is 0, the index, which had no marks, is that of its rows.
+// The number that a check of an image gives; where it is 0, the index, which had no marks, is that of its rows and its site.
 pub fn verdict(image: &[u8], index: &mut [u64; index::WORDS]) -> u8
     requires { ⌜ now index ≡ replicate indexLength 0 ⌝ }
     ensures { λ r. ⌜ Verdict (now (image .entry)) r (now (index .exit)) ⌝ }

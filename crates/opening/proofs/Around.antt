@@ -39,5 +39,5 @@ image-beside {s} i =
       there = record { each = row-there w; few = omega (arith, stored-rows w .count, w .lawful .streams) };
       known = λ k l. subst (λ (rows : List Row). nthRow s (rowsPlace s) k ∈ rows) (sym (rows-in s)) (nth-from s (streamsOf s) (rowsPlace s) k l);
       nth = λ x m. from-nth s (streamsOf s) (rowsPlace s) x (subst (λ (rows : List Row). x ∈ rows) (rows-in s) m);
-      index = i .index;
+      index = i .index .slots;
     }

@@ -18,7 +18,7 @@ use Rattle.opening.specs.Keeping.{OneKept, TwoKept}
 use Rattle.opening.specs.Beside.{NewBeside, RouteBeside, PlacedBeside}
 use Rattle.opening.proofs.Routed.{room-left}
 
-module _ {s words : List ℕ} {book : Book} {q : Asked} {at : ℕ} {hearing route : List ℕ} (w : RouteBeside s words book q at hearing route) where
+module _ {s words : List ℕ} {book : Book} {q : Asked} {at : ℕ} {route : List ℕ} (w : RouteBeside s words book q at route) where
   lawful : LawfulBook (bookIn s)
   lawful = w .new .asked .image .newest .lawful .lawful
 
@@ -51,7 +51,7 @@ puttable {s} w routes f e =
     }
 
 -- a placed route with room for its row can be put in and marked
-pub one-kept : {s words : List ℕ} {book : Book} {q : Asked} {at : ℕ} {hearing route offsets : List ℕ} → RouteBeside s words book q at hearing route
+pub one-kept : {s words : List ℕ} {book : Book} {q : Asked} {at : ℕ} {route offsets : List ℕ} → RouteBeside s words book q at route
     → FirstPlacing (bookIn s) (q .period) route offsets → (Full (bookIn s) (route ∷ []) → ⊥) → OneKept s words book q at route offsets
 one-kept {s} {route = route} w p f = record {
   new = w .new;
@@ -64,8 +64,8 @@ one-kept {s} {route = route} w p f = record {
 }
 
 -- and the second beside the first
-pub two-kept : {s words : List ℕ} {book : Book} {q : Asked} {at : ℕ} {hearing first offsets second others : List ℕ}
-    → (w : PlacedBeside s words book q at hearing first offsets second) → FirstPlacing (beside (rowOn q 1 first offsets) (bookIn s)) (q .period) second others
+pub two-kept : {s words : List ℕ} {book : Book} {q : Asked} {at : ℕ} {first offsets second others : List ℕ}
+    → (w : PlacedBeside s words book q at first offsets second) → FirstPlacing (beside (rowOn q 1 first offsets) (bookIn s)) (q .period) second others
     → TwoKept s words book q at first offsets second others
 two-kept {s} {first = first} {second = second} w p =
     let r = w .routes in

@@ -8,7 +8,7 @@ use native.Mathlib.Decide.{decLt}
 use Rattle.rules.specs.Tiles.{Period}
 use Rattle.rules.specs.Topology.{nodes}
 use Rattle.rules.specs.Placing.{Asked}
-use Rattle.rules.specs.Image.{linksPlace, versionOf, planOf, nodesOf, linksOf}
+use Rattle.rules.specs.Image.{linksPlace, versionOf, nodesOf, linksOf, siteOf}
 use Rattle.rules.specs.Calls.{askedRefusals, openRefusals, Opened}
 use Rattle.rules.specs.Calls.Request.{Open}
 use Rattle.rules.proofs.Says.{None}
@@ -16,7 +16,7 @@ use Rattle.rules.proofs.Written.{length-sets-at}
 use Rattle.image.specs.Header.{HeaderOf}
 use Rattle.image.specs.declared.Book as head
 use Rattle.rules.proofs.Reading.{rowsIn, bookIn}
-use Rattle.index.specs.Index.{IndexOf}
+use Rattle.index.specs.Index.{Beside}
 use Rattle.index.specs.Beside.{ImageBeside, Works}
 use Rattle.opening.specs.Open.{JudgedBy, Outcome, OpensAsked}
 use Rattle.opening.specs.Beside.{AskedBeside}
@@ -69,7 +69,7 @@ below {s} h a f = go (decLt a (nodesOf s))
     go (no l) = absurd (f (omega (arith, h .nodes)))
 
 module _ {s : List ℕ} {book : head.Book} {q : Asked} (h : HeaderOf s book) where
-  pub judged-refused : {n mains number len : ℕ} {out words : List ℕ} → JudgedBy q (book .nodes) (Refused n) → number ≡ n → IndexOf (planOf s .slots) (rowsIn s) words
+  pub judged-refused : {n mains number len : ℕ} {out words : List ℕ} → JudgedBy q (book .nodes) (Refused n) → number ≡ n → Beside (siteOf s) (rowsIn s) words
       → Works mains s (Open q) number len out words
   judged-refused {number = number} j e i =
       let k = subst (λ (N : ℕ). JudgedBy q N (Refused number)) (known-nodes h) (subst (λ (m : ℕ). JudgedBy q (book .nodes) (Refused m)) (sym e) j) in

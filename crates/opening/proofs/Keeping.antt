@@ -8,13 +8,13 @@ use Rattle.rules.specs.Words.{_∈_, Reordered}
 use Rattle.rules.specs.Topology.{hopCount}
 use Rattle.rules.specs.Book.{Row, Plus}
 use Rattle.rules.specs.Placing.{Asked, NotPaid}
-use Rattle.rules.specs.Image.{planOf}
+use Rattle.rules.specs.Image.{siteOf}
 use Rattle.rules.proofs.Lists.{reordered-in, reordered-back}
 use Rattle.rules.proofs.Reading.{rowsIn, bookIn}
 use Rattle.image.specs.declared.Book.{Book}
-use Rattle.index.specs.Index.{IndexOf}
+use Rattle.index.specs.Index.{Beside}
 use Rattle.index.specs.Marks.{Adds, HopsTake}
-use Rattle.index.proofs.Rows.{index-more, index-alike}
+use Rattle.index.proofs.Behind.{beside-more, beside-alike}
 use Rattle.placing.specs.Marking as marking
 use Rattle.placing.specs.Marking.{Marked}
 use Rattle.opening.specs.Open.{Kept}
@@ -24,9 +24,9 @@ use Rattle.opening.proofs.Outcomes.{out-next, out-done}
 
 -- the marks of a route are those of its row
 pub marked-row : {s words marks : List ℕ} {q : Asked} {slots : ℕ} {rows : List Row} {route offsets : List ℕ} (way : ℕ)
-    → MarkedAs s words q slots rows route offsets → Marked slots (q .period) route offsets words marks → IndexOf (planOf s .slots) (rowOn q way route offsets ∷ rows) marks
+    → MarkedAs s words q slots rows route offsets → Marked slots (q .period) route offsets words marks → Beside (siteOf s) (rowOn q way route offsets ∷ rows) marks
 marked-row {words = words} {marks} {q} {route = route} {offsets} way w m =
-    index-more (omega (arith, w .slots-are, w .markable .few)) (w .index) (w .markable .period)
+    beside-more (omega (arith, w .slots-are, w .markable .few)) (w .index) (w .markable .period)
     (subst (λ (S : ℕ). Adds (HopsTake S (marking.rowOn (q .id) way (q .account) (q .period) route offsets) (hopCount route)) words (m .words)) (w .slots-are)
     (m .adds (q .id) way (q .account)))
     (m .notes)
@@ -38,13 +38,13 @@ pub first-marked : {s words mid : List ℕ} {book : Book} {q : Asked} {at : ℕ}
 first-marked w m = record { slots-are = w .marked .slots-are; markable = w .markable; index = marked-row 1 (w .marked) m }
 
 -- the rows put in, in whatever order they are marked
-pub kept : {s out words : List ℕ} {new rows : List Row} {len : ℕ} → PutIn s new len out → IndexOf (planOf s .slots) rows words
+pub kept : {s out words : List ℕ} {new rows : List Row} {len : ℕ} → PutIn s new len out → Beside (siteOf s) rows words
     → ((x : Row) → x ∈ rows → x ∈ (new ++ rowsIn s)) → ((x : Row) → x ∈ (new ++ rowsIn s) → x ∈ rows) → Kept (Plus (bookIn s) new) s len out words
 kept p i f g = record {
   after = p .after;
   is = p .plus;
   laid = p .laid;
-  index = index-alike (λ x m. reordered-back x (p .plus .rows) (f x m)) (λ x m. g x (reordered-in x (p .plus .rows) m)) i;
+  index = beside-alike (λ x m. reordered-back x (p .plus .rows) (f x m)) (λ x m. g x (reordered-in x (p .plus .rows) m)) i;
 }
 
 module _ {s words marks out : List ℕ} {book : Book} {q : Asked} {at number len size : ℕ} (e : number ≡ 0) (l : len ≡ size) where

@@ -5,15 +5,15 @@ use mathlib.Core.List.{List, [], _∷_, _++_}
 use Prim.Native.Nat.{ℕ}
 use Rattle.rules.specs.Says.{Refusal, _when_, Says}
 use Rattle.rules.specs.Book.{Book}
-use Rattle.rules.specs.Image.{planOf}
+use Rattle.rules.specs.Image.{siteOf}
 use Rattle.rules.proofs.Says.{None, Alike, same-says, says-first, says-then}
 use Rattle.rules.proofs.Reading.{rowsIn}
-use Rattle.index.specs.Index.{IndexOf}
+use Rattle.index.specs.Index.{Beside}
 use Rattle.opening.specs.Open.{Kept, Outcome}
 
 module _ {R : Book → Type 0} {s out words : List ℕ} {n len : ℕ} where
   -- the first refusal applies
-  pub out-refused : {rs : List Refusal} {A : Type 0} {k : ℕ} → A → (k ≡ 0 → ⊥) → n ≡ k → IndexOf (planOf s .slots) (rowsIn s) words → Outcome ((k when A) ∷ rs) R s n len out words
+  pub out-refused : {rs : List Refusal} {A : Type 0} {k : ℕ} → A → (k ≡ 0 → ⊥) → n ≡ k → Beside (siteOf s) (rowsIn s) words → Outcome ((k when A) ∷ rs) R s n len out words
   out-refused a f e i = record { says = inl (a, e); refused = λ g. i; done = λ z. absurd (f (sym e ∙ z)) }
 
   -- it does not, and the others say the outcome
@@ -25,7 +25,7 @@ module _ {R : Book → Type 0} {s out words : List ℕ} {n len : ℕ} where
   out-done e k = record { says = e; refused = λ f. absurd (f e); done = λ z. k }
 
   -- two lists of refusals, one after the other: the first refuses, or it does not and the second says the outcome
-  pub out-first : (rs ss : List Refusal) → Says rs n → (n ≡ 0 → ⊥) → IndexOf (planOf s .slots) (rowsIn s) words → Outcome (rs ++ ss) R s n len out words
+  pub out-first : (rs ss : List Refusal) → Says rs n → (n ≡ 0 → ⊥) → Beside (siteOf s) (rowsIn s) words → Outcome (rs ++ ss) R s n len out words
   out-first rs ss h f i = record { says = says-first rs ss n h f; refused = λ g. i; done = λ z. absurd (f z) }
 
   pub out-then : (rs ss : List Refusal) → None rs → Outcome ss R s n len out words → Outcome (rs ++ ss) R s n len out words

@@ -4,7 +4,7 @@ use mathlib.Core.Logic.{_⊎_, inl, inr}
 use mathlib.Core.List.{List, [], _∷_}
 use Prim.Native.Nat.{ℕ, _-_, _<_, _≤_}
 use native.Mathlib.Omega.{arith}
-use lib.ListN.{length, getD}
+use lib.ListN.{length, getD, take, drop}
 use Rattle.rules.specs.Words.{_∈_}
 use Rattle.rules.specs.Tiles.{Plan, shortTiles}
 use Rattle.rules.specs.Topology.{Topology}
@@ -15,7 +15,7 @@ use Rattle.rules.specs.Image.{planOf, hearingOf, streamsOf, rowsPlace}
 use Rattle.rules.proofs.Reading.{rowsIn, bookIn}
 use Rattle.image.specs.declared.Book.{Book}
 use Rattle.bitset.specs.Rows.{topology}
-use Rattle.index.specs.Index.{slowPlace}
+use Rattle.index.specs.Index.{slowPlace, hearingBehind}
 use Rattle.plain.specs.Plain.{nthRow, RowsThere, Weighs}
 use Rattle.placing.specs.Covers.{RowOn, Covers}
 use Rattle.placing.specs.Answers as placing
@@ -25,19 +25,23 @@ use Rattle.placing.proofs.Beside.{first-beside, none-beside}
 use Rattle.adding.specs.Puts.{rowOn}
 use Rattle.opening.specs.Beside.{RouteAsked, RouteBeside, PlacedOn, PlacedBeside}
 use Rattle.opening.proofs.Around.{image-beside}
+use Rattle.opening.proofs.Planned.{hearing-behind}
 
 -- what is asked of a route is known where its row would stand
-pub asked-route : {s words : List ℕ} {book : Book} {q : Asked} {at : ℕ} {hearing route : List ℕ} → RouteBeside s words book q at hearing route
-    → RouteAsked s words book q hearing route
-asked-route w = record { asked = w .new .asked; heard = w .heard; path = w .path; few = w .few }
+pub asked-route : {s words : List ℕ} {book : Book} {q : Asked} {at : ℕ} {route : List ℕ} → RouteBeside s words book q at route → RouteAsked s words book q route
+asked-route w = record { asked = w .new .asked; path = w .path; few = w .few }
 
-module _ {s words : List ℕ} {book : Book} {q : Asked} {hearing route : List ℕ} (w : RouteAsked s words book q hearing route) where
+module _ {s words : List ℕ} {book : Book} {q : Asked} {route : List ℕ} (w : RouteAsked s words book q route) {hearing : List ℕ}
+    (t : hearing ≡ take (book .nodes) (drop hearingBehind words)) where
   lawful : LawfulBook (bookIn s)
   lawful = w .asked .image .newest .lawful .lawful
 
+  same-topology : topology hearing ≡ hearingOf s
+  same-topology = ap topology (t ∙ hearing-behind (w .asked))
+
   pub placing-asked : placing.Asked (thePlan (book .plan)) (topology hearing) route (q .period)
   placing-asked =
-      subst₂ (λ (plan : Plan) (T : Topology). placing.Asked plan T route (q .period)) (sym (w .asked .header .plan)) (sym (ap topology (w .heard))) (record {
+      subst₂ (λ (plan : Plan) (T : Topology). placing.Asked plan T route (q .period)) (sym (w .asked .header .plan)) (sym same-topology) (record {
         in-range = lawful .site .plan;
         sound = lawful .site .topologies .hearing-sound;
         most = omega (arith, lawful .site .topologies .even, lawful .site .nodes .1);
@@ -77,7 +81,7 @@ module _ {s words : List ℕ} {book : Book} {q : Asked} {hearing route : List �
           answers =
               subst (λ (k : ℕ). AnswersBy (planOf s) (hearingOf s) (around words s k rows moduli first taken) (q .period) route (r .found) (r .offsets)) e
               (subst₂ (λ (plan : Plan) (T : Topology). AnswersBy plan T (around words s start rows moduli first taken) (q .period) route (r .found) (r .offsets))
-              (w .asked .header .plan) (ap topology (w .heard)) a)
+              (w .asked .header .plan) same-topology a)
 
 -- the book itself has no other row
 pub covers-none : (s : List ℕ) (K : ℕ) → Covers s (rowsIn s) K [] [] (bookIn s)
@@ -85,7 +89,7 @@ covers-none s K =
     record { site = refl; known = λ x m. m; each = λ x m. inl m; other = λ l. absurd (omega arith); count = refl; within = λ o m. absurd m }
 
 -- and with the first's row it has that one
-pub covers-first : {s words : List ℕ} {book : Book} {q : Asked} {at : ℕ} {hearing first offsets second : List ℕ} → PlacedBeside s words book q at hearing first offsets second
+pub covers-first : {s words : List ℕ} {book : Book} {q : Asked} {at : ℕ} {first offsets second : List ℕ} → PlacedBeside s words book q at first offsets second
     → Covers s (rowsIn s) (q .period) first offsets (beside (rowOn q 1 first offsets) (bookIn s))
 covers-first {s} {q = q} {first = first} {offsets} w = record {
   site = refl;
@@ -101,8 +105,8 @@ covers-first {s} {q = q} {first = first} {offsets} w = record {
     each x (inr m) = inl m
 
 -- the second is asked for beside the first
-pub beside-asked : {s words : List ℕ} {book : Book} {q : Asked} {at : ℕ} {hearing first offsets second : List ℕ} → PlacedBeside s words book q at hearing first offsets second
-    → RouteAsked s words book q hearing second × (length offsets ≤ length first - 1) × ((a : ℕ) → a ∈ first → a < 64)
+pub beside-asked : {s words : List ℕ} {book : Book} {q : Asked} {at : ℕ} {first offsets second : List ℕ} → PlacedBeside s words book q at first offsets second
+    → RouteAsked s words book q second × (length offsets ≤ length first - 1) × ((a : ℕ) → a ∈ first → a < 64)
 beside-asked w = (
   asked-route (w .routes .second-route),
   omega (arith, w .placed .placing .offsets-hold .count),

@@ -1,23 +1,24 @@
--- The links that were decoded are the book's, and the planner's answer over them is that of the book.
-use mathlib.Core.Path.{_≡_, refl, sym, ap, _∙_, subst}
-use mathlib.Core.List.{List, []}
-use Prim.Native.Nat.{ℕ, _+_, _*_, _≤_}
+-- The links and the hearing behind the index are the book's, and the planner's answer over the links is that of the book.
+use mathlib.Core.Path.{_≡_, refl, sym, ap, _∙_, subst, subst₂}
+use mathlib.Core.List.{List}
+use Prim.Native.Nat.{ℕ, _+_, _≤_}
 use native.Mathlib.Omega.{arith}
-use lib.ListN.{length, take}
+use lib.ListN.{take, drop}
 use Rattle.rules.specs.Topology.{Topology, nodes, Route}
 use Rattle.rules.specs.Topology as topologies
-use Rattle.rules.specs.Image.{linksStart, linksPlace, versionOf, nodesOf, setsAt, linksOf}
+use Rattle.rules.specs.Image.{linksPlace, nodesOf, linksOf, hearingOf}
 use Rattle.rules.specs.Placing as placing
 use Rattle.rules.proofs.Written.{length-sets-at}
 use Rattle.rules.proofs.Reading.{LawfulImage}
 use Rattle.image.specs.Header.{HeaderOf}
-use Rattle.image.specs.Places.{Sets}
 use Rattle.image.specs.declared.Book as head
-use Rattle.image.proofs.Stands.{stored-length}
-use Rattle.image.proofs.Topologies.{links-there, links-sets}
+use Rattle.image.proofs.Topologies.{hearing-nodes}
+use Rattle.index.specs.Index.{linksBehind, hearingBehind}
 use Rattle.bitset.specs.Rows.{topology}
 use Rattle.routes.specs.Planner.{Asked, Says, PlannerSays}
+use Rattle.routes.specs.Second.{SecondSays}
 use Rattle.routes.specs.declared.Planned.{Planned}
+use Rattle.routes.specs.declared.second.Sought.{Sought}
 use Rattle.routes.specs.declared.Reach.{Reach}
 use Rattle.routes.specs.declared.Reach.the-variants.{Found, TooFar, NoRoute}
 use Rattle.opening.specs.Beside.{AskedBeside}
@@ -45,12 +46,12 @@ module _ {s words : List ℕ} {book : head.Book} {q : placing.Asked} (w : AskedB
   pub nodes-most : book .nodes ≤ 64
   nodes-most = omega (arith, w .header .nodes, known lawful, nodes-few lawful)
 
-  module _ {at : ℕ} (e : at ≡ linksStart (book .version) (book .accounts)) where
-    pub links-inside : at + 8 * book .nodes ≤ length s
-    links-inside = omega (arith, links-there (w .header) e, w .header .nodes, stored-length lawful)
+  -- the links and the hearing that stand behind the index
+  pub links-behind : take (book .nodes) (drop linksBehind words) ≡ linksOf s .rows
+  links-behind = ap (λ (n : ℕ). take n (drop linksBehind words)) (w .header .nodes ∙ sym (known lawful)) ∙ w .image .index .links
 
-    pub links-decoded : {rows : List ℕ} → Sets s at (book .nodes) rows → Sets s (linksPlace s) (book .nodes) rows
-    links-decoded = links-sets (w .header) e
+  pub hearing-behind : take (book .nodes) (drop hearingBehind words) ≡ hearingOf s .rows
+  hearing-behind = ap (λ (n : ℕ). take n (drop hearingBehind words)) (w .header .nodes ∙ sym (hearing-nodes s)) ∙ w .image .index .hearing
 
   asked-book : Asked (linksOf s) (q .source) (q .destination)
   asked-book = record {
@@ -61,32 +62,30 @@ module _ {s words : List ℕ} {book : head.Book} {q : placing.Asked} (w : AskedB
     apart = w .apart;
   }
 
-  module _ {rows : List ℕ} (l : Sets s (linksPlace s) (book .nodes) rows) where
-    pub same-links : take (book .nodes) rows ≡ linksOf s .rows
-    same-links = l .rows ∙ ap (setsAt s (linksPlace s)) (w .header .nodes)
+  module _ {links : List ℕ} (l : links ≡ take (book .nodes) (drop linksBehind words)) where
+    same-topology : topology links ≡ linksOf s
+    same-topology = ap topology (l ∙ links-behind)
 
-    pub same-topology : topology (take (book .nodes) rows) ≡ linksOf s
-    same-topology = ap topology same-links
-
-    pub asked : Asked (topology (take (book .nodes) rows)) (q .source) (q .destination)
+    pub asked : Asked (topology links) (q .source) (q .destination)
     asked = subst (λ (T : Topology). Asked T (q .source) (q .destination)) (sym same-topology) asked-book
 
-    module _ {mains : ℕ} (r : Planned) (p : PlannerSays (topology (take (book .nodes) rows)) mains (q .source) (q .destination) r) where
+    says : (mains : ℕ) (r : Planned) (reach : Reach) → PlannerSays (topology links) mains (q .source) (q .destination) r → r .reach ≡ reach
+        → Says (linksOf s) mains (q .source) (q .destination) reach (r .hops) (r .nodes)
+    says mains r reach p e = subst₂ (λ (T : Topology) (reach : Reach). Says T mains (q .source) (q .destination) reach (r .hops) (r .nodes)) same-topology e p
+
+    module _ {mains : ℕ} (r : Planned) (p : PlannerSays (topology links) mains (q .source) (q .destination) r) where
       pub planned-route : r .reach ≡ Found → Route (linksOf s) mains (q .source) (q .destination) (take (r .hops + 1) (r .nodes))
-      planned-route e =
-          subst (λ (T : Topology). Route T mains (q .source) (q .destination) (take (r .hops + 1) (r .nodes))) same-topology
-          (subst (λ (reach : Reach). Says (topology (take (book .nodes) rows)) mains (q .source) (q .destination) reach (r .hops) (r .nodes)) e p .route)
+      planned-route e = says mains r Found p e .route
 
       pub planned-none : r .reach ≡ NoRoute → topologies.NoRoute (linksOf s) mains (q .source) (q .destination)
-      planned-none e =
-          subst (λ (T : Topology). topologies.NoRoute T mains (q .source) (q .destination)) same-topology
-          (subst (λ (reach : Reach). Says (topology (take (book .nodes) rows)) mains (q .source) (q .destination) reach (r .hops) (r .nodes)) e p .0)
+      planned-none e = says mains r NoRoute p e .0
 
       pub planned-far : r .reach ≡ TooFar → topologies.TooFar (linksOf s) mains (q .source) (q .destination)
-      planned-far e =
-          subst (λ (T : Topology). topologies.TooFar T mains (q .source) (q .destination)) same-topology
-          (subst (λ (reach : Reach). Says (topology (take (book .nodes) rows)) mains (q .source) (q .destination) reach (r .hops) (r .nodes)) e p .0)
+      planned-far e = says mains r TooFar p e .0
 
-  -- the same, asked of the links by themselves
-  pub asked-links : {links : List ℕ} → links ≡ linksOf s .rows → Asked (topology links) (q .source) (q .destination)
-  asked-links e = subst (λ (rows : List ℕ). Asked (topology rows) (q .source) (q .destination)) (sym e) asked-book
+    module _ {mains : ℕ} {first : List ℕ} where
+      pub route-on : Route (linksOf s) mains (q .source) (q .destination) first → Route (topology links) mains (q .source) (q .destination) first
+      route-on = subst (λ (T : Topology). Route T mains (q .source) (q .destination) first) (sym same-topology)
+
+      pub second-says : {r : Sought} → SecondSays (topology links) mains (q .source) (q .destination) first r → SecondSays (linksOf s) mains (q .source) (q .destination) first r
+      second-says {r} = subst (λ (T : Topology). SecondSays T mains (q .source) (q .destination) first r) same-topology

@@ -13,7 +13,7 @@ use Rattle.rules.specs.Topology.{Topology, Route, NoRoute, TooFar, SecondPath, 
 use Rattle.rules.specs.Book.{Row, Book, mostStreams, mostHops, hopsInAll}
 use Rattle.rules.specs.Placing.{Asked, Planned, NoSecond, FirstPlacing, NoPlacings, Full, NewRow, beside, NewRows, NotPaid}
 use Rattle.rules.specs.Placing.Planned.{one, two}
-use Rattle.rules.specs.Image.{planOf, streamsOf, hopsOf}
+use Rattle.rules.specs.Image.{streamsOf, hopsOf, siteOf}
 use Rattle.rules.specs.Calls.{OfRoutes, Opened}
 use Rattle.rules.proofs.Choice.{best-unique, planned-unique, new-unique, rows-unique}
 use Rattle.rules.proofs.Cases.{route-near, route-some}
@@ -22,7 +22,7 @@ use Rattle.rules.proofs.Reading.{rowsIn, bookIn, LawfulImage}
 use Rattle.image.specs.Header.{HeaderOf}
 use Rattle.image.specs.declared.Book as head
 use Rattle.image.proofs.Stands.{stored-rows}
-use Rattle.index.specs.Index.{IndexOf}
+use Rattle.index.specs.Index.{Beside}
 use Rattle.adding.specs.Puts.{rowOn}
 use Rattle.opening.specs.Keeping.{Keeps}
 use Rattle.opening.specs.Open.{OpenedOn, routedRefusals, Routed, OpensNew}
@@ -82,7 +82,7 @@ routed-new s mains q routes planned w =
 pub second-refused : (s : List ℕ) {out words : List ℕ} {number len : ℕ} (mains : ℕ) (q : Asked) (first : List ℕ) → q .second ≡ true
     → Route (bookIn s .site .links) mains (q .source) (q .destination) first
     → ((p : List ℕ) → SecondPath (bookIn s .site .links) mains (q .source) (q .destination) first p → ⊥)
-    → number ≡ 18 → IndexOf (planOf s .slots) (rowsIn s) words → OpensNew s mains q number len out words
+    → number ≡ 18 → Beside (siteOf s) (rowsIn s) words → OpensNew s mains q number len out words
 second-refused s mains q first y r none e i =
     out-next (route-some r) (out-next (route-near r) (out-refused (record { asked = y; first = first; planned = r; none = none }) (λ z. omega arith) e i))
 

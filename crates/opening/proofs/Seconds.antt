@@ -1,32 +1,31 @@
 -- The second route that was found, or that there is none, is that of the book.
-use mathlib.Core.Path.{_≡_, refl, sym, ap, subst}
+use mathlib.Core.Path.{_≡_, refl}
 use mathlib.Core.Bool.{Bool, true, false}
 use mathlib.Core.List.{List, [], _∷_}
 use Prim.Native.Nat.{ℕ, _+_, _≤_}
 use native.Mathlib.Omega.{arith}
-use lib.ListN.{take}
-use Rattle.rules.specs.Topology.{Topology, hopCount, mostRouteHops, Path, Route, SecondPath, SecondRoute, mostShortHops}
+use lib.ListN.{take, drop}
+use Rattle.rules.specs.Topology.{hopCount, mostRouteHops, Path, Route, SecondPath, SecondRoute, mostShortHops}
 use Rattle.rules.specs.Placing.{Asked, Planned}
 use Rattle.rules.specs.Placing.Planned.{two}
 use Rattle.rules.specs.Image.{linksOf}
 use Rattle.image.specs.declared.Book.{Book}
+use Rattle.index.specs.Index.{linksBehind}
 use Rattle.bitset.specs.Rows.{topology}
 use Rattle.routes.specs.Planner as routes
 use Rattle.routes.specs.declared.second.Sought.{Sought}
 use Rattle.routes.specs.Second.{SecondSays}
 use Rattle.opening.specs.Beside.{NewBeside, RouteBeside, RoutesBeside, SecondBeside}
-use Rattle.opening.proofs.Planned.{asked-links}
+use Rattle.opening.proofs.Planned.{asked, route-on, second-says}
 
-module _ {s words : List ℕ} {mains : ℕ} {book : Book} {q : Asked} {at : ℕ} {links hearing first : List ℕ} (w : SecondBeside s words mains book q at links hearing first) where
+module _ {s words : List ℕ} {mains : ℕ} {book : Book} {q : Asked} {at : ℕ} {first : List ℕ} (w : SecondBeside s words mains book q at first) {links : List ℕ}
+    (l : links ≡ take (book .nodes) (drop linksBehind words)) where
   pub second-asked : routes.Asked (topology links) (q .source) (q .destination) × Route (topology links) mains (q .source) (q .destination) first
-  second-asked = (
-    asked-links (w .planned .new .asked) (w .planned .linked),
-    subst (λ (rows : List ℕ). Route (topology rows) mains (q .source) (q .destination) first) (sym (w .planned .linked)) (w .planned .planned),
-  )
+  second-asked = (asked (w .planned .new .asked) l, route-on (w .planned .new .asked) l (w .planned .planned))
 
   module _ {r : Sought} (h : SecondSays (topology links) mains (q .source) (q .destination) first r) where
     says : SecondSays (linksOf s) mains (q .source) (q .destination) first r
-    says = subst (λ (rows : List ℕ). SecondSays (topology rows) mains (q .source) (q .destination) first r) (w .planned .linked) h
+    says = second-says (w .planned .new .asked) l h
 
     pub second-few : r .hops ≤ mostShortHops
     second-few = go (r .found) refl
@@ -45,8 +44,8 @@ module _ {s words : List ℕ} {mains : ℕ} {book : Book} {q : Asked} {at : ℕ}
       pub second-planned : Planned (linksOf s) mains q (first ∷ take (r .hops + 1) (r .nodes) ∷ [])
       second-planned = two (w .asked-two) (w .planned .planned) second
 
-      pub second-routes : RoutesBeside s words book q at hearing first (take (r .hops + 1) (r .nodes))
+      pub second-routes : RoutesBeside s words book q at first (take (r .hops + 1) (r .nodes))
       second-routes = record {
-        first-route = record { new = w .planned .new; heard = w .heard; path = w .planned .planned .is .between .path; few = w .planned .planned .is .most };
-        second-route = record { new = w .planned .new; heard = w .heard; path = second .is .0 .path; few = omega (arith, second .is .1 .short) };
+        first-route = record { new = w .planned .new; path = w .planned .planned .is .between .path; few = w .planned .planned .is .most };
+        second-route = record { new = w .planned .new; path = second .is .0 .path; few = omega (arith, second .is .1 .short) };
       }

@@ -1,4 +1,4 @@
--- What a stream is opened beside: a lawful image in the newest version, and the index of its rows.
+-- What a stream is opened beside: a lawful image in the newest version, and the index of its rows and its site.
 use mathlib.Core.Path.{_≡_}
 use mathlib.Core.Bool.{true}
 use mathlib.Core.List.{List, [], _∷_}
@@ -9,7 +9,7 @@ use Rattle.rules.specs.Tiles.{Period}
 use Rattle.rules.specs.Topology.{Path, hopCount, mostRouteHops, Route}
 use Rattle.rules.specs.Placing as placing
 use Rattle.rules.specs.Placing.{Asked, FirstPlacing, Full}
-use Rattle.rules.specs.Image.{nodesOf, accountsOf, linksOf, hearingOf}
+use Rattle.rules.specs.Image.{nodesOf, accountsOf, linksOf}
 use Rattle.rules.proofs.Reading.{rowsIn, bookIn}
 use Rattle.image.specs.Header.{HeaderOf}
 use Rattle.image.specs.declared.Book.{Book}
@@ -34,10 +34,9 @@ pub record NewBeside (s words : List ℕ) (book : Book) (q : Asked) (at : ℕ) :
   pub account : rules.KnownAccount (accountsOf s) (q .account)
   pub vacant : Vacant s (q .id) at
 
--- with the hearing, and a route
-pub record RouteAsked (s words : List ℕ) (book : Book) (q : Asked) (hearing route : List ℕ) : Type 0 where
+-- with a route
+pub record RouteAsked (s words : List ℕ) (book : Book) (q : Asked) (route : List ℕ) : Type 0 where
   pub asked : AskedBeside s words book q
-  pub heard : hearing ≡ hearingOf s .rows
   pub path : Path (linksOf s) route
   pub few : hopCount route ≤ mostRouteHops
 
@@ -50,32 +49,29 @@ pub record PlacedIn (c : rules.Book) (q : Asked) (route : List ℕ) (r : Placing
 abbrev pub PlacedOn : List ℕ → Asked → List ℕ → List ℕ → List ℕ → Placing → Type 0
 PlacedOn s q route first taken r = (c : rules.Book) → Covers s (rowsIn s) (q .period) first taken c → PlacedIn c q route r
 
--- and with the hearing, and a route
-pub record RouteBeside (s words : List ℕ) (book : Book) (q : Asked) (at : ℕ) (hearing route : List ℕ) : Type 0 where
+-- and with a route
+pub record RouteBeside (s words : List ℕ) (book : Book) (q : Asked) (at : ℕ) (route : List ℕ) : Type 0 where
   pub new : NewBeside s words book q at
-  pub heard : hearing ≡ hearingOf s .rows
   pub path : Path (linksOf s) route
   pub few : hopCount route ≤ mostRouteHops
 
 -- and with a second one
-pub record RoutesBeside (s words : List ℕ) (book : Book) (q : Asked) (at : ℕ) (hearing first second : List ℕ) : Type 0 where
-  pub first-route : RouteBeside s words book q at hearing first
-  pub second-route : RouteBeside s words book q at hearing second
+pub record RoutesBeside (s words : List ℕ) (book : Book) (q : Asked) (at : ℕ) (first second : List ℕ) : Type 0 where
+  pub first-route : RouteBeside s words book q at first
+  pub second-route : RouteBeside s words book q at second
 
 -- and the first placed, with room for both
-pub record PlacedBeside (s words : List ℕ) (book : Book) (q : Asked) (at : ℕ) (hearing first offsets second : List ℕ) : Type 0 where
-  pub routes : RoutesBeside s words book q at hearing first second
+pub record PlacedBeside (s words : List ℕ) (book : Book) (q : Asked) (at : ℕ) (first offsets second : List ℕ) : Type 0 where
+  pub routes : RoutesBeside s words book q at first second
   pub placed : FirstPlacing (bookIn s) (q .period) first offsets
   pub room : Full (bookIn s) (first ∷ second ∷ []) → ⊥
 
--- where the first is the planner's, with the set of nodes that may stand in the middle: with the links
-pub record PlannedBeside (s words : List ℕ) (mains : ℕ) (book : Book) (q : Asked) (at : ℕ) (links first : List ℕ) : Type 0 where
+-- where the first is the planner's, with the set of nodes that may stand in the middle
+pub record PlannedBeside (s words : List ℕ) (mains : ℕ) (book : Book) (q : Asked) (at : ℕ) (first : List ℕ) : Type 0 where
   pub new : NewBeside s words book q at
-  pub linked : links ≡ linksOf s .rows
   pub planned : Route (linksOf s) mains (q .source) (q .destination) first
 
--- and a second one is asked for, with the hearing
-pub record SecondBeside (s words : List ℕ) (mains : ℕ) (book : Book) (q : Asked) (at : ℕ) (links hearing first : List ℕ) : Type 0 where
-  pub planned : PlannedBeside s words mains book q at links first
-  pub heard : hearing ≡ hearingOf s .rows
+-- and a second one is asked for
+pub record SecondBeside (s words : List ℕ) (mains : ℕ) (book : Book) (q : Asked) (at : ℕ) (first : List ℕ) : Type 0 where
+  pub planned : PlannedBeside s words mains book q at first
   pub asked-two : q .second ≡ true

@@ -5,10 +5,10 @@ use Prim.Native.Nat.{ℕ}
 use Rattle.rules.specs.Says.{_when_}
 use Rattle.rules.specs.Book.{Row}
 use Rattle.rules.specs.Placing.{Asked, NotPaid}
-use Rattle.rules.specs.Image.{planOf}
+use Rattle.rules.specs.Image.{planOf, siteOf}
 use Rattle.rules.proofs.Reading.{rowsIn, bookIn}
 use Rattle.image.specs.declared.Book.{Book}
-use Rattle.index.specs.Index.{IndexOf}
+use Rattle.index.specs.Index.{Beside}
 use Rattle.placing.specs.Marking.{Markable}
 use Rattle.opening.specs.Open.{WithRows, Outcome}
 use Rattle.opening.specs.Beside.{NewBeside}
@@ -22,7 +22,7 @@ Keeps s q routes new = Outcome ((23 when NotPaid (bookIn s) q routes) ∷ []) (W
 pub record MarkedAs (s words : List ℕ) (q : Asked) (slots : ℕ) (rows : List Row) (route offsets : List ℕ) : Type 0 where
   pub slots-are : slots ≡ planOf s .slots
   pub markable : Markable slots (q .period) route offsets
-  pub index : IndexOf (planOf s .slots) rows words
+  pub index : Beside (siteOf s) rows words
 
 -- one route, beside the rows of the image
 pub record OneKept (s words : List ℕ) (book : Book) (q : Asked) (at : ℕ) (route offsets : List ℕ) : Type 0 where

@@ -7,12 +7,12 @@ use Rattle.rules.specs.Tiles.{Period}
 use Rattle.rules.specs.Topology.{NoRoute, TooFar}
 use Rattle.rules.specs.Book.{Row, Book, KnownAccount, Known, Plus}
 use Rattle.rules.specs.Placing.{Asked, NoSecond, Full, NewRows, NoPlacings, NotPaid}
-use Rattle.rules.specs.Image.{newest, encode, planOf}
+use Rattle.rules.specs.Image.{newest, encode, siteOf}
 use Rattle.rules.specs.Calls.{OfRoutes, Opened, askedRefusals}
 use Rattle.rules.proofs.Says.{None}
 use Rattle.rules.proofs.Reading.{rowsIn, bookIn}
 use Rattle.image.specs.Places.{Laid}
-use Rattle.index.specs.Index.{IndexOf}
+use Rattle.index.specs.Index.{Beside}
 use Rattle.opening.specs.declared.Judged.{Judged}
 use Rattle.opening.specs.declared.Judged.the-variants.{Refused, InOrder}
 
@@ -21,7 +21,7 @@ pub record Kept (R : Book → Type 0) (s : List ℕ) (len : ℕ) (out words : Li
   pub after : Book
   pub is : R after
   pub laid : Laid s (encode newest after) len out
-  pub index : IndexOf (planOf s .slots) (after .rows) words
+  pub index : Beside (siteOf s) (after .rows) words
 
 -- what is wrong with a request by itself; or nothing is
 abbrev pub JudgedBy : Asked → ℕ → Judged → Type 0
@@ -31,7 +31,7 @@ JudgedBy q N InOrder = None (askedRefusals q N) × Period (q .period)
 -- the number that the refusals say; where it is done, the image of a book with R and the index of its rows, and otherwise the index as it was
 pub record Outcome (refusals : List Refusal) (R : Book → Type 0) (s : List ℕ) (number len : ℕ) (out words : List ℕ) : Type 0 where
   pub says : Says refusals number
-  pub refused : (number ≡ 0 → ⊥) → IndexOf (planOf s .slots) (rowsIn s) words
+  pub refused : (number ≡ 0 → ⊥) → Beside (siteOf s) (rowsIn s) words
   pub done : number ≡ 0 → Kept R s len out words
 
 -- where the rows are known: the book with them in it

@@ -34,26 +34,15 @@ fn open_new(
     requires { ⌜ NewBeside (now image) (now index) book (theAsked q) at ⌝ }
     ensures { λ r. ⌜ OpensNew (now (image .entry)) mains (theAsked q) (r .number) (r .length) (now (out .exit)) (now (index .exit)) ⌝ }
 {
-    let n = book.nodes;
-    let rows = topologies::sets(image, book.links_place(), n);
-    let planned = routes::plan(&rows[..n], mains, q.source, q.destination);
+    let links = index::links(index, book.nodes);
+    let planned = routes::plan(links, mains, q.source, q.destination);
     let reach = planned.reach;
     let end = planned.hops + 1;
     let nodes = planned.nodes;
     match reach {
         Reach::NoRoute => answers::refused(7),
         Reach::TooFar => answers::refused(17),
-        Reach::Found => ways::open_routed(
-            image,
-            index,
-            mains,
-            book,
-            q,
-            at,
-            &rows[..n],
-            &nodes[..end],
-            out,
-        ),
+        Reach::Found => ways::open_routed(image, index, mains, book, q, at, &nodes[..end], out),
     }
 }
 

@@ -36,17 +36,17 @@ fn place_beside(
     index: &[u64; index::WORDS],
     book: Book,
     q: Asked,
-    hearing: &[u64],
     route: &[u8],
     first: &[u8],
     taken: &[u16],
 ) -> Placing
-    requires { ⌜ RouteAsked (now image) (now index) book (theAsked q) (now hearing) (now route) × (length (now taken) ≤ length (now first) - 1)
+    requires { ⌜ RouteAsked (now image) (now index) book (theAsked q) (now route) × (length (now taken) ≤ length (now first) - 1)
         × ((a : ℕ) → a ∈ now first → a < 64) ⌝ }
     ensures { λ r. ⌜ PlacedOn (now (image .entry)) (theAsked q) (now (route .entry)) (now (first .entry)) (now (taken .entry)) r ⌝ }
 {
     let plan = book.plan;
     let start = book.rows_start();
+    let hearing = index::hearing(index, book.nodes);
     let slow = index::has_slow(index);
     let mut moduli = [0u16; plain::ROWS];
     let rows = plain::weigh(
@@ -79,23 +79,13 @@ fn place_alone(
     index: &[u64; index::WORDS],
     book: Book,
     q: Asked,
-    hearing: &[u64],
     route: &[u8],
 ) -> Placing
-    requires { ⌜ RouteAsked (now image) (now index) book (theAsked q) (now hearing) (now route) ⌝ }
+    requires { ⌜ RouteAsked (now image) (now index) book (theAsked q) (now route) ⌝ }
     ensures { λ r. ⌜ PlacedIn (bookIn (now (image .entry))) (theAsked q) (now (route .entry)) r ⌝ }
 {
     let none = [0u16; 1];
-    place_beside(
-        image,
-        index,
-        book,
-        q,
-        hearing,
-        route,
-        &route[..0],
-        &none[..0],
-    )
+    place_beside(image, index, book, q, route, &route[..0], &none[..0])
 }
 
 // Writes the image with the row of a placed route, and marks it in the index, where the account pays for it.
@@ -128,18 +118,17 @@ fn open_one(
     book: Book,
     q: Asked,
     at: usize,
-    hearing: &[u64],
     route: &[u8],
     out: &mut [u8; Book::LONGEST],
 ) -> Answer
-    requires { ⌜ RouteBeside (now image) (now index) book (theAsked q) at (now hearing) (now route) ⌝ }
+    requires { ⌜ RouteBeside (now image) (now index) book (theAsked q) at (now route) ⌝ }
     ensures { λ r. ⌜ Routed (now (image .entry)) (theAsked q) (now (route .entry) ∷ []) (r .number) (r .length) (now (out .exit)) (now (index .exit)) ⌝ }
 {
     let hops = route.len() - 1;
     if is_full(book, 1, hops) {
         return answers::refused(8);
     }
-    let placing = place_alone(image, index, book, q, hearing, route);
+    let placing = place_alone(image, index, book, q, route);
     let found = placing.found;
     let offsets = placing.offsets;
     match found {
@@ -183,17 +172,16 @@ fn place_second(
     book: Book,
     q: Asked,
     at: usize,
-    hearing: &[u64],
     first: &[u8],
     offsets: &[u16],
     second: &[u8],
     out: &mut [u8; Book::LONGEST],
 ) -> Answer
-    requires { ⌜ PlacedBeside (now image) (now index) book (theAsked q) at (now hearing) (now first) (now offsets) (now second) ⌝ }
+    requires { ⌜ PlacedBeside (now image) (now index) book (theAsked q) at (now first) (now offsets) (now second) ⌝ }
     ensures { λ r. ⌜ Routed (now (image .entry)) (theAsked q) (now (first .entry) ∷ now (second .entry) ∷ []) (r .number) (r .length) (now (out .exit)) (now (index .exit)) ⌝ }
 {
     let hops = second.len() - 1;
-    let placing = place_beside(image, index, book, q, hearing, second, first, offsets);
+    let placing = place_beside(image, index, book, q, second, first, offsets);
     let found = placing.found;
     let others = placing.offsets;
     match found {
@@ -220,19 +208,18 @@ fn open_both(
     book: Book,
     q: Asked,
     at: usize,
-    hearing: &[u64],
     first: &[u8],
     second: &[u8],
     out: &mut [u8; Book::LONGEST],
 ) -> Answer
-    requires { ⌜ RoutesBeside (now image) (now index) book (theAsked q) at (now hearing) (now first) (now second) ⌝ }
+    requires { ⌜ RoutesBeside (now image) (now index) book (theAsked q) at (now first) (now second) ⌝ }
     ensures { λ r. ⌜ Routed (now (image .entry)) (theAsked q) (now (first .entry) ∷ now (second .entry) ∷ []) (r .number) (r .length) (now (out .exit)) (now (index .exit)) ⌝ }
 {
     let hops = first.len() - 1;
     if is_full(book, 2, hops + (second.len() - 1)) {
         return answers::refused(8);
     }
-    let placing = place_alone(image, index, book, q, hearing, first);
+    let placing = place_alone(image, index, book, q, first);
     let found = placing.found;
     let offsets = placing.offsets;
     match found {
@@ -243,7 +230,6 @@ fn open_both(
             book,
             q,
             at,
-            hearing,
             first,
             &offsets[..hops],
             second,
@@ -260,14 +246,13 @@ fn open_beside(
     book: Book,
     q: Asked,
     at: usize,
-    links: &[u64],
-    hearing: &[u64],
     first: &[u8],
     out: &mut [u8; Book::LONGEST],
 ) -> Answer
-    requires { ⌜ SecondBeside (now image) (now index) mains book (theAsked q) at (now links) (now hearing) (now first) ⌝ }
+    requires { ⌜ SecondBeside (now image) (now index) mains book (theAsked q) at (now first) ⌝ }
     ensures { λ r. ⌜ OpensNew (now (image .entry)) mains (theAsked q) (r .number) (r .length) (now (out .exit)) (now (index .exit)) ⌝ }
 {
+    let links = index::links(index, book.nodes);
     let sought = routes::second::second(links, mains, q.source, q.destination, first);
     let found = sought.found;
     let end = sought.hops + 1;
@@ -275,17 +260,7 @@ fn open_beside(
     if !found {
         return answers::refused(18);
     }
-    open_both(
-        image,
-        index,
-        book,
-        q,
-        at,
-        hearing,
-        first,
-        &nodes[..end],
-        out,
-    )
+    open_both(image, index, book, q, at, first, &nodes[..end], out)
 }
 
 // Opens the stream on the planner's route, and on a second one where it is asked for.
@@ -296,19 +271,15 @@ pub fn open_routed(
     book: Book,
     q: Asked,
     at: usize,
-    links: &[u64],
     first: &[u8],
     out: &mut [u8; Book::LONGEST],
 ) -> Answer
-    requires { ⌜ PlannedBeside (now image) (now index) mains book (theAsked q) at (now links) (now first) ⌝ }
+    requires { ⌜ PlannedBeside (now image) (now index) mains book (theAsked q) at (now first) ⌝ }
     ensures { λ r. ⌜ OpensNew (now (image .entry)) mains (theAsked q) (r .number) (r .length) (now (out .exit)) (now (index .exit)) ⌝ }
 {
-    let n = book.nodes;
-    let heard = topologies::sets(image, book.hearing_place(), n);
-    let hearing = &heard[..n];
     if q.second {
-        open_beside(image, index, mains, book, q, at, links, hearing, first, out)
+        open_beside(image, index, mains, book, q, at, first, out)
     } else {
-        open_one(image, index, book, q, at, hearing, first, out)
+        open_one(image, index, book, q, at, first, out)
     }
 }

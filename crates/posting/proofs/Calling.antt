@@ -7,7 +7,7 @@ use Prim.Native.Nat.{ℕ, zero, suc, _<_, _≤_}
 use native.Mathlib.Omega.{arith}
 use lib.Dec.{eqb}
 use lib.ListN.{length, take, drop, replicate, length-replicate, length-map, length-append, take-append-drop}
-use lib.Seq.{length-take-le, take-append-seam, drop-append-seam}
+use lib.Seq.{length-take-le, take-append-seam, drop-append-seam, paste}
 use Rattle.rules.specs.Words.{NoBitFrom, _∈_}
 use Rattle.rules.specs.Topology.{nodes}
 use Rattle.rules.specs.Says.{Says}
@@ -21,7 +21,7 @@ use Rattle.rules.proofs.Mains.{stored-nodes}
 use Rattle.rules.proofs.Lawful.{in-order-site}
 use Rattle.rules.proofs.Reading.{rowsIn, bookIn, LawfulImage, NewestImage, newest-book, newest-image, newest-bytes}
 use Rattle.index.specs.Index as inner
-use Rattle.index.specs.Index.{IndexOf}
+use Rattle.index.specs.Index.{Beside}
 use Rattle.lawful.specs.Verdict.{Verdict}
 use Rattle.transcribing.specs.Again.{Transcribed}
 use Rattle.writer.specs.Over.{over}
@@ -33,7 +33,7 @@ use Rattle.posting.specs.declared.Answered.{Answered}
 use Rattle.posting.specs.Records.{theRequests, answers, OnlyMarked}
 use Rattle.posting.specs.Standing.{Standing, bookAt}
 use Rattle.posting.specs.Posting.{AnsweredNext, PostedAll, Words, Begun, Finished, Settled, Posts, PostsOne, listed, PostsFirst}
-use Rattle.posting.proofs.Indexing.{index-front}
+use Rattle.posting.proofs.Indexing.{index-front, put-front}
 
 -- BEFORE THE FIRST RECORD
 
@@ -114,7 +114,7 @@ module _ {s words : List ℕ} {n : ℕ} (v : Verdict s n words) (mains count len
             fits = t .fits;
             image = record {
               newest = subst NewestImage (sym (t .bytes)) (newest-image (v .stored z));
-              index = subst (λ (b : Book). IndexOf (b .site .plan .slots) (b .rows) words) (sym book) (v .indexed z);
+              index = subst (λ (b : Book). Beside (b .site) (b .rows) words) (sym book) (v .indexed z);
             };
           }
 
@@ -133,9 +133,9 @@ module _ {buffer : List ℕ} {state : State} {out : List ℕ} (r : Answer) (a : 
 
 -- with as many words given as the book's index has
 pub settled : {buffer words : List ℕ} {state : State} {index out : List ℕ} {r : Answer} {index′ out′ : List ℕ} {m : ℕ} → Words (take (state .length) buffer) m
-    → index′ ≡ over index 0 (take m words) → Finished buffer state out r out′ → Settled buffer words state index out r index′ out′
-settled {words = words} {index = index} {index′ = index′} w e f =
-    record { finished = f; given = subst (λ (k : ℕ). index′ ≡ take k words ++ drop (length (take k words)) index) (w .is) (e ∙ over-front index _) }
+    → index′ ≡ paste index 0 (take m words) (length (take m words)) → Finished buffer state out r out′ → Settled buffer words state index out r index′ out′
+settled {words = words} {index = index} {index′ = index′} {m = m} w e f =
+    record { finished = f; given = subst (λ (k : ℕ). index′ ≡ take k words ++ drop (length (take k words)) index) (w .is) (e ∙ put-front index (take m words)) }
 
 -- THE WHOLE
 each-same : (rs : List Request) → OnlyMarked rs rs
@@ -145,7 +145,7 @@ each-same (r ∷ rs) = (refl, each-same rs)
 -- what is given of the words beside a book that stands is its index
 pub settled-index : {buffer words : List ℕ} {state : State} {index out : List ℕ} {r : Answer} {index′ out′ : List ℕ} → Standing buffer (state .length) words
     → Settled buffer words state index out r index′ out′ → Indexed (bookAt buffer (state .length)) index index′
-settled-index h t = record { words = _; index = index-front (h .image .newest .lawful .lawful) (h .image .index); buffer = t .given }
+settled-index h t = record { words = _; index = index-front (h .image .newest .lawful .lawful) (h .image .index .slots); buffer = t .given }
 
 module _ {image : List ℕ} (mains : ℕ) (rs : List Request) (index out : List ℕ) (r : Answer) {buffer words : List ℕ}
     (h : Begun image mains (length rs) (length index) (length out) r buffer words) where
@@ -255,7 +255,7 @@ module _ {image : List ℕ} (mains : ℕ) (q : calls.Request) (out : List ℕ) (
                 c,
                 (c, subst (λ (b : Book). Work mains b q (a .answer) c) (s .3 .1) (w .worked .work), refl),
                 answered (a .answer) refl,
-                record { words = front; index = index-front (w .worked .standing .image .newest .lawful .lawful) (w .worked .standing .image .index); buffer = refl },
+                record { words = front; index = index-front (w .worked .standing .image .newest .lawful .lawful) (w .worked .standing .image .index .slots); buffer = refl },
               ),
             );
       };

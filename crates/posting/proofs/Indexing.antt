@@ -1,11 +1,11 @@
 -- The words that are kept beside a book are, up to the end of 100 tiles, its index; and how they are given.
-use mathlib.Core.Path.{_≡_, sym, ap, _∙_, subst}
-use mathlib.Core.List.{List}
-use Prim.Native.Nat.{ℕ, _+_, _*_, _<_, _≤_}
+use mathlib.Core.Path.{_≡_, sym, ap₂, subst}
+use mathlib.Core.List.{List, _++_}
+use Prim.Native.Nat.{ℕ, _+_, _*_, _≤_}
 use native.Mathlib.Nat.{zero-add}
 use native.Mathlib.Omega.{arith}
-use lib.ListN.{length, getD, set, take}
-use lib.Seq.{length-take-le, getD-take}
+use lib.ListN.{length, take, drop}
+use lib.Seq.{length-take-le, getD-take, take-length, paste}
 use Rattle.rules.specs.Words.{SetOf}
 use Rattle.rules.specs.Tiles.{slotsOf, shortTiles}
 use Rattle.rules.specs.Topology.{Hop}
@@ -15,8 +15,6 @@ use Rattle.index.specs.Index as inner
 use Rattle.index.specs.Index.{wordAt, Ends}
 use Rattle.clash.specs.Reach.{End, nodeAt}
 use Rattle.clash.specs.Reach.End.{sender, receiver}
-use Rattle.writer.specs.Over.{over}
-use Rattle.writer.proofs.Laws.{copy-turn}
 
 -- THE INDEX of a lawful book
 module _ {b : Book} (l : LawfulBook b) where
@@ -50,6 +48,6 @@ module _ {b : Book} (l : LawfulBook b) where
       n : ℕ
       n = indexLength (b .site .plan)
 
--- GIVING WORDS, turn by turn
-pub front-turn : (d s o : List ℕ) (i : ℕ) → i < length s → length s ≤ length d → o ≡ over d 0 (take i s) → length o ≡ length d → set o i (getD s i 0) ≡ over d 0 (take (i + 1) s)
-front-turn d s o i h l e n = subst (λ (k : ℕ). set o k (getD s i 0) ≡ over d 0 (take (i + 1) s)) (zero-add i) (copy-turn d s o 0 i h (omega arith) e n)
+-- words that are put at the front
+pub put-front : (d s : List ℕ) → paste d 0 s (length s) ≡ s ++ drop (length s) d
+put-front d s = ap₂ (λ (x : List ℕ) (n : ℕ). x ++ drop n d) (take-length s) (zero-add (length s))

@@ -19,7 +19,7 @@ use Rattle.rules.proofs.Encoding.{version-back}
 use Rattle.rules.proofs.Reading.{bookIn, NewestImage, book-back, lawful-stored}
 use Rattle.rules.proofs.Lawful.{lawful-length, made-lawful, made-site}
 use Rattle.image.proofs.Stands.{stored-length}
-use Rattle.index.specs.Index.{IndexOf}
+use Rattle.index.specs.Index.{Beside}
 use Rattle.index.specs.Beside.{ImageBeside, Works}
 use Rattle.writer.specs.Over.{over}
 use Rattle.writer.proofs.Laws.{over-front}
@@ -147,8 +147,8 @@ module _ {buffer : List ℕ} {len : ℕ} {words : List ℕ} (w : Standing buffer
           fits = omega (arith, same, w .room, size-most);
           image = record {
             newest = subst NewestImage (sym front) (stored-image stored);
-            index = subst (λ (c : Book). IndexOf (c .site .plan .slots) (c .rows) marks) (sym holds)
-                (subst (λ (t : Site). IndexOf (t .plan .slots) (h .done z .after .rows) marks)
+            index = subst (λ (c : Book). Beside (c .site) (c .rows) marks) (sym holds)
+                (subst (λ (t : Site). Beside t (h .done z .after .rows) marks)
                 (sym (made-site mains (bookAt buffer len) q (h .done z .after) (h .done z .made))) (h .done z .index));
           };
         };

@@ -7,7 +7,6 @@ ghost use lib.ListN.{length, take};
 ghost use Rattle.rules.specs.Image.{planOf};
 ghost use Rattle.rules.specs.Index.{indexLength};
 ghost use Rattle.rules.proofs.Reading.{LawfulImage};
-ghost use Rattle.writer.specs.Over.{over};
 ghost use Rattle.posting.specs.Records.{theRequest};
 ghost use Rattle.posting.specs.Standing.{Standing};
 ghost use Rattle.posting.specs.Posting.{AnsweredNext, PostedAll, Words, Unmarked, Begun, Finished, Settled, Posts, PostsOne, AllNodes, listed, PostsFirst};
@@ -161,18 +160,6 @@ fn finish(book: &[u8], state: State, out: &mut [u8]) -> Answer
     answers::done(length)
 }
 
-// Puts words at the front of a lent index.
-fn put_words(words: &[u64], index: &mut [u64])
-    requires { ⌜ length (now words) ≤ length (now index) ⌝ }
-    ensures { λ _. ⌜ now (index .exit) ≡ over (now (index .entry)) 0 (now (words .entry)) ⌝ }
-{
-    let mut i: usize = 0;
-    while i < words.len() {
-        index[i] = words[i];
-        i += 1;
-    }
-}
-
 // Gives the index of the last book, and writes its image where a record was done.
 fn settle(book: &[u8], words: &[u64], state: State, index: &mut [u64], out: &mut [u8]) -> Answer
     requires { ⌜ Standing (now book) (state .length) (now words) × (length (now book) ≤ length (now out)) × (indexLength (planOf (take (state .length) (now book))) ≤ length (now index)) ⌝ }
@@ -180,7 +167,7 @@ fn settle(book: &[u8], words: &[u64], state: State, index: &mut [u64], out: &mut
 {
     let length = state.length;
     let count = words_of(&book[..length]);
-    put_words(&words[..count], index);
+    index::put_words(&words[..count], index, 0);
     finish(book, state, out)
 }
 

@@ -10,7 +10,7 @@ use Rattle.closing.proofs.rows_of.Statement.{statement}
 use Rattle.closing.proofs.rows_of.Tie as tie
 
 unmark-row-requires : tie.Need-unmark-row-requires
-unmark-row-requires c κs = let p = c .before .before .before .before .pre in (p .0 .newest .lawful, here (p .1), p .2, p .0 .index .size)
+unmark-row-requires c κs = let p = c .before .before .before .before .pre in (p .0 .newest .lawful, here (p .1), p .2, p .0 .index .slots .size)
 
 -- where the image goes on
 more : (c : tie.Else1) → 0 < c .before .before .before .before .before .before .pre .1 .left - 1
@@ -38,7 +38,7 @@ returns-2 c =
 unmark-row-requires-2 : tie.Need-unmark-row-requires-2
 unmark-row-requires-2 c κs =
     let p = c .before .before .before .before .before .before .before .before .before .pre in
-    (p .0 .newest .lawful, next-here (c .before .before .before), p .2, c .before .before .before .before .unmark-row .ensures .size ∙ p .0 .index .size)
+    (p .0 .newest .lawful, next-here (c .before .before .before), p .2, c .before .before .before .before .unmark-row .ensures .size ∙ p .0 .index .slots .size)
 
 returns-3 : tie.Need-returns-3
 returns-3 c =

@@ -14,6 +14,7 @@ use Rattle.image.proofs.Topologies.{links-there, links-sets, hearing-inside, he
 use Rattle.bitset.specs.Rows.{topology}
 use Rattle.rows.specs.Frame.{ReadFrom}
 use Rattle.rows.proofs.Walks.{links-read, nodes-read, topology-read}
+use Rattle.index.proofs.Behind.{site-beside}
 use Rattle.lawful.proofs.Verdicts.{unsound, no-rows, meeting-hops, lawful-book}
 use Rattle.lawful.proofs.body_verdict.Statement.{statement}
 use Rattle.lawful.proofs.body_verdict.Tie as tie
@@ -96,14 +97,24 @@ returns-3 c =
     let p = sound .before .before .before .before .before .before .before .before .before .pre in
     meeting-hops _ (p .0) (p .1) (p .2 .range) (sound-here sound) (rows-here rows) (c .before .hops-meet .ensures .met .yes (c .if3 .taken))
 
+put-site-requires : tie.Need-put-site-requires
+put-site-requires c κs =
+    let read = c .before .before .before .before .before .before .before .before .before .before in
+    let p = read .before .before .before .before .before .pre in
+    let indexed = c .before .before .hops-meet .ensures .indexed (c .before .if3 .left) in
+    (omega (arith, nodes-read (links-here read), p .1 .fields .nodes), omega (arith, hearing-count read, p .1 .fields .nodes), indexed .size)
+
 returns-4 : tie.Need-returns-4
 returns-4 c =
-    let rows = c .before .before .before in
+    let rows = c .before .before .before .before .before in
     let sound = rows .before .before in
-    let known = sound .before .before .before .before .before .before .before .before in
+    let read = sound .before .before .before .before in
+    let known = read .before .before .before .before in
     let p = known .before .pre in
     lawful-book _ (p .0) (p .1) (p .2 .range) (sound-here sound) (rows-here rows) (λ i. known .shared-slice-known .given i .fits)
-    (fails (c .before .hops-meet .ensures .met) (c .if3 .left)) (c .before .hops-meet .ensures .indexed (c .if3 .left))
+    (fails (c .before .before .before .hops-meet .ensures .met) (c .before .before .if3 .left))
+    (site-beside (p .1 .fields .plan .most) (c .before .before .before .hops-meet .ensures .indexed (c .before .before .if3 .left)) (c .put-site .ensures)
+    (links-here read .links-are) (hearing-here read))
 
 pub body-verdict-spec : {M : Type 1} → statement M
 body-verdict-spec =
@@ -123,4 +134,5 @@ body-verdict-spec =
     returns-2
     hops-meet-requires
     returns-3
+    put-site-requires
     returns-4)

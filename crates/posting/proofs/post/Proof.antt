@@ -477,17 +477,17 @@ module _ {M : Type 1} (𝓤 : URA M) (H : Heap 𝓤) (A : Atoms 𝓤) (W : Given
         (from ! (stop !)) (init ! 35 refl (tt, (tt, (record { fits = room₂ .0 }, tt)))) $
         -- the book and the words are lent as slices for lifetimes θ and θ′
         rewrite ! 29 (λ (k : ℕ). ‵ (fat fullShare part l₁₉ 0 (sliceVal (l₄, 0) k))) (sym (p .standing .room)) refl $
-        rewrite ! 31 (λ (k : ℕ). ‵ (fat fullShare part′ lₚ 0 (sliceVal (l₅, 0) k))) (sym (p .standing .image .index .size)) refl $ move ! (7 ∷ []) $
+        rewrite ! 31 (λ (k : ℕ). ‵ (fat fullShare part′ lₚ 0 (sliceVal (l₅, 0) k))) (sym (p .standing .image .index .slots .size)) refl $ move ! (7 ∷ []) $
         use1 W (‵ (arr-parts (shares u8) (longestImage newest) .part fullShare s l₄ 0)) (array-apart 𝓤 H A W u8 fullShare tt (longestImage newest) s l₄ 0) $
         rewrite ! 0 (λ (k : ℕ). ‵ (arr-parts (shares u8) k .part fullShare s l₄ 0)) (sym (p .standing .room)) refl $
         lft-new ! tt (λ θ. move ! (1 ∷ []) $
         use1 W (later (some (λ (ζ : GName). ‵ (View θ l₄ ζ s) ⊛ ‵ (flent (θ ∷ []) (arr-parts (shares u8) (length s) .part fullShare s l₄ 0)))))
         (lends-shr-slice 𝓤 H A W u8 (named 0) (θ ∷ []) fullShare s l₄ 0 (book-room s (p .standing .room))) $ await ! tt $ pick ! (λ ζ. split ! $ move ! (10 ∷ []) $
         use1 W (‵ (arr-parts (shares u64) indexLength .part fullShare w l₅ 0)) (array-apart 𝓤 H A W u64 fullShare tt indexLength w l₅ 0) $
-        rewrite ! 0 (λ (k : ℕ). ‵ (arr-parts (shares u64) k .part fullShare w l₅ 0)) (sym (p .standing .image .index .size)) refl $
+        rewrite ! 0 (λ (k : ℕ). ‵ (arr-parts (shares u64) k .part fullShare w l₅ 0)) (sym (p .standing .image .index .slots .size)) refl $
         lft-new ! tt (λ θ′. move ! (1 ∷ []) $
         use1 W (later (some (λ (ζ′ : GName). ‵ (View′ θ′ l₅ ζ′ w) ⊛ ‵ (flent (θ′ ∷ []) (arr-parts (shares u64) (length w) .part fullShare w l₅ 0)))))
-        (lends-shr-slice 𝓤 H A W u64 (named 1) (θ′ ∷ []) fullShare w l₅ 0 (words-room w (p .standing .image .index .size))) $ await ! tt
+        (lends-shr-slice 𝓤 H A W u64 (named 1) (θ′ ∷ []) fullShare w l₅ 0 (words-room w (p .standing .image .index .slots .size))) $ await ! tt
         $ pick ! (λ ζ′. split ! $ nothing ! $ move ! (10 ∷ 0 ∷ []) $ join ! $ move ! (9 ∷ 0 ∷ []) $ join ! $ move ! (3 ∷ 0 ∷ []) $ join ! $ move ! (5 ∷ 0 ∷ []) $ join ! $ move ! (8 ∷ 9 ∷ [])
         $ fjoin ! $ move ! (4 ∷ 2 ∷ []) $ fjoin ! $ move ! (2 ∷ 0 ∷ 1 ∷ []) $
         use3 W (raw (Settle 𝓤 H A mem₀ run .pre (asks-settle l₄ l₅ θ θ′ ζ ζ′ s w t)))
@@ -513,7 +513,7 @@ module _ {M : Type 1} (𝓤 : URA M) (H : Heap 𝓤) (A : Atoms 𝓤) (W : Given
         rewrite ! 0 (λ (k : ℕ). ‵ (arr-parts (shares u8) k .part fullShare s l₄ 0)) (p .standing .room) refl $
         use1 W (‵ (mem B .lies s l₄ 0)) (array-whole 𝓤 H A W u8 fullShare (longestImage newest) s l₄ 0) $
         use1 W (‵ (froom bytes l₄ 0)) (lies-out 𝓤 H A W u8 (longestImage newest) s l₄) $ move ! (3 ∷ []) $ lft-end ! tt $ move ! (0 ∷ 6 ∷ []) $ lent-back ! tt $
-        rewrite ! 0 (λ (k : ℕ). ‵ (arr-parts (shares u64) k .part fullShare w l₅ 0)) (p .standing .image .index .size) refl $
+        rewrite ! 0 (λ (k : ℕ). ‵ (arr-parts (shares u64) k .part fullShare w l₅ 0)) (p .standing .image .index .slots .size) refl $
         use1 W (‵ (mem X .lies w l₅ 0)) (array-whole 𝓤 H A W u64 fullShare indexLength w l₅ 0) $
         use1 W (‵ (froom words l₅ 0)) (lies-out 𝓤 H A W u64 indexLength w l₅) $
         forget ! 10 refl $ forget ! 11 refl $ forget ! 12 refl $ forget ! 13 refl $ forget ! 14 refl $ forget ! 16 refl $ forget ! 28 refl $ forget ! 29 refl $ forget ! 30 refl $ forget ! 31 refl

@@ -15,13 +15,13 @@ words-of-requires c κs = c .before .before .before .before .before .pre .0 .ima
 
 slice-aggregate-put-words : tie.Need-slice-aggregate-put-words
 slice-aggregate-put-words c =
-    sym (length-take-le _ _ (omega (arith, c .before .words-of .ensures .most, c .before .before .before .before .before .before .before .pre .0 .image .index .size)))
+    sym (length-take-le _ _ (omega (arith, c .before .words-of .ensures .most, c .before .before .before .before .before .before .before .pre .0 .image .index .slots .size)))
 
 put-words-requires : tie.Need-put-words-requires
 put-words-requires c κs =
     let start = c .before .before .before .before .before .before .before .before in
     let w = c .before .before .words-of in
-    omega (arith, w .ensures .is, start .pre .2, length-take-le (w .result) (start .args .words .now) (omega (arith, w .ensures .most, start .pre .0 .image .index .size)))
+    omega (arith, w .ensures .is, start .pre .2, length-take-le (w .result) (start .args .words .now) (omega (arith, w .ensures .most, start .pre .0 .image .index .slots .size)))
 
 finish-requires : tie.Need-finish-requires
 finish-requires c κs =

@@ -34,7 +34,7 @@ returns c =
     (c .before .before .before .before .before .before .pre .new .asked .image .index)
 
 mark-requires : tie.Need-mark-requires
-mark-requires c κs = let p = c .before .before .before .before .before .before .before .before .pre .marked in (p .markable, p .index .size)
+mark-requires c κs = let p = c .before .before .before .before .before .before .before .before .pre .marked in (p .markable, p .index .slots .size)
 
 returns-2 : tie.Need-returns-2
 returns-2 c =

@@ -38,13 +38,13 @@ returns c =
     (c .before .before .before .before .before .before .before .before .pre .new .asked .image .index)
 
 mark-requires : tie.Need-mark-requires
-mark-requires c κs = let p = c .before .before .before .before .before .before .before .before .before .before .pre .marked in (p .markable, p .index .size)
+mark-requires c κs = let p = c .before .before .before .before .before .before .before .before .before .before .pre .marked in (p .markable, p .index .slots .size)
 
 mark-requires-2 : tie.Need-mark-requires-2
 mark-requires-2 c κs =
     let a = c .before .before .before .before .before .before .before .before .before .before .before .before in
     let f = first-marked (a .pre) (c .before .mark .ensures) in
-    (f .markable, f .index .size)
+    (f .markable, f .index .slots .size)
 
 returns-2 : tie.Need-returns-2
 returns-2 c =

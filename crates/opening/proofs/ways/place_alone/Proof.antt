@@ -6,7 +6,7 @@ use Rattle.opening.proofs.ways.place_alone.Tie as tie
 
 returns : tie.Need-returns
 returns c =
-    let a = c .before .before .before .before .before .before .args in
+    let a = c .before .before .before .before .before .args in
     c .place-beside .ensures _ (covers-none (a .image .now) (a .q .period .0))
 
 pub place-alone-spec : {M : Type 1} → statement M

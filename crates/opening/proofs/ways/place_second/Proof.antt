@@ -17,19 +17,19 @@ use Rattle.opening.proofs.ways.place_second.Statement.{statement}
 use Rattle.opening.proofs.ways.place_second.Tie as tie
 
 sub-hops : tie.Need-sub-hops
-sub-hops c = omega (arith, c .before .before .before .before .before .pre .routes .second-route .path .some)
+sub-hops c = omega (arith, c .before .before .before .before .pre .routes .second-route .path .some)
 
 place-beside-requires : tie.Need-place-beside-requires
-place-beside-requires c κs = beside-asked (c .before .before .before .before .before .before .pre)
+place-beside-requires c κs = beside-asked (c .before .before .before .before .before .pre)
 
 array-share-prefix-others : tie.Need-array-share-prefix-others
 array-share-prefix-others c =
     let n : length (c .before .before .before .before .place-beside .result .offsets) ≡ 15 = search needs in
-    omega (arith, c .before .before .before .before .before .before .before .before .before .before .before .pre .routes .second-route .few)
+    omega (arith, c .before .before .before .before .before .before .before .before .before .before .pre .routes .second-route .few)
 
 slice-aggregate-keep-two : tie.Need-slice-aggregate-keep-two
 slice-aggregate-keep-two c =
-    let a = c .before .before .before .before .before .before .before .before .before .before .before .before in
+    let a = c .before .before .before .before .before .before .before .before .before .before .before in
     let others : List ℕ = c .before .before .before .before .before .place-beside .result .offsets in
     let ok = c .before .before .before .before .before .place-beside .ok in
     let n : length others ≡ 15 = search needs in
@@ -37,13 +37,13 @@ slice-aggregate-keep-two c =
 
 keep-two-requires : tie.Need-keep-two-requires
 keep-two-requires c κs =
-    let a = c .before .before .before .before .before .before .before .before .before .before .before .before .before in
+    let a = c .before .before .before .before .before .before .before .before .before .before .before .before in
     let found = c .before .before .before .before .before .before .place-beside in
     two-kept (a .pre) (found .ensures _ (covers-first (a .pre)) .placed (c .before .before .before .enum-told2 .given .1))
 
 returns : tie.Need-returns
 returns c =
-    let a = c .before .before .before .before .before .before .before .before .before .before .before in
+    let a = c .before .before .before .before .before .before .before .before .before .before in
     let found = c .before .before .before .before .place-beside in
     let first = rowOn (theAsked (a .args .q)) 1 (a .args .first .now) (a .args .offsets .now) in
     out-next (a .pre .room)
@@ -55,7 +55,7 @@ returns c =
 
 returns-2 : tie.Need-returns-2
 returns-2 c =
-    let a = c .before .before .before .before .before .before .before .before .before .before .before .before .before .before in
+    let a = c .before .before .before .before .before .before .before .before .before .before .before .before .before in
     let q = theAsked (a .args .q) in
     let found = c .before .before .before .before .before .before .before .place-beside in
     let second = found .ensures _ (covers-first (a .pre)) .placed (c .before .before .before .before .enum-told2 .given .1) in
