@@ -142,7 +142,7 @@ fn row_cost(image: &[u8], at: usize) -> u32
     requires { ⌜ Draws (now image) at ⌝ }
     ensures { λ r. ⌜ (r ≡ draws (rowAt (now (image .entry)) at)) × (r ≤ 15000) ⌝ }
 {
-    let turns = operations::repeats_of(image::period_at(image, at));
+    let turns = rules::repeats_of(image::period_at(image, at));
     let hops = image::hops_at(image, at) as u32;
     hops * wide32(turns)
 }

@@ -68,7 +68,7 @@ fn row_used(image: &[u8], at: usize, node: Node) -> u32
     let stop = operations::stop_of(image, at, node);
     match stop {
         Stop::At(place) => {
-            let turns = operations::repeats_of(image::period_at(image, at));
+            let turns = rules::repeats_of(image::period_at(image, at));
             wide32(turns) * ends(place, image::hops_at(image, at))
         }
         Stop::Nowhere => 0,

@@ -10,7 +10,6 @@ use finding::Spot;
 use image::Book;
 use routes::Reach;
 use rules::Asked;
-use rules::Place;
 
 mod paying;
 mod ways;
@@ -83,10 +82,10 @@ fn judge(q: Asked, nodes: usize) -> Judged
     if q.source.0 == q.destination.0 {
         return Judged::Refused(5);
     }
-    match rules::place_of(q.period) {
-        Place::At(_) => Judged::InOrder,
-        Place::Nowhere => Judged::Refused(6),
+    if !rules::is_period(q.period) {
+        return Judged::Refused(6);
     }
+    Judged::InOrder
 }
 
 // Opens the stream that is asked for, with only members of the set in the middle of its routes.

@@ -9,7 +9,6 @@ ghost use Rattle.rules.proofs.Reading.{LawfulImage};
 ghost use Rattle.image.specs.Header.{HeaderOf};
 ghost use Rattle.accounts.specs.Lists.{Pays};
 use image::Book;
-use rules::Place;
 use rules::Tile;
 
 // So many hops of a period, as often as they come in a cycle.
@@ -17,10 +16,7 @@ fn cost(hops: usize, period: Tile) -> u32
     requires { ⌜ (hops ≤ 30) × Period (period .0) ⌝ }
     ensures { λ r. ⌜ (r ≡ hops * repeats (period .0)) × (r ≤ 30000) ⌝ }
 {
-    match rules::place_of(period) {
-        Place::At(i) => hops as u32 * rules::repeats_at(i) as u32,
-        Place::Nowhere => 0,
-    }
+    hops as u32 * rules::repeats_of(period) as u32
 }
 
 // Whether what is left of the account of the number pays for so many hops of a period.

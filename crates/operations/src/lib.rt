@@ -1,12 +1,10 @@
-// What a node does in the hops of a stream, and how often in a cycle.
+// What a node does in the hops of a stream.
 ghost use mathlib.Core.Path.{_≡_};
 ghost use Prim.Native.Nat.{_≤_};
-ghost use Rattle.rules.specs.Tiles.{Period, repeats, cycleTiles};
 ghost use Rattle.rules.specs.Table.{onWay};
 ghost use Rattle.image.specs.Places.{rowAt, RowHere};
 ghost use Rattle.operations.specs.Operations.{whereWorking, StopOf, arrival, departure};
 use rules::Node;
-use rules::Tile;
 
 // The operations: sleep,
 pub const SLEEP: u8 = 0;
@@ -53,14 +51,6 @@ pub fn where_working(operation: u8, n: u16) -> u16
         SEND..=DELIVER | SECOND_SEND..=SECOND_DELIVER => n,
         _ => 0,
     }
-}
-
-// How often a stream of the period comes in a cycle.
-pub fn repeats_of(period: Tile) -> u16
-    requires { ⌜ Period (period .0) ⌝ }
-    ensures { λ r. ⌜ (r ≡ repeats (period .0)) × (r ≤ cycleTiles) ⌝ }
-{
-    rules::CYCLE / period.0
 }
 
 // Where the node stands in the route of the row at a place.

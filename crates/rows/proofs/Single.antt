@@ -11,16 +11,13 @@ use Rattle.rules.specs.Words.{Tests, TwoBytes}
 use Rattle.rules.specs.Tiles.{Plan, shortTiles, Period, ShortPeriod}
 use Rattle.rules.specs.Topology.{Topology}
 use Rattle.rules.specs.Book.{Account, Site, Row, KnownAccount, LawfulRow}
-use Rattle.rules.specs.Periods.{PlaceOf}
 use Rattle.rules.specs.Image.{hasWide, RowFits, versionOf}
-use Rattle.rules.specs.declared.Place.{Place}
-use Rattle.rules.specs.declared.Place.the-variants.{At, Nowhere}
-use Rattle.rules.proofs.Tests.{never, alike, tests-le}
+use Rattle.rules.proofs.Tests.{never, alike, said-no, tests-le}
 use Rattle.rules.proofs.Bytes.{short-small}
 use Rattle.rules.proofs.Fronts.{front-fits}
-use Rattle.rules.proofs.Periods.{at-period, short-period}
+use Rattle.rules.proofs.Periods.{short-period}
 use Rattle.image.specs.Places.{rowAt}
-use Rattle.rows.specs.Walk.{KeyHolds, OffsetsHold, RouteHolds, PlaceHeld, RowHolds, judging}
+use Rattle.rows.specs.Walk.{KeyHolds, OffsetsHold, RouteHolds, PeriodHeld, RowHolds, judging}
 
 -- where all else holds the most that the way may be decides
 pub tests-key-rest : {r : Row} {way : ℕ} → 1 ≤ r .id → TwoBytes (r .id) → way ≡ r .way → 1 ≤ way → Tests (leb way 2) (KeyHolds r)
@@ -33,30 +30,29 @@ lawful-key w = record { id-some = w .id-some; id-most = w .id-most; way-some = w
 -- THE PERIOD
 
 -- a period of over 100 tiles is held in two bytes alone
-pub not-held : (v K n : ℕ) → n ≡ K → shortTiles < n → hasWide v ≡ false → PlaceHeld v K Nowhere
-not-held v K n e l w p f = absurd (omega (arith, e, l, short-small K (f w)))
+pub not-held : (v K n : ℕ) → n ≡ K → shortTiles < n → hasWide v ≡ false → Tests false (PeriodHeld v K)
+not-held v K n e l w = said-no (λ h. omega (arith, e, l, short-small K (h .short w)))
 
--- any other period at its place among the ten
-pub place-is-held : (v K n : ℕ) (p : Place) → n ≡ K → (hasWide v ≡ true) ⊎ (n ≤ shortTiles) → PlaceOf n p → PlaceHeld v K p
-place-is-held v K n (At i) e f h = (h .0, h .1 ∙ e, short f)
+-- any other number is held if it is a period
+pub tests-held : (v K n : ℕ) {t : Bool} → n ≡ K → (hasWide v ≡ true) ⊎ (n ≤ shortTiles) → Tests t (Period n) → Tests t (PeriodHeld v K)
+tests-held v K n e f h = alike h (λ p. record { period = subst Period e p; short = λ w. subst ShortPeriod e (short p f w) }) (λ g. subst Period (sym e) (g .period))
   where
-    short : (hasWide v ≡ true) ⊎ (n ≤ shortTiles) → hasWide v ≡ false → ShortPeriod K
-    short (inl w) t = never (sym t ∙ w)
-    short (inr l) t = subst ShortPeriod e (short-period n (subst Period (h .1) (at-period i (h .0))) l)
-place-is-held v K n Nowhere e f h = λ p g. h (subst Period (sym e) p)
+    short : Period n → (hasWide v ≡ true) ⊎ (n ≤ shortTiles) → hasWide v ≡ false → ShortPeriod n
+    short p (inl w) t = never (sym t ∙ w)
+    short p (inr l) t = short-period n p l
 
 -- THE REST
-module _ (s : List ℕ) (at : ℕ) {i K : ℕ} (place : PlaceHeld (versionOf s) (rowAt s at .period) (At i)) (read : K ≡ rowAt s at .period) where
+module _ (s : List ℕ) (at : ℕ) {K : ℕ} (held : PeriodHeld (versionOf s) (rowAt s at .period)) (read : K ≡ rowAt s at .period) where
   abbrev r : Row
   r = rowAt s at
 
   -- the number read is a period
   pub read-period : Period K
-  read-period = subst Period (place .1 ∙ sym read) (at-period i (place .0))
+  read-period = subst Period (sym read) (held .period)
 
   fits : RowFits (versionOf s) r
   unfolding rowAt
-  fits = front-fits (versionOf s) (drop at s) (place .2)
+  fits = front-fits (versionOf s) (drop at s) (held .short)
 
   lawful-offsets : {plan : Plan} {links : Topology} {accounts : List Account} → LawfulRow (judging plan links accounts) r → OffsetsHold plan K r
   lawful-offsets {plan} w = subst (λ (x : ℕ). OffsetsHold plan x r) (sym read) (record { offsets = w .offsets; on-data = w .on-data })
@@ -75,7 +71,7 @@ module _ (s : List ℕ) (at : ℕ) {i K : ℕ} (place : PlaceHeld (versionOf s) 
               id-most = named .id-most;
               way-some = named .way-some;
               way-most = named .way-most;
-              period = subst Period read read-period;
+              period = held .period;
               route = route .route;
               route-most = route .most;
               offsets = g .offsets;
@@ -84,10 +80,3 @@ module _ (s : List ℕ) (at : ℕ) {i K : ℕ} (place : PlaceHeld (versionOf s) 
             };
             fits = fits;
           }
-
--- where the place of its period was found, and where it was not
-pub held-at : (v K : ℕ) {p : Place} {i : ℕ} → PlaceHeld v K p → p ≡ At i → PlaceHeld v K (At i)
-held-at v K h e = subst (PlaceHeld v K) e h
-
-pub held-nowhere : (v K : ℕ) {p : Place} → PlaceHeld v K p → p ≡ Nowhere → PlaceHeld v K Nowhere
-held-nowhere v K h e = subst (PlaceHeld v K) e h

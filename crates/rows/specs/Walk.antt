@@ -4,13 +4,10 @@ use mathlib.Core.Bool.{Bool, false}
 use mathlib.Core.List.{List}
 use Prim.Native.Nat.{ℕ, zero, suc, _≤_}
 use Rattle.rules.specs.Words.{TwoBytes, _∈_, Tests}
-use Rattle.rules.specs.Tiles.{Plan, periodAt, Period, ShortPeriod}
+use Rattle.rules.specs.Tiles.{Plan, Period, ShortPeriod}
 use Rattle.rules.specs.Topology.{Topology, Path, mostRouteHops}
 use Rattle.rules.specs.Book.{Account, Site, Row, hops, KnownAccount, Offsets, OnData, LawfulRow}
-use Rattle.rules.specs.Periods.{InList}
 use Rattle.rules.specs.Image.{hasWide, RowFits, versionOf, siteOf}
-use Rattle.rules.specs.declared.Place.{Place}
-use Rattle.rules.specs.declared.Place.the-variants.{At, Nowhere}
 use Rattle.image.specs.Places.{rowAt, nextAt, Whole}
 
 -- it has an id of 2 bytes, and its way is 1 or 2
@@ -34,10 +31,10 @@ pub record OffsetsHold (plan : Plan) (K : ℕ) (r : Row) : Type 0 where
 abbrev pub judging : Plan → Topology → List Account → Site
 judging plan links accounts = record { plan = plan; links = links; hearing = links; accounts = accounts }
 
--- the place of K among the periods that the version holds, or that it is none of them
-abbrev pub PlaceHeld : ℕ → ℕ → Place → Type 0
-PlaceHeld v K (At i) = InList i × (periodAt i ≡ K) × (hasWide v ≡ false → ShortPeriod K)
-PlaceHeld v K Nowhere = Period K → (hasWide v ≡ false → ShortPeriod K) → ⊥
+-- K is a period, and the version holds it
+pub record PeriodHeld (v K : ℕ) : Type 0 where
+  pub period : Period K
+  pub short : hasWide v ≡ false → ShortPeriod K
 
 -- the row is lawful on the site, and the version holds it
 pub record RowHolds (v : ℕ) (site : Site) (r : Row) : Type 0 where

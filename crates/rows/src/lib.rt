@@ -12,14 +12,13 @@ ghost use Rattle.image.specs.Places.{rowAt, rowsFrom, Whole};
 ghost use Rattle.bitset.specs.Rows.{topology};
 ghost use Rattle.accounts.specs.Lists.{ListRead};
 ghost use Rattle.rows.specs.Frame.{Framed, ReadFrom};
-ghost use Rattle.rows.specs.Walk.{KeyHolds, RouteHolds, OffsetsHold, PlaceHeld, RowHolds, StreamHolds, RowStands, RowsStand};
+ghost use Rattle.rows.specs.Walk.{KeyHolds, RouteHolds, OffsetsHold, PeriodHeld, RowHolds, StreamHolds, RowStands, RowsStand};
 ghost use Rattle.rows.specs.Pairs.{Follows};
 ghost use Rattle.rows.specs.Fill.{AllFill};
 use accounts::purses;
 use image::Book;
 use pair::FIRST;
 use pair::SECOND;
-use rules::Place;
 use rules::Plan;
 use rules::Tile;
 
@@ -93,18 +92,18 @@ fn offsets_hold(image: &[u8], at: usize, plan: Plan, period: Tile) -> bool
     true
 }
 
-// Where the row's period stands among those that its version holds: in one byte, those up to 100 tiles.
-fn place_held(image: &[u8], at: usize) -> Place
+// Whether the row's period is one that its version holds: in one byte, those up to 100 tiles.
+fn period_held(image: &[u8], at: usize) -> bool
     requires { ⌜ Whole (now image) at ⌝ }
-    ensures { λ r. ⌜ PlaceHeld (versionOf (now (image .entry))) (rowAt (now (image .entry)) at .period) r ⌝ }
+    ensures { λ r. ⌜ Tests r (PeriodHeld (versionOf (now (image .entry))) (rowAt (now (image .entry)) at .period)) ⌝ }
 {
     let period = image::period_at(image, at);
     if rules::SHORT < period.0 {
         if !image::is_wide(image) {
-            return Place::Nowhere;
+            return false;
         }
     }
-    rules::place_of(period)
+    rules::is_period(period)
 }
 
 // Whether a row of a key and an account that hold is lawful but for these, and one that its version holds.
@@ -112,13 +111,11 @@ fn stream_holds(image: &[u8], at: usize, plan: Plan, links: &[u64]) -> bool
     requires { ⌜ Whole (now image) at × PlanInRange (thePlan plan) × (length (now links) ≤ 64) ⌝ }
     ensures { λ r. ⌜ StreamHolds (now (image .entry)) at (thePlan plan) (topology (now (links .entry))) r ⌝ }
 {
-    match place_held(image, at) {
-        Place::At(_) => {
-            let period = image::period_at(image, at);
-            route_holds(image, at, links) && offsets_hold(image, at, plan, period)
-        }
-        Place::Nowhere => false,
+    if !period_held(image, at) {
+        return false;
     }
+    let period = image::period_at(image, at);
+    route_holds(image, at, links) && offsets_hold(image, at, plan, period)
 }
 
 // Whether the row at the place is lawful, and one that its version holds.

@@ -80,7 +80,7 @@ fn add_row(image: &[u8], at: usize, used: &mut [u32; NODES])
     requires { ⌜ LawfulImage (now image) × RowHere (now image) at × Below mostSlots (now used) ⌝ }
     ensures { λ _. ⌜ Added (λ node. rowUsed node (rowAt (now (image .entry)) at)) (now (used .entry)) (now (used .exit)) ⌝ }
 {
-    let turns = wide32(operations::repeats_of(image::period_at(image, at)));
+    let turns = wide32(rules::repeats_of(image::period_at(image, at)));
     let hops = image::hops_at(image, at);
     let mut hop: usize = 0;
     while hop < hops {

@@ -1,9 +1,8 @@
 -- The refusals of a request by itself are tried in their order.
-use mathlib.Core.Path.{subst}
 use borrow.Author.Needs.{needs}
-use Rattle.rules.specs.Tiles.{Period}
+use borrow.Author.Tests.{not-true, not-false}
 use Rattle.rules.specs.Periods.{theAsked}
-use Rattle.rules.proofs.Periods.{at-period, found-at, found-nowhere}
+use Rattle.rules.proofs.Tests.{fails}
 use Rattle.opening.proofs.Judging.{no-id, no-source, no-destination, one-node, no-period, in-order}
 use Rattle.opening.proofs.judge.Statement.{statement}
 use Rattle.opening.proofs.judge.Tie as tie
@@ -24,18 +23,17 @@ returns-4 c =
 
 returns-5 : tie.Need-returns-5
 returns-5 c =
-    let four = c .before .before .before in
-    let p = found-at (c .before .before .place-of .ensures) (c .enum-told .given .1) in
-    in-order (theAsked (c .before .before .before .before .before .before .before .before .before .before .before .args .q)) _
+    let four = c .before .before in
+    no-period (theAsked (four .before .before .before .before .before .before .before .before .args .q)) _
     (four .before .before .before .before .before .before .if1 .left) (four .before .before .before .before .if2 .left) (four .before .before .if3 .left) (four .if4 .left)
-    (subst Period (p .1) (at-period _ (p .0)))
+    (fails (c .before .is-period .ensures) (not-true _ (c .if5 .taken)))
 
 returns-6 : tie.Need-returns-6
 returns-6 c =
-    let four = c .before .before .before in
-    no-period (theAsked (c .before .before .before .before .before .before .before .before .before .before .before .args .q)) _
+    let four = c .before .before in
+    in-order (theAsked (four .before .before .before .before .before .before .before .before .args .q)) _
     (four .before .before .before .before .before .before .if1 .left) (four .before .before .before .before .if2 .left) (four .before .before .if3 .left) (four .if4 .left)
-    (found-nowhere (c .before .before .place-of .ensures) (c .enum-told2 .given .1))
+    (c .before .is-period .ensures .yes (not-false _ (c .if5 .left)))
 
 pub judge-spec : {M : Type 1} → statement M
 judge-spec =
@@ -48,7 +46,5 @@ judge-spec =
     returns-3
     returns-4
     (λ c κs. search needs)
-    (λ c. search needs)
-    (λ c. search needs)
     returns-5
     returns-6)
