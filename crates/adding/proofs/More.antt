@@ -4,8 +4,7 @@ use mathlib.Core.Logic.{inl, inr, ⊎-elim}
 use mathlib.Core.List.{List, [], _∷_, _++_, append-assoc}
 use Prim.Native.Nat.{ℕ, _+_, _-_, _*_, _<_, _≤_}
 use native.Mathlib.Omega.{arith}
-use lib.ListN.{length, take, drop, length-append, length-drop}
-use lib.Seq.{length-take-le}
+use lib.ListN.{length, drop, length-append, length-drop}
 use Rattle.rules.specs.Words.{_∈_, Reordered}
 use Rattle.rules.specs.Words.Reordered.{put}
 use Rattle.rules.specs.Book.{Row, Book, key, RisingByKey, hopsInAll, mostStreams, mostHops, Plus}
@@ -110,23 +109,16 @@ module _ {s : List ℕ} {id at : ℕ} {bytes : List ℕ} {new : List Row} (h : N
         omega
         (arith, ap length parts, length-append (headed s at n k ++ bytes) (drop at s), length-append (headed s at n k) bytes, long, length-drop at s, f .vacant .inside)
 
-    pub put-in : (d o₁ o₂ o₃ tail : List ℕ) (e start len : ℕ) → start ≡ rowsPlace s → length d ≡ longestImage newest → length s + length bytes ≤ longestImage newest
-        → len ≡ length s + length bytes → o₂ ≡ over o₁ at bytes → o₁ ≡ over (over d 0 (headed s headerLength n k)) start (take (at - start) (drop start s))
-        → e ≡ at + length bytes → tail ≡ drop at s → o₃ ≡ over o₂ e tail → PutIn s new len o₃
-    put-in d o₁ o₂ o₃ tail e start len g a l b q p z t u =
-        let front : List ℕ = take (at - start) (drop start s) in
-        let under : List ℕ = over d 0 (headed s headerLength n k) in
-        let behind = place-low h (f .vacant) in
-        let size : length (headed s headerLength n k) ≡ 16 = length-headed s headerLength n k (omega arith) (omega (arith, low, behind, f .vacant .inside)) in
-        let long-under : length under ≡ length d = length-over d 0 (headed s headerLength n k) (omega (arith, size)) in
-        let long-front : length front ≡ at - start = length-take-le (at - start) (drop start s) (omega (arith, length-drop start s, f .vacant .inside)) in
-        let x = then under o₁ o₂ front bytes start at (omega (arith, long-under, g, behind, f .vacant .inside)) p (omega (arith, long-front, g, behind)) q in
-        let y = then under o₂ o₃ (front ++ bytes) tail start e (omega (arith, long-under, g, behind, f .vacant .inside)) x
-        (omega (arith, length-append front bytes, long-front, g, behind)) u in
+    pub put-in : (d o₁ o₂ o₃ tail : List ℕ) (e len : ℕ) → length d ≡ longestImage newest → length s + length bytes ≤ longestImage newest → len ≡ length s + length bytes
+        → o₂ ≡ over o₁ at bytes → o₁ ≡ over d 0 (headed s headerLength n k) → e ≡ at + length bytes → tail ≡ drop at s → o₃ ≡ over o₂ e tail → PutIn s at new len o₃
+    put-in d o₁ o₂ o₃ tail e len a l b q p z t u =
+        let behind : 16 ≤ at = omega (arith, low, place-low h (f .vacant)) in
+        let size : length (headed s headerLength n k) ≡ 16 = length-headed s headerLength n k (omega arith) (omega (arith, behind, f .vacant .inside)) in
+        let long-under : length o₁ ≡ length d = ap length p ∙ length-over d 0 (headed s headerLength n k) (omega (arith, size)) in
+        let y = then o₁ o₂ o₃ bytes tail at e (omega (arith, long-under, f .vacant .inside)) q z u in
         record {
           after = more;
           plus = plus;
-          laid = laid s d o₃ (bytes ++ drop at s) (encode newest more) at n k start len g (omega (arith, g, behind)) (f .vacant .inside)
-              (sym parts ∙ append-assoc (headed s at n k) bytes (drop at s)) (b ∙ length-more) (omega arith)
-              (y ∙ ap (λ (r : List ℕ). over under start (front ++ bytes ++ r)) t ∙ ap (over under start) (append-assoc front bytes (drop at s)));
+          laid = laid s d o₃ (bytes ++ drop at s) (encode newest more) at n k len behind (f .vacant .inside) (sym parts ∙ append-assoc (headed s at n k) bytes (drop at s))
+              (b ∙ length-more) (omega arith) (y ∙ ap (λ (r : List ℕ). over o₁ at (bytes ++ r)) t ∙ ap (λ (o : List ℕ). over o at (bytes ++ drop at s)) p);
         }

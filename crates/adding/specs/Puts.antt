@@ -26,15 +26,15 @@ pub record Fresh (s : List ℕ) (id at : ℕ) (bytes : List ℕ) (new : List Row
   pub sized : AllSized newest new
   pub bytes-are : bytes ≡ inTurn (encodeRow newest) new
 
--- the image of the book with the rows in it is laid out but for the accounts and the topologies
-pub record PutIn (s : List ℕ) (new : List Row) (len : ℕ) (out : List ℕ) : Type 0 where
+-- the image of the book with the rows in it is laid out from the place on
+pub record PutIn (s : List ℕ) (at : ℕ) (new : List Row) (len : ℕ) (out : List ℕ) : Type 0 where
   pub after : Book
   pub plus : Plus (bookIn s) new after
-  pub laid : Laid s (encode newest after) len out
+  pub laid : Laid s at (encode newest after) len out
 
 -- the rows of these bytes were put in
 abbrev pub PutsRows : List ℕ → ℕ → List ℕ → ℕ → ℕ → ℕ → List ℕ → Type 0
-PutsRows s at bytes rows hops len out = (id : ℕ) (new : List Row) → Fresh s id at bytes new → length new ≡ rows → hopsInAll new ≡ hops → PutIn s new len out
+PutsRows s at bytes rows hops len out = (id : ℕ) (new : List Row) → Fresh s id at bytes new → length new ≡ rows → hopsInAll new ≡ hops → PutIn s at new len out
 
 -- the row of a way
 abbrev pub rowOn : Asked → ℕ → List ℕ → List ℕ → Row

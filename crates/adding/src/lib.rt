@@ -1,4 +1,4 @@
-// Lays out the image of a book in the newest version with the rows of a stream more, but for its accounts and topologies, which stay.
+// Lays out the image of a book in the newest version with the rows of a stream more, but for what stands before them, which stays.
 ghost use mathlib.Core.Path.{_≡_};
 ghost use mathlib.Core.List.{[], _∷_};
 ghost use Prim.Native.Nat.{_+_, _*_, _≤_};
@@ -24,7 +24,7 @@ const FIRST: u8 = 1;
 // and its second.
 const SECOND: u8 = 2;
 
-// Lays out the image with rows more at the place: so many, of so many hops. The accounts and the topologies are left out.
+// Lays out the image with rows more at the place: so many, of so many hops. What stands between the header and the place is left out.
 fn put_in(
     image: &[u8],
     at: usize,
@@ -38,13 +38,10 @@ fn put_in(
     ensures { λ r. ⌜ PutsRows (now (image .entry)) at (now (new .entry)) rows hops r (now (out .exit)) ⌝ }
 {
     let book = Book::read(image);
-    let start = book.rows_start();
     let size = new.len();
     writer::put_head(
         image,
         out,
-        start,
-        at,
         (book.streams + rows) as u8,
         (book.hops + hops) as u16,
     );
@@ -71,7 +68,7 @@ pub fn put_one(
     out: &mut [u8; Book::LONGEST],
 ) -> usize
     requires { ⌜ OnePut (now image) at (theAsked q) (now route) (now offsets) ⌝ }
-    ensures { λ r. ⌜ PutIn (now (image .entry)) (rowOn (theAsked q) 1 (now (route .entry)) (now (offsets .entry)) ∷ []) r (now (out .exit)) ⌝ }
+    ensures { λ r. ⌜ PutIn (now (image .entry)) at (rowOn (theAsked q) 1 (now (route .entry)) (now (offsets .entry)) ∷ []) r (now (out .exit)) ⌝ }
 {
     let hops = offsets.len();
     let size = row_size(hops);
@@ -101,7 +98,7 @@ pub fn put_two(
     out: &mut [u8; Book::LONGEST],
 ) -> usize
     requires { ⌜ TwoPut (now image) at (theAsked q) (now first) (now offsets) (now second) (now others) ⌝ }
-    ensures { λ r. ⌜ PutIn (now (image .entry)) (rowOn (theAsked q) 1 (now (first .entry)) (now (offsets .entry)) ∷ rowOn (theAsked q) 2 (now (second .entry)) (now (others .entry)) ∷ []) r
+    ensures { λ r. ⌜ PutIn (now (image .entry)) at (rowOn (theAsked q) 1 (now (first .entry)) (now (offsets .entry)) ∷ rowOn (theAsked q) 2 (now (second .entry)) (now (others .entry)) ∷ []) r
         (now (out .exit)) ⌝ }
 {
     let size = row_size(offsets.len());

@@ -4,8 +4,7 @@ use mathlib.Core.Logic.{⊎-elim}
 use mathlib.Core.List.{List, [], _∷_, _++_}
 use Prim.Native.Nat.{ℕ, _+_, _-_, _≤_}
 use native.Mathlib.Omega.{arith}
-use lib.ListN.{length, take, drop, length-append, length-drop}
-use lib.Seq.{length-take-le}
+use lib.ListN.{length, drop, length-append, length-drop}
 use Rattle.rules.specs.Words.{_∈_, Reordered}
 use Rattle.rules.specs.Words.Reordered.{put}
 use Rattle.rules.specs.Book.{Row, Book, RisingByKey, hops, hopsInAll}
@@ -18,7 +17,7 @@ use Rattle.rules.proofs.Reading.{bookIn, NewestImage, withRows, newest-bytes}
 use Rattle.index.specs.Beside.{Done}
 use Rattle.image.proofs.Stands.{stored-rows}
 use Rattle.writer.specs.Over.{over, headed}
-use Rattle.writer.proofs.Laws.{then, length-over, length-headed, laid}
+use Rattle.writer.proofs.Laws.{length-headed, laid}
 use Rattle.writer.proofs.Books.{total-append, rows-low, rows-less}
 use Rattle.finding.proofs.Ids.{with-middle}
 use Rattle.closing.specs.declared.Gone.{Gone}
@@ -81,7 +80,7 @@ module _ {s : List ℕ} {id at : ℕ} {words : List ℕ} {g : Gone} (h : NewestI
   behind-encode : drop at (encode newest (bookIn s)) ≡ inTurn (encodeRow newest) (t .gone ++ t .rest)
   behind-encode = ap (drop at) (sym (newest-bytes h)) ∙ t .bytes ∙ ap (λ (v : ℕ). inTurn (encodeRow v) (t .gone ++ t .rest)) (h .version)
 
-  pub place-low : rowsPlace s ≤ at
+  place-low : rowsPlace s ≤ at
   place-low = rows-low (t .before) (t .gone ++ t .rest) (h .lawful) (t .all) (t .inside) (t .bytes)
 
   -- THE IMAGE, which is no longer than the longest
@@ -103,21 +102,14 @@ module _ {s : List ℕ} {id at : ℕ} {words : List ℕ} {g : Gone} (h : NewestI
         (arith, ap length parts, length-append (headed s at n k) (drop (g .next) s), length-headed s at n k (omega (arith, place-low)) (t .inside), length-drop (g .next) s)
 
     -- the image without the rows was laid out, and the words are its index
-    pub out-done : {len mains : ℕ} (d o₁ o₂ tail : List ℕ) (start : ℕ) → start ≡ rowsPlace s → len ≡ at + (length s - g .next) → length d ≡ longestImage newest
-        → o₁ ≡ over (over d 0 (headed s headerLength n k)) start (take (at - start) (drop start s)) → tail ≡ drop (g .next) s → o₂ ≡ over o₁ at tail
-        → Done mains s (Close id) len o₂ words
-    out-done {len} d o₁ o₂ tail start z e size p q r =
-        let front : List ℕ = take (at - start) (drop start s) in
-        let under : List ℕ = over d 0 (headed s headerLength n k) in
+    pub out-done : {len mains : ℕ} (d o₁ o₂ tail : List ℕ) → len ≡ at + (length s - g .next) → length d ≡ longestImage newest → o₁ ≡ over d 0 (headed s headerLength n k)
+        → tail ≡ drop (g .next) s → o₂ ≡ over o₁ at tail → Done mains s (Close id) at len o₂ words
+    out-done {len} d o₁ o₂ tail e size p q r =
         let low : 16 ≤ rowsPlace s = omega arith in
-        let long-head : length (headed s headerLength n k) ≡ 16 = length-headed s headerLength n k (omega arith) (omega (arith, low, place-low, t .inside)) in
-        let long-under : length under ≡ length d = length-over d 0 (headed s headerLength n k) (omega (arith, long-head)) in
-        let long-front : length front ≡ at - start = length-take-le (at - start) (drop start s) (omega (arith, length-drop start s, t .inside)) in
-        let x = then under o₁ o₂ front tail start at (omega (arith, long-under, z, place-low, place-fits)) p (omega (arith, long-front, z, place-low)) r in
         record {
           after = less;
           made = closed;
-          laid = laid s d o₂ (drop (g .next) s) (encode newest less) at n k start len z (omega (arith, z, place-low)) (t .inside) (sym parts) (e ∙ length-less)
-              (omega (arith, e, place-fits)) (x ∙ ap (λ (r : List ℕ). over under start (front ++ r)) q);
+          laid = laid s d o₂ (drop (g .next) s) (encode newest less) at n k len (omega (arith, low, place-low)) (t .inside) (sym parts) (e ∙ length-less)
+              (omega (arith, e, place-fits)) (r ∙ ap (over o₁ at) q ∙ ap (λ (o : List ℕ). over o at (drop (g .next) s)) p);
           index = t .index;
         }

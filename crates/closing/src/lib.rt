@@ -8,7 +8,7 @@ ghost use Rattle.rules.proofs.Reading.{LawfulImage};
 ghost use Rattle.index.specs.Index.{indexLength};
 ghost use Rattle.index.specs.Beside.{ImageBeside, Done, Works};
 ghost use Rattle.image.specs.Places.{RowHere};
-ghost use Rattle.finding.specs.Spot.{Taken};
+ghost use Rattle.finding.specs.Spot.{Taken, SpotOf, placeIn};
 ghost use Rattle.closing.specs.Gone.{RowOut, GoneAt};
 use answers::Answer;
 use finding::Spot;
@@ -69,7 +69,7 @@ fn rows_of(image: &[u8], index: &mut [u64; index::WORDS], id: u16, at: usize, sl
     }
 }
 
-// Lays out the image without the rows of the id, of which the first is at the place, and takes them out of the index.
+// Lays out the image without the rows of the id, of which the first is at the place, from there on, and takes them out of the index.
 fn take_out(
     image: &[u8],
     index: &mut [u64; index::WORDS],
@@ -78,7 +78,7 @@ fn take_out(
     out: &mut [u8; Book::LONGEST],
 ) -> Answer
     requires { ⌜ ImageBeside (now image) (now index) × Taken (now image) id at ⌝ }
-    ensures { λ r. ⌜ (r .number ≡ 0) × ((mains : ℕ) → Done mains (now (image .entry)) (Close id) (r .length) (now (out .exit)) (now (index .exit))) ⌝ }
+    ensures { λ r. ⌜ (r .number ≡ 0) × ((mains : ℕ) → Done mains (now (image .entry)) (Close id) at (r .length) (now (out .exit)) (now (index .exit))) ⌝ }
 {
     let book = Book::read(image);
     let gone = rows_of(image, index, id, at, book.plan.slots);
@@ -86,8 +86,6 @@ fn take_out(
     writer::put_head(
         image,
         out,
-        book.rows_start(),
-        at,
         (book.streams - gone.rows) as u8,
         (book.hops - gone.hops) as u16,
     );
@@ -95,20 +93,21 @@ fn take_out(
     answers::done(at + (image.len() - next))
 }
 
-// Closes the stream of the id, whichever nodes may stand in the middle of a route.
+// Closes the stream of the id, which has its spot in the image, whichever nodes may stand in the middle of a route.
 pub fn close_on(
     image: &[u8],
     index: &mut [u64; index::WORDS],
     id: u16,
+    spot: Spot,
     out: &mut [u8; Book::LONGEST],
 ) -> Answer
-    requires { ⌜ ImageBeside (now image) (now index) ⌝ }
-    ensures { λ r. ⌜ ((mains : ℕ) → Works mains (now (image .entry)) (Close id) (r .number) (r .length) (now (out .exit)) (now (index .exit))) ⌝ }
+    requires { ⌜ ImageBeside (now image) (now index) × SpotOf (now image) id spot ⌝ }
+    ensures { λ r. ⌜ ((mains : ℕ) → Works mains (now (image .entry)) (Close id) (placeIn spot) (r .number) (r .length) (now (out .exit)) (now (index .exit))) ⌝ }
 {
     if id == 0 {
         return answers::refused(1);
     }
-    match finding::find(image, id) {
+    match spot {
         Spot::Between(_) => answers::refused(3),
         Spot::Here(at) => take_out(image, index, id, at, out),
     }

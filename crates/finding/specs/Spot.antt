@@ -32,3 +32,8 @@ pub record Taken (s : List ℕ) (id at : ℕ) : Type 0 where
 abbrev pub SpotOf : List ℕ → ℕ → Spot → Type 0
 SpotOf s id (Between at) = Vacant s id at
 SpotOf s id (Here at) = Taken s id at
+
+-- the place of either
+abbrev pub placeIn : Spot → ℕ
+placeIn (Between at) = at
+placeIn (Here at) = at

@@ -1,12 +1,23 @@
 // Finds the rows of an id on the image of a lawful book.
+ghost use mathlib.Core.Path.{_≡_};
 ghost use Rattle.rules.proofs.Reading.{LawfulImage};
-ghost use Rattle.finding.specs.Spot.{SpotOf};
+ghost use Rattle.finding.specs.Spot.{SpotOf, placeIn};
 use image::Book;
 
 // Where the first row of an id stands, or between which rows it would.
 pub enum Spot {
     Between(usize),
     Here(usize),
+}
+
+// The place of a spot.
+pub fn place(spot: Spot) -> usize
+    ensures { λ r. ⌜ r ≡ placeIn spot ⌝ }
+{
+    match spot {
+        Spot::Between(at) => at,
+        Spot::Here(at) => at,
+    }
 }
 
 // Seeks the first row of the id.

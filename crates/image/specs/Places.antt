@@ -53,8 +53,10 @@ pub record RowHere (s : List ℕ) (at : ℕ) : Type 0 where
   pub lawful : LawfulRow (siteOf s) (rowAt s at)
   pub whole : Whole s at
 
--- an image of the site of s, laid out but for the accounts and the topologies: its header, and its rows from where those of s stand on
-pub record Laid (s image : List ℕ) (len : ℕ) (out : List ℕ) : Type 0 where
+-- an image that up to a place is as s but for its header, laid out so: its header, and what it has from the place on
+pub record Laid (s : List ℕ) (at : ℕ) (image : List ℕ) (len : ℕ) (out : List ℕ) : Type 0 where
+  pub low : headerLength ≤ at
+  pub inside : at ≤ length s
   pub long : len ≡ length image
   pub fits : len ≤ length out
-  pub whole : image ≡ take headerLength (take len out) ++ (take (rowsPlace s - headerLength) (drop headerLength s) ++ drop (rowsPlace s) (take len out))
+  pub whole : image ≡ take headerLength (take len out) ++ (take (at - headerLength) (drop headerLength s) ++ drop at (take len out))

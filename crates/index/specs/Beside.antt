@@ -15,15 +15,15 @@ pub record ImageBeside (s words : List ℕ) : Type 0 where
   pub newest : NewestImage s
   pub index : Beside (siteOf s) (rowsIn s) words
 
--- the image of the book after the request was laid out but for the topologies, and the words are the index of its rows
-pub record Done (mains : ℕ) (s : List ℕ) (q : Request) (len : ℕ) (out words : List ℕ) : Type 0 where
+-- the image of the book after the request was laid out from the place on, and the words are the index of its rows
+pub record Done (mains : ℕ) (s : List ℕ) (q : Request) (at len : ℕ) (out words : List ℕ) : Type 0 where
   pub after : Book
   pub made : Made mains (bookIn s) q after
-  pub laid : Laid s (encode newest after) len out
+  pub laid : Laid s at (encode newest after) len out
   pub index : Beside (siteOf s) (after .rows) words
 
 -- the number that the request's refusals say, with the set of nodes that may stand in the middle; where it is refused the words are still the index of the rows
-pub record Works (mains : ℕ) (s : List ℕ) (q : Request) (number len : ℕ) (out words : List ℕ) : Type 0 where
+pub record Works (mains : ℕ) (s : List ℕ) (q : Request) (at number len : ℕ) (out words : List ℕ) : Type 0 where
   pub says : Says (requestRefusals mains (bookIn s) q) number
   pub refused : (number ≡ 0 → ⊥) → Beside (siteOf s) (rowsIn s) words
-  pub done : number ≡ 0 → Done mains s q len out words
+  pub done : number ≡ 0 → Done mains s q at len out words

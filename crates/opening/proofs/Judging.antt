@@ -53,8 +53,8 @@ known-nodes : {s : List ℕ} {book : head.Book} → HeaderOf s book → book .no
 known-nodes {s} h = h .nodes ∙ sym (length-sets-at s (linksPlace s) (nodesOf s))
 
 -- an outcome of all refusals of the open is what the open does
-works : {s out words : List ℕ} {q : Asked} {mains number len : ℕ}
-    → Outcome (openRefusals mains q (bookIn s)) (Opened mains (bookIn s) q) s number len out words → Works mains s (Open q) number len out words
+works : {s out words : List ℕ} {q : Asked} {mains at number len : ℕ}
+    → Outcome (openRefusals mains q (bookIn s)) (Opened mains (bookIn s) q) s at number len out words → Works mains s (Open q) at number len out words
 works r = record {
   says = r .says;
   refused = r .refused;
@@ -69,14 +69,14 @@ below {s} h a f = go (decLt a (nodesOf s))
     go (no l) = absurd (f (omega (arith, h .nodes)))
 
 module _ {s : List ℕ} {book : head.Book} {q : Asked} (h : HeaderOf s book) where
-  pub judged-refused : {n mains number len : ℕ} {out words : List ℕ} → JudgedBy q (book .nodes) (Refused n) → number ≡ n → Beside (siteOf s) (rowsIn s) words
-      → Works mains s (Open q) number len out words
+  pub judged-refused : {n mains at number len : ℕ} {out words : List ℕ} → JudgedBy q (book .nodes) (Refused n) → number ≡ n → Beside (siteOf s) (rowsIn s) words
+      → Works mains s (Open q) at number len out words
   judged-refused {number = number} j e i =
       let k = subst (λ (N : ℕ). JudgedBy q N (Refused number)) (known-nodes h) (subst (λ (m : ℕ). JudgedBy q (book .nodes) (Refused m)) (sym e) j) in
       works (out-first (askedRefusals q (nodes (linksOf s))) _ (k .0) (k .1) i)
 
   module _ (j : JudgedBy q (book .nodes) InOrder) where
-    pub judged-opens : {mains number len : ℕ} {out words : List ℕ} → OpensAsked s mains q number len out words → Works mains s (Open q) number len out words
+    pub judged-opens : {mains at number len : ℕ} {out words : List ℕ} → OpensAsked s mains q at number len out words → Works mains s (Open q) at number len out words
     judged-opens r = works (out-then (askedRefusals q (nodes (linksOf s))) _ (subst (λ (N : ℕ). None (askedRefusals q N)) (known-nodes h) (j .0)) r)
 
     pub judged-beside : {words : List ℕ} → ImageBeside s words → AskedBeside s words book q

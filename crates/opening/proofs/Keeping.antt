@@ -38,8 +38,8 @@ pub first-marked : {s words mid : List ℕ} {book : Book} {q : Asked} {at : ℕ}
 first-marked w m = record { slots-are = w .marked .slots-are; markable = w .markable; index = marked-row 1 (w .marked) m }
 
 -- the rows put in, in whatever order they are marked
-pub kept : {s out words : List ℕ} {new rows : List Row} {len : ℕ} → PutIn s new len out → Beside (siteOf s) rows words
-    → ((x : Row) → x ∈ rows → x ∈ (new ++ rowsIn s)) → ((x : Row) → x ∈ (new ++ rowsIn s) → x ∈ rows) → Kept (Plus (bookIn s) new) s len out words
+pub kept : {s out words : List ℕ} {new rows : List Row} {at len : ℕ} → PutIn s at new len out → Beside (siteOf s) rows words
+    → ((x : Row) → x ∈ rows → x ∈ (new ++ rowsIn s)) → ((x : Row) → x ∈ (new ++ rowsIn s) → x ∈ rows) → Kept (Plus (bookIn s) new) s at len out words
 kept p i f g = record {
   after = p .after;
   is = p .plus;
@@ -49,18 +49,18 @@ kept p i f g = record {
 
 module _ {s words marks out : List ℕ} {book : Book} {q : Asked} {at number len size : ℕ} (e : number ≡ 0) (l : len ≡ size) where
   pub keep-one : {route offsets : List ℕ} → OneKept s words book q at route offsets → (NotPaid (bookIn s) q (route ∷ []) → ⊥)
-      → PutIn s (rowOn q 1 route offsets ∷ []) size out → Marked (book .plan .slots .0) (q .period) route offsets words marks
-      → Keeps s q (route ∷ []) (rowOn q 1 route offsets ∷ []) number len out marks
+      → PutIn s at (rowOn q 1 route offsets ∷ []) size out → Marked (book .plan .slots .0) (q .period) route offsets words marks
+      → Keeps s q (route ∷ []) (rowOn q 1 route offsets ∷ []) at number len out marks
   keep-one {route} {offsets} w f p m =
       out-next f (out-done e
-      (subst (λ (n : ℕ). Kept (Plus (bookIn s) (rowOn q 1 route offsets ∷ [])) s n out marks) (sym l) (kept p (marked-row 1 (w .marked) m) (λ x k. k) (λ x k. k))))
+      (subst (λ (n : ℕ). Kept (Plus (bookIn s) (rowOn q 1 route offsets ∷ [])) s at n out marks) (sym l) (kept p (marked-row 1 (w .marked) m) (λ x k. k) (λ x k. k))))
 
   module _ {first offsets second others mid : List ℕ} (w : TwoKept s words book q at first offsets second others) (m : Marked (book .plan .slots .0) (q .period) first offsets words mid) where
-    pub keep-two : (NotPaid (bookIn s) q (first ∷ second ∷ []) → ⊥) → PutIn s (rowOn q 1 first offsets ∷ rowOn q 2 second others ∷ []) size out
-        → Marked (book .plan .slots .0) (q .period) second others mid marks → Keeps s q (first ∷ second ∷ []) (rowOn q 1 first offsets ∷ rowOn q 2 second others ∷ []) number len out marks
+    pub keep-two : (NotPaid (bookIn s) q (first ∷ second ∷ []) → ⊥) → PutIn s at (rowOn q 1 first offsets ∷ rowOn q 2 second others ∷ []) size out
+        → Marked (book .plan .slots .0) (q .period) second others mid marks → Keeps s q (first ∷ second ∷ []) (rowOn q 1 first offsets ∷ rowOn q 2 second others ∷ []) at number len out marks
     keep-two f p n =
         out-next f (out-done e
-        (subst (λ (k : ℕ). Kept (Plus (bookIn s) (rowOn q 1 first offsets ∷ rowOn q 2 second others ∷ [])) s k out marks) (sym l)
+        (subst (λ (k : ℕ). Kept (Plus (bookIn s) (rowOn q 1 first offsets ∷ rowOn q 2 second others ∷ [])) s at k out marks) (sym l)
         (kept p (marked-row 2 (first-marked w m) n) (λ x k. swapped (rowsIn s) k) (λ x k. swapped (rowsIn s) k))))
       where
         swapped : {x y z : Row} (rows : List Row) → x ∈ y ∷ z ∷ rows → x ∈ z ∷ y ∷ rows

@@ -37,8 +37,8 @@ some-placed b q way (p ∷ ps) (r ∷ rs) h (inr n) =
     some-placed (beside r b) q (suc way) ps rs (h .1) (subst (λ (x : Row). NoPlacings (beside x b) q (suc way) ps) (new-unique (n .1) (h .0)) (n .2))
 
 -- rows that were put in are those on the routes
-pub routed-in : (s : List ℕ) {out words : List ℕ} {number len : ℕ} (q : Asked) (routes : List (List ℕ)) (new : List Row)
-    → NewRows (bookIn s) q 1 routes new → (Full (bookIn s) routes → ⊥) → Keeps s q routes new number len out words → Routed s q routes number len out words
+pub routed-in : (s : List ℕ) {out words : List ℕ} {at number len : ℕ} (q : Asked) (routes : List (List ℕ)) (new : List Row)
+    → NewRows (bookIn s) q 1 routes new → (Full (bookIn s) routes → ⊥) → Keeps s q routes new at number len out words → Routed s q routes at number len out words
 routed-in s q routes new h full w =
     out-next full (out-next (some-placed (bookIn s) q 1 routes new h) (out-more (λ c p. record { new = new; placed = h; plus = p }) w))
 
@@ -66,8 +66,8 @@ module _ (b : Book) (middle : ℕ) (q : Asked) (routes : List (List ℕ)) (plann
   opened-on : (c : Book) → OpenedOn b q routes c → Opened middle b q c
   opened-on c o = record { routes = routes; planned = planned; new = o .new; placed = o .placed; plus = o .plus }
 
-pub routed-new : (s : List ℕ) {out words : List ℕ} {number len : ℕ} (mains : ℕ) (q : Asked) (routes : List (List ℕ)) → Planned (bookIn s .site .links) mains q routes
-    → Routed s q routes number len out words → OpensNew s mains q number len out words
+pub routed-new : (s : List ℕ) {out words : List ℕ} {at number len : ℕ} (mains : ℕ) (q : Asked) (routes : List (List ℕ)) → Planned (bookIn s .site .links) mains q routes
+    → Routed s q routes at number len out words → OpensNew s mains q at number len out words
 routed-new s mains q routes planned w =
     let b : Book = bookIn s in
     out-next (some-route planned) (out-next (near-route planned) (out-next (some-second planned)
@@ -79,10 +79,10 @@ routed-new s mains q routes planned w =
     (opened-on b mains q routes planned) w)))
 
 -- where a route is missing
-pub second-refused : (s : List ℕ) {out words : List ℕ} {number len : ℕ} (mains : ℕ) (q : Asked) (first : List ℕ) → q .second ≡ true
+pub second-refused : (s : List ℕ) {out words : List ℕ} {at number len : ℕ} (mains : ℕ) (q : Asked) (first : List ℕ) → q .second ≡ true
     → Route (bookIn s .site .links) mains (q .source) (q .destination) first
     → ((p : List ℕ) → SecondPath (bookIn s .site .links) mains (q .source) (q .destination) first p → ⊥)
-    → number ≡ 18 → Beside (siteOf s) (rowsIn s) words → OpensNew s mains q number len out words
+    → number ≡ 18 → Beside (siteOf s) (rowsIn s) words → OpensNew s mains q at number len out words
 second-refused s mains q first y r none e i =
     out-next (route-some r) (out-next (route-near r) (out-refused (record { asked = y; first = first; planned = r; none = none }) (λ z. omega arith) e i))
 

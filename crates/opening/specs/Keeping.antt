@@ -15,7 +15,7 @@ use Rattle.opening.specs.Beside.{NewBeside}
 use Rattle.adding.specs.Puts.{OnePut, TwoPut}
 
 -- the account does not pay for the routes; or the image has the rows, and the words are the index with them
-abbrev pub Keeps : List ℕ → Asked → List (List ℕ) → List Row → ℕ → ℕ → List ℕ → List ℕ → Type 0
+abbrev pub Keeps : List ℕ → Asked → List (List ℕ) → List Row → ℕ → ℕ → ℕ → List ℕ → List ℕ → Type 0
 Keeps s q routes new = Outcome ((23 when NotPaid (bookIn s) q routes) ∷ []) (WithRows s new) s
 
 -- a route that can be put in and marked, beside the index of these rows

@@ -16,11 +16,11 @@ use Rattle.index.specs.Index.{Beside}
 use Rattle.opening.specs.declared.Judged.{Judged}
 use Rattle.opening.specs.declared.Judged.the-variants.{Refused, InOrder}
 
--- the image of a book with R is laid out but for the topologies, and the words are the index of its rows
-pub record Kept (R : Book → Type 0) (s : List ℕ) (len : ℕ) (out words : List ℕ) : Type 0 where
+-- the image of a book with R is laid out from the place on, and the words are the index of its rows
+pub record Kept (R : Book → Type 0) (s : List ℕ) (at len : ℕ) (out words : List ℕ) : Type 0 where
   pub after : Book
   pub is : R after
-  pub laid : Laid s (encode newest after) len out
+  pub laid : Laid s at (encode newest after) len out
   pub index : Beside (siteOf s) (after .rows) words
 
 -- what is wrong with a request by itself; or nothing is
@@ -29,10 +29,10 @@ JudgedBy q N (Refused n) = Says (askedRefusals q N) n × (n ≡ 0 → ⊥)
 JudgedBy q N InOrder = None (askedRefusals q N) × Period (q .period)
 
 -- the number that the refusals say; where it is done, the image of a book with R and the index of its rows, and otherwise the index as it was
-pub record Outcome (refusals : List Refusal) (R : Book → Type 0) (s : List ℕ) (number len : ℕ) (out words : List ℕ) : Type 0 where
+pub record Outcome (refusals : List Refusal) (R : Book → Type 0) (s : List ℕ) (at number len : ℕ) (out words : List ℕ) : Type 0 where
   pub says : Says refusals number
   pub refused : (number ≡ 0 → ⊥) → Beside (siteOf s) (rowsIn s) words
-  pub done : number ≡ 0 → Kept R s len out words
+  pub done : number ≡ 0 → Kept R s at len out words
 
 -- where the rows are known: the book with them in it
 abbrev pub WithRows : List ℕ → List Row → Book → Type 0
@@ -47,7 +47,7 @@ pub record OpenedOn (b : Book) (q : Asked) (routes : List (List ℕ)) (c : Book)
 abbrev pub routedRefusals : Asked → List (List ℕ) → Book → List Refusal
 routedRefusals q routes b = (8 when Full b routes) ∷ (9 when NoPlacings b q 1 routes) ∷ (23 when NotPaid b q routes) ∷ []
 
-abbrev pub Routed : List ℕ → Asked → List (List ℕ) → ℕ → ℕ → List ℕ → List ℕ → Type 0
+abbrev pub Routed : List ℕ → Asked → List (List ℕ) → ℕ → ℕ → ℕ → List ℕ → List ℕ → Type 0
 Routed s q routes = Outcome (routedRefusals q routes (bookIn s)) (OpenedOn (bookIn s) q routes) s
 
 -- where the request is in order, its account known and its id new, with the set of nodes that may stand in the middle
@@ -61,12 +61,12 @@ newRefusals mains q b =
     ∷ (23 when OfRoutes mains q b (NotPaid b q))
     ∷ []
 
-abbrev pub OpensNew : List ℕ → ℕ → Asked → ℕ → ℕ → List ℕ → List ℕ → Type 0
+abbrev pub OpensNew : List ℕ → ℕ → Asked → ℕ → ℕ → ℕ → List ℕ → List ℕ → Type 0
 OpensNew s mains q = Outcome (newRefusals mains q (bookIn s)) (Opened mains (bookIn s) q) s
 
 -- where the request is in order
 abbrev pub inOrderRefusals : ℕ → Asked → Book → List Refusal
 inOrderRefusals mains q b = (22 when (KnownAccount (b .site .accounts) (q .account) → ⊥)) ∷ (2 when Known b (q .id)) ∷ newRefusals mains q b
 
-abbrev pub OpensAsked : List ℕ → ℕ → Asked → ℕ → ℕ → List ℕ → List ℕ → Type 0
+abbrev pub OpensAsked : List ℕ → ℕ → Asked → ℕ → ℕ → ℕ → List ℕ → List ℕ → Type 0
 OpensAsked s mains q = Outcome (inOrderRefusals mains q (bookIn s)) (Opened mains (bookIn s) q) s

@@ -3,6 +3,7 @@ ghost use mathlib.Core.Path.{_≡_};
 ghost use Rattle.rules.specs.Periods.{theAsked};
 ghost use Rattle.rules.specs.Calls.Request.{Open};
 ghost use Rattle.index.specs.Beside.{ImageBeside, Works};
+ghost use Rattle.finding.specs.Spot.{SpotOf, placeIn};
 ghost use Rattle.opening.specs.Open.{JudgedBy, OpensNew, OpensAsked};
 ghost use Rattle.opening.specs.Beside.{AskedBeside, NewBeside};
 use answers::Answer;
@@ -31,7 +32,7 @@ fn open_new(
     out: &mut [u8; Book::LONGEST],
 ) -> Answer
     requires { ⌜ NewBeside (now image) (now index) book (theAsked q) at ⌝ }
-    ensures { λ r. ⌜ OpensNew (now (image .entry)) mains (theAsked q) (r .number) (r .length) (now (out .exit)) (now (index .exit)) ⌝ }
+    ensures { λ r. ⌜ OpensNew (now (image .entry)) mains (theAsked q) at (r .number) (r .length) (now (out .exit)) (now (index .exit)) ⌝ }
 {
     let links = index::links(index, book.nodes);
     let planned = routes::plan(links, mains, q.source, q.destination);
@@ -52,15 +53,16 @@ fn open_asked(
     mains: u64,
     book: Book,
     q: Asked,
+    spot: Spot,
     out: &mut [u8; Book::LONGEST],
 ) -> Answer
-    requires { ⌜ AskedBeside (now image) (now index) book (theAsked q) ⌝ }
-    ensures { λ r. ⌜ OpensAsked (now (image .entry)) mains (theAsked q) (r .number) (r .length) (now (out .exit)) (now (index .exit)) ⌝ }
+    requires { ⌜ AskedBeside (now image) (now index) book (theAsked q) × SpotOf (now image) (q .id) spot ⌝ }
+    ensures { λ r. ⌜ OpensAsked (now (image .entry)) mains (theAsked q) (placeIn spot) (r .number) (r .length) (now (out .exit)) (now (index .exit)) ⌝ }
 {
     if !accounts::is_known(image, book, q.account) {
         return answers::refused(22);
     }
-    match finding::find(image, q.id) {
+    match spot {
         Spot::Here(_) => answers::refused(2),
         Spot::Between(at) => open_new(image, index, mains, book, q, at, out),
     }
@@ -88,20 +90,21 @@ fn judge(q: Asked, nodes: usize) -> Judged
     Judged::InOrder
 }
 
-// Opens the stream that is asked for, with only members of the set in the middle of its routes.
+// Opens the stream that is asked for, which has its spot in the image, with only members of the set in the middle of its routes.
 pub fn open_on(
     image: &[u8],
     index: &mut [u64; index::WORDS],
     mains: u64,
     q: Asked,
+    spot: Spot,
     out: &mut [u8; Book::LONGEST],
 ) -> Answer
-    requires { ⌜ ImageBeside (now image) (now index) ⌝ }
-    ensures { λ r. ⌜ Works mains (now (image .entry)) (Open (theAsked q)) (r .number) (r .length) (now (out .exit)) (now (index .exit)) ⌝ }
+    requires { ⌜ ImageBeside (now image) (now index) × SpotOf (now image) (q .id) spot ⌝ }
+    ensures { λ r. ⌜ Works mains (now (image .entry)) (Open (theAsked q)) (placeIn spot) (r .number) (r .length) (now (out .exit)) (now (index .exit)) ⌝ }
 {
     let book = Book::read(image);
     match judge(q, book.nodes) {
         Judged::Refused(number) => answers::refused(number),
-        Judged::InOrder => open_asked(image, index, mains, book, q, out),
+        Judged::InOrder => open_asked(image, index, mains, book, q, spot, out),
     }
 }

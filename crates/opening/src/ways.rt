@@ -100,7 +100,7 @@ fn keep_one(
     out: &mut [u8; Book::LONGEST],
 ) -> Answer
     requires { ⌜ OneKept (now image) (now index) book (theAsked q) at (now route) (now offsets) ⌝ }
-    ensures { λ r. ⌜ Keeps (now (image .entry)) (theAsked q) (now (route .entry) ∷ []) (rowOn (theAsked q) 1 (now (route .entry)) (now (offsets .entry)) ∷ []) (r .number) (r .length)
+    ensures { λ r. ⌜ Keeps (now (image .entry)) (theAsked q) (now (route .entry) ∷ []) (rowOn (theAsked q) 1 (now (route .entry)) (now (offsets .entry)) ∷ []) at (r .number) (r .length)
         (now (out .exit)) (now (index .exit)) ⌝ }
 {
     if !paying::is_paid(image, book, q.account, q.period, offsets.len()) {
@@ -122,7 +122,7 @@ fn open_one(
     out: &mut [u8; Book::LONGEST],
 ) -> Answer
     requires { ⌜ RouteBeside (now image) (now index) book (theAsked q) at (now route) ⌝ }
-    ensures { λ r. ⌜ Routed (now (image .entry)) (theAsked q) (now (route .entry) ∷ []) (r .number) (r .length) (now (out .exit)) (now (index .exit)) ⌝ }
+    ensures { λ r. ⌜ Routed (now (image .entry)) (theAsked q) (now (route .entry) ∷ []) at (r .number) (r .length) (now (out .exit)) (now (index .exit)) ⌝ }
 {
     let hops = route.len() - 1;
     if is_full(book, 1, hops) {
@@ -152,7 +152,7 @@ fn keep_two(
 ) -> Answer
     requires { ⌜ TwoKept (now image) (now index) book (theAsked q) at (now first) (now offsets) (now second) (now others) ⌝ }
     ensures { λ r. ⌜ Keeps (now (image .entry)) (theAsked q) (now (first .entry) ∷ now (second .entry) ∷ [])
-        (rowOn (theAsked q) 1 (now (first .entry)) (now (offsets .entry)) ∷ rowOn (theAsked q) 2 (now (second .entry)) (now (others .entry)) ∷ []) (r .number) (r .length) (now (out .exit))
+        (rowOn (theAsked q) 1 (now (first .entry)) (now (offsets .entry)) ∷ rowOn (theAsked q) 2 (now (second .entry)) (now (others .entry)) ∷ []) at (r .number) (r .length) (now (out .exit))
         (now (index .exit)) ⌝ }
 {
     let hops = offsets.len() + others.len();
@@ -178,7 +178,7 @@ fn place_second(
     out: &mut [u8; Book::LONGEST],
 ) -> Answer
     requires { ⌜ PlacedBeside (now image) (now index) book (theAsked q) at (now first) (now offsets) (now second) ⌝ }
-    ensures { λ r. ⌜ Routed (now (image .entry)) (theAsked q) (now (first .entry) ∷ now (second .entry) ∷ []) (r .number) (r .length) (now (out .exit)) (now (index .exit)) ⌝ }
+    ensures { λ r. ⌜ Routed (now (image .entry)) (theAsked q) (now (first .entry) ∷ now (second .entry) ∷ []) at (r .number) (r .length) (now (out .exit)) (now (index .exit)) ⌝ }
 {
     let hops = second.len() - 1;
     let placing = place_beside(image, index, book, q, second, first, offsets);
@@ -213,7 +213,7 @@ fn open_both(
     out: &mut [u8; Book::LONGEST],
 ) -> Answer
     requires { ⌜ RoutesBeside (now image) (now index) book (theAsked q) at (now first) (now second) ⌝ }
-    ensures { λ r. ⌜ Routed (now (image .entry)) (theAsked q) (now (first .entry) ∷ now (second .entry) ∷ []) (r .number) (r .length) (now (out .exit)) (now (index .exit)) ⌝ }
+    ensures { λ r. ⌜ Routed (now (image .entry)) (theAsked q) (now (first .entry) ∷ now (second .entry) ∷ []) at (r .number) (r .length) (now (out .exit)) (now (index .exit)) ⌝ }
 {
     let hops = first.len() - 1;
     if is_full(book, 2, hops + (second.len() - 1)) {
@@ -250,7 +250,7 @@ fn open_beside(
     out: &mut [u8; Book::LONGEST],
 ) -> Answer
     requires { ⌜ SecondBeside (now image) (now index) mains book (theAsked q) at (now first) ⌝ }
-    ensures { λ r. ⌜ OpensNew (now (image .entry)) mains (theAsked q) (r .number) (r .length) (now (out .exit)) (now (index .exit)) ⌝ }
+    ensures { λ r. ⌜ OpensNew (now (image .entry)) mains (theAsked q) at (r .number) (r .length) (now (out .exit)) (now (index .exit)) ⌝ }
 {
     let links = index::links(index, book.nodes);
     let sought = routes::second::second(links, mains, q.source, q.destination, first);
@@ -275,7 +275,7 @@ pub fn open_routed(
     out: &mut [u8; Book::LONGEST],
 ) -> Answer
     requires { ⌜ PlannedBeside (now image) (now index) mains book (theAsked q) at (now first) ⌝ }
-    ensures { λ r. ⌜ OpensNew (now (image .entry)) mains (theAsked q) (r .number) (r .length) (now (out .exit)) (now (index .exit)) ⌝ }
+    ensures { λ r. ⌜ OpensNew (now (image .entry)) mains (theAsked q) at (r .number) (r .length) (now (out .exit)) (now (index .exit)) ⌝ }
 {
     if q.second {
         open_beside(image, index, mains, book, q, at, first, out)

@@ -9,7 +9,7 @@ use lib.Seq.{take-at, take-append-le, take-append-add, drop-append-le, length-ta
 use Rattle.rules.specs.Words.{TwoBytes}
 use Rattle.rules.specs.Book.{Site, Book}
 use Rattle.rules.specs.Placing.{Asked}
-use Rattle.rules.specs.Image.{newest, headerLength, longestImage, encode, Stored, rowsPlace}
+use Rattle.rules.specs.Image.{newest, headerLength, longestImage, encode, Stored}
 use Rattle.rules.specs.Calls as calls
 use Rattle.rules.specs.Says.{Says}
 use Rattle.rules.specs.Calls.{Made, requestRefusals}
@@ -18,7 +18,6 @@ use Rattle.rules.specs.Order.{idOf}
 use Rattle.rules.proofs.Encoding.{version-back}
 use Rattle.rules.proofs.Reading.{bookIn, NewestImage, book-back, lawful-stored}
 use Rattle.rules.proofs.Lawful.{lawful-length, made-lawful, made-site}
-use Rattle.image.proofs.Stands.{stored-length}
 use Rattle.index.specs.Index.{Beside}
 use Rattle.index.specs.Beside.{ImageBeside, Works}
 use Rattle.writer.specs.Over.{over}
@@ -71,8 +70,8 @@ stored-image {c} h = record {
   version = version-back newest c;
 }
 
-module _ {buffer : List ℕ} {len : ℕ} {words : List ℕ} (w : Standing buffer len words) {mains : ℕ} {q : calls.Request} {number size : ℕ} {out marks : List ℕ}
-    (h : Works mains (take len buffer) q number size out marks) where
+module _ {buffer : List ℕ} {len : ℕ} {words : List ℕ} (w : Standing buffer len words) {mains : ℕ} {q : calls.Request} {at number size : ℕ} {out marks : List ℕ}
+    (h : Works mains (take len buffer) q at number size out marks) where
   -- refused: the book stands as it was
   pub work-refused : (number ≡ 0 → ⊥) → Worked mains buffer len q (record { answer = number; length = len }) buffer marks
   work-refused f = record {
@@ -95,42 +94,36 @@ module _ {buffer : List ℕ} {len : ℕ} {words : List ℕ} (w : Standing buffer
     pub size-most : size ≤ longestImage newest
     size-most = omega (arith, size-is, lawful-length (h .done z .after) (stored .lawful))
 
-    -- the rows of the book and of the one after it start at the same place, inside both images
-    pub starts : {start : ℕ} → start ≡ rowsPlace (take len buffer) → (headerLength ≤ start) × (start ≤ len) × (start ≤ size)
-    starts e =
+    -- the place stands inside both images
+    pub inside : (headerLength ≤ at) × (at ≤ len) × (at ≤ size)
+    inside =
         let s : List ℕ = take len buffer in
-        let long = length-take-le len buffer (w .fits) in
-        let inside = stored-length (w .image .newest .lawful) in
         let l = h .done z .laid in
+        let long = length-take-le len buffer (w .fits) in
         let out-long = length-take-le size out (l .fits) in
-        let middle = length-take-le (rowsPlace s - headerLength) (drop headerLength s) (omega (arith, length-drop headerLength s, inside)) in
-        let parts = ap length (l .whole) in
-        let last : List ℕ = take (rowsPlace s - headerLength) (drop headerLength s) ++ drop (rowsPlace s) (take size out) in (
-          omega (arith, e),
-          omega (arith, e, long, inside),
+        let middle = length-take-le (at - headerLength) (drop headerLength s) (omega (arith, length-drop headerLength s, l .inside)) in
+        let last : List ℕ = take (at - headerLength) (drop headerLength s) ++ drop at (take size out) in (
+          l .low,
+          omega (arith, long, l .inside),
           omega (
             arith,
-            e,
-            parts,
+            l .low,
+            ap length (l .whole),
             size-is,
             length-append (take headerLength (take size out)) last,
-            length-append (take (rowsPlace s - headerLength) (drop headerLength s)) (drop (rowsPlace s) (take size out)),
+            length-append (take (at - headerLength) (drop headerLength s)) (drop at (take size out)),
             middle,
-            length-drop (rowsPlace s) (take size out),
+            length-drop at (take size out),
             out-long,
-            inside,
             length-take headerLength (take size out),
           ),
         )
 
-    module _ {buffer′ : List ℕ} {start : ℕ} (at : start ≡ rowsPlace (take len buffer))
-        (e : buffer′ ≡ over (over buffer 0 (take headerLength (take size out))) start (drop start (take size out))) where
+    module _ {buffer′ : List ℕ} (e : buffer′ ≡ over (over buffer 0 (take headerLength (take size out))) at (drop at (take size out))) where
       front : take size buffer′ ≡ encode newest (h .done z .after)
       front =
           let l = h .done z .laid in
-          relaid buffer buffer′ (take size out) (encode newest (h .done z .after)) len start size (w .fits) (starts at) (length-take-le size out (l .fits))
-          (subst (λ (k : ℕ). encode newest (h .done z .after)
-          ≡ take headerLength (take size out) ++ (take (k - headerLength) (drop headerLength (take len buffer)) ++ drop k (take size out))) (sym at) (l .whole)) e
+          relaid buffer buffer′ (take size out) (encode newest (h .done z .after)) len at size (w .fits) inside (length-take-le size out (l .fits)) (l .whole) e
 
       holds : bookAt buffer′ size ≡ h .done z .after
       holds = ap bookIn front ∙ book-back stored
@@ -155,13 +148,13 @@ module _ {buffer : List ℕ} {len : ℕ} {words : List ℕ} (w : Standing buffer
       }
 
 -- what an open and a close do is what the record asks for
-pub asks-open : (r : Request) → r .opens ≡ true → {s out words : List ℕ} {mains number len : ℕ}
-    → Works mains s (Open (askedBy r)) number len out words
-    → Works mains s (theRequest r) number len out words
-asks-open r e {s} {out} {words} {mains} {number} {len} w =
-    subst (λ (t : Bool). Works mains s (cond t (Open (askedBy r)) (Close (r .id))) number len out words) (sym e) w
+pub asks-open : (r : Request) → r .opens ≡ true → {s out words : List ℕ} {mains at number len : ℕ}
+    → Works mains s (Open (askedBy r)) at number len out words
+    → Works mains s (theRequest r) at number len out words
+asks-open r e {s} {out} {words} {mains} {at} {number} {len} w =
+    subst (λ (t : Bool). Works mains s (cond t (Open (askedBy r)) (Close (r .id))) at number len out words) (sym e) w
 
-pub asks-close : (r : Request) → r .opens ≡ false → {s out words : List ℕ} {mains number len : ℕ} → Works mains s (Close (r .id)) number len out words
-    → Works mains s (theRequest r) number len out words
-asks-close r e {s} {out} {words} {mains} {number} {len} w =
-    subst (λ (t : Bool). Works mains s (cond t (Open (askedBy r)) (Close (r .id))) number len out words) (sym e) w
+pub asks-close : (r : Request) → r .opens ≡ false → {s out words : List ℕ} {mains at number len : ℕ} → Works mains s (Close (r .id)) at number len out words
+    → Works mains s (theRequest r) at number len out words
+asks-close r e {s} {out} {words} {mains} {at} {number} {len} w =
+    subst (λ (t : Bool). Works mains s (cond t (Open (askedBy r)) (Close (r .id))) at number len out words) (sym e) w

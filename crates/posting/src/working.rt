@@ -4,6 +4,7 @@ ghost use Prim.Native.Nat.{_≤_};
 ghost use lib.ListN.{length, take, drop};
 ghost use Rattle.rules.specs.Image.{headerLength};
 ghost use Rattle.index.specs.Beside.{ImageBeside, Works};
+ghost use Rattle.finding.specs.Spot.{SpotOf, placeIn};
 ghost use Rattle.writer.specs.Over.{over};
 ghost use Rattle.posting.specs.Records.{theRequest};
 ghost use Rattle.posting.specs.Standing.{Standing};
@@ -11,22 +12,24 @@ ghost use Rattle.posting.specs.Posting.{Worked};
 use crate::Outcome;
 use crate::Request;
 use answers::Answer;
+use finding::Spot;
 use image::Book;
 use rules::Asked;
 use rules::Node;
 use rules::Tile;
 
-// Opens, with only members of the set in the middle of a route, or closes a stream on an image and its index, and lays out
-// the image after it, but for the accounts and the topologies.
+// Opens, with only members of the set in the middle of a route, or closes a stream, which has its spot in the image, on the
+// image and its index, and lays out the image after it from there on.
 fn serve(
     image: &[u8],
     index: &mut [u64; index::WORDS],
     mains: u64,
     q: Request,
+    spot: Spot,
     out: &mut [u8; Book::LONGEST],
 ) -> Answer
-    requires { ⌜ ImageBeside (now image) (now index) ⌝ }
-    ensures { λ r. ⌜ Works mains (now (image .entry)) (theRequest q) (r .number) (r .length) (now (out .exit)) (now (index .exit)) ⌝ }
+    requires { ⌜ ImageBeside (now image) (now index) × SpotOf (now image) (q .id) spot ⌝ }
+    ensures { λ r. ⌜ Works mains (now (image .entry)) (theRequest q) (placeIn spot) (r .number) (r .length) (now (out .exit)) (now (index .exit)) ⌝ }
 {
     if q.opens {
         let asked = Asked {
@@ -37,19 +40,19 @@ fn serve(
             second: q.second,
             account: q.account,
         };
-        opening::open_on(image, index, mains, asked, out)
+        opening::open_on(image, index, mains, asked, spot, out)
     } else {
-        closing::close_on(image, index, q.id, out)
+        closing::close_on(image, index, q.id, spot, out)
     }
 }
 
-// Puts an image in the place of the book's, but for the accounts and the topologies, which end where the rows start.
-fn take_over(book: &mut [u8], start: usize, next: &[u8])
-    requires { ⌜ (headerLength ≤ start) × (start ≤ length (now next)) × (length (now next) ≤ length (now book)) ⌝ }
-    ensures { λ _. ⌜ now (book .exit) ≡ over (over (now (book .entry)) 0 (take headerLength (now (next .entry)))) start (drop start (now (next .entry))) ⌝ }
+// Puts an image in the place of the book's: its header, and what it has from a place on.
+fn take_over(book: &mut [u8], at: usize, next: &[u8])
+    requires { ⌜ (headerLength ≤ at) × (at ≤ length (now next)) × (length (now next) ≤ length (now book)) ⌝ }
+    ensures { λ _. ⌜ now (book .exit) ≡ over (over (now (book .entry)) 0 (take headerLength (now (next .entry)))) at (drop at (now (next .entry))) ⌝ }
 {
     writer::put_part(&next[..image::HEADER], book, 0);
-    writer::put_part(&next[start..], book, start);
+    writer::put_part(&next[at..], book, at);
 }
 
 // Does what the request asks for, on the image of so many bytes and its index.
@@ -63,11 +66,11 @@ pub fn work(
     requires { ⌜ Standing (now book) length (now index) ⌝ }
     ensures { λ r. ⌜ Worked mains (now (book .entry)) length (theRequest q) r (now (book .exit)) (now (index .exit)) ⌝ }
 {
-    let start = Book::read(&book[..length]).rows_start();
+    let spot = finding::find(&book[..length], q.id);
     let mut next = [0u8; Book::LONGEST];
-    let answer = serve(&book[..length], index, mains, q, &mut next);
+    let answer = serve(&book[..length], index, mains, q, spot, &mut next);
     if answer.number == 0 {
-        take_over(book, start, &next[..answer.length]);
+        take_over(book, finding::place(spot), &next[..answer.length]);
         Outcome {
             answer: 0,
             length: answer.length,

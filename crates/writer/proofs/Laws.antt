@@ -8,7 +8,7 @@ use native.Mathlib.Numerals.{add-one}
 use lib.ListN.{length, getD, set, take, drop, length-append, length-drop}
 use lib.Seq.{take-at, drop-at, take-suc, take-add, take-take, take-append-le, drop-append-add, drop-drop, length-take-le, append-snoc, paste-zero, set-split}
 use Rattle.rules.specs.Tiles.{Plan}
-use Rattle.rules.specs.Image.{newest, headerLength, mark, word, inTurn, encodeHeader, encodeRow, rowsPlace}
+use Rattle.rules.specs.Image.{newest, headerLength, mark, word, inTurn, encodeHeader, encodeRow}
 use Rattle.rules.proofs.Encoding.{length-words}
 use Rattle.image.specs.Places.{Laid}
 use Rattle.writer.specs.Over.{over, headed}
@@ -113,52 +113,40 @@ length-headed s to n h low l =
     let f : to - 15 ≤ length (drop 15 s) = omega (arith, length-drop 15 s) in
     simp (length-append, length-take-le 12 s (omega arith), length-take-le (to - 15) (drop 15 s) f) (omega arith)
 
--- the front up to a place is the header, the topologies, and the rows up to there
-headed-parts : (s : List ℕ) (start at n h : ℕ) → headerLength ≤ start → start ≤ at
-    → headed s at n h ≡ headed s headerLength n h ++ (take (start - headerLength) (drop headerLength s) ++ take (at - start) (drop start s))
+-- the front up to a place is the header, and what stands behind it up to there
+headed-parts : (s : List ℕ) (at n h : ℕ) → headerLength ≤ at → headed s at n h ≡ headed s headerLength n h ++ take (at - headerLength) (drop headerLength s)
 unfolding headed
-headed-parts s start at n h low l =
+headed-parts s at n h low =
     let a : at - 15 ≡ 1 + (at - 16) = omega arith in
-    let b : at - 16 ≡ (start - 16) + (at - start) = omega arith in
-    let c : 16 + (start - 16) ≡ start = omega arith in
-    let rest : take (at - 16) (drop 16 s) ≡ take (start - 16) (drop 16 s) ++ take (at - start) (drop start s) =
-    ap (λ (k : ℕ). take k (drop 16 s)) b ∙ take-add (start - 16) (at - start) (drop 16 s)
-    ∙ ap (λ (l : List ℕ). take (start - 16) (drop 16 s) ++ take (at - start) l) (drop-drop (start - 16) 16 s ∙ ap (λ (k : ℕ). drop k s) c) in
-    let all : take (at - 15) (drop 15 s) ≡ take 1 (drop 15 s) ++ (take (start - 16) (drop 16 s) ++ take (at - start) (drop start s)) =
-    ap (λ (k : ℕ). take k (drop 15 s)) a ∙ take-add 1 (at - 16) (drop 15 s)
-    ∙ ap (λ (l : List ℕ). take 1 (drop 15 s) ++ l) (ap (take (at - 16)) (drop-drop 1 15 s) ∙ rest) in
-    ap (λ (l : List ℕ). take 12 s ++ (n ∷ word h) ++ l) all
-    ∙ sym (append-assoc (take 12 s ++ (n ∷ word h)) (take 1 (drop 15 s)) (take (start - 16) (drop 16 s) ++ take (at - start) (drop start s)))
+    let all : take (at - 15) (drop 15 s) ≡ take 1 (drop 15 s) ++ take (at - 16) (drop 16 s) =
+    ap (λ (k : ℕ). take k (drop 15 s)) a ∙ take-add 1 (at - 16) (drop 15 s) ∙ ap (λ (l : List ℕ). take 1 (drop 15 s) ++ take (at - 16) l) (drop-drop 1 15 s) in
+    ap (λ (l : List ℕ). take 12 s ++ (n ∷ word h) ++ l) all ∙ sym (append-assoc (take 12 s ++ (n ∷ word h)) (take 1 (drop 15 s)) (take (at - 16) (drop 16 s)))
 
--- the header and the rows of an image that goes on behind the front of s are the image, laid out but for the topologies
-pub laid : (s d o x image : List ℕ) (at n h start len : ℕ) → start ≡ rowsPlace s → start ≤ at → at ≤ length s → image ≡ headed s at n h ++ x → len ≡ length image → len ≤ length d
-    → o ≡ over (over d 0 (headed s headerLength n h)) start (take (at - start) (drop start s) ++ x) → Laid s image len o
+-- the header of an image that goes on behind the front of s, and what it goes on with, are the image laid out
+pub laid : (s d o x image : List ℕ) (at n h len : ℕ) → headerLength ≤ at → at ≤ length s → image ≡ headed s at n h ++ x → len ≡ length image → len ≤ length d
+    → o ≡ over (over d 0 (headed s headerLength n h)) at x → Laid s at image len o
 unfolding over
-laid s d o x image at n h start len e l inside p q fits f =
-    let low : 16 ≤ start = omega (arith, e) in
+laid s d o x image at n h len low inside p q fits f =
     let head : List ℕ = headed s headerLength n h in
-    let middle : List ℕ = take (start - 16) (drop 16 s) in
-    let rest : List ℕ = take (at - start) (drop start s) ++ x in
+    let middle : List ℕ = take (at - 16) (drop 16 s) in
     let under : List ℕ = over d 0 head in
     let long-head : length head ≡ 16 = length-headed s 16 n h (omega arith) (omega arith) in
-    let long-middle : length middle ≡ start - 16 = length-take-le (start - 16) (drop 16 s) (omega (arith, length-drop 16 s)) in
-    let parts : image ≡ head ++ (middle ++ rest) =
-    p ∙ ap (λ (l : List ℕ). l ++ x) (headed-parts s start at n h low l) ∙ append-assoc head (middle ++ take (at - start) (drop start s)) x
-    ∙ ap (λ (l : List ℕ). head ++ l) (append-assoc middle (take (at - start) (drop start s)) x) in
-    let long : len ≡ start + length rest = omega (arith, q, ap length parts, length-append head (middle ++ rest), length-append middle rest, long-head, long-middle) in
+    let long-middle : length middle ≡ at - 16 = length-take-le (at - 16) (drop 16 s) (omega (arith, length-drop 16 s)) in
+    let parts : image ≡ head ++ (middle ++ x) = p ∙ ap (λ (l : List ℕ). l ++ x) (headed-parts s at n h low) ∙ append-assoc head middle x in
+    let long : len ≡ at + length x = omega (arith, q, ap length parts, length-append head (middle ++ x), length-append middle x, long-head, long-middle) in
     let long-under : length under ≡ length d = length-over d 0 head (omega (arith, long-head, long)) in
-    let long-front : length (take start under) ≡ start = length-take-le start under (omega (arith, long-under, long)) in
-    let front : take len o ≡ take start under ++ rest =
-    ap (take len) f ∙ take-at (take start under ++ rest) (drop (start + length rest) under) len
-    (length-append (take start under) rest ∙ ap (λ (k : ℕ). k + length rest) long-front ∙ sym long) in
+    let long-front : length (take at under) ≡ at = length-take-le at under (omega (arith, long-under, long)) in
+    let front : take len o ≡ take at under ++ x =
+    ap (take len) f ∙ take-at (take at under ++ x) (drop (at + length x) under) len
+    (length-append (take at under) x ∙ ap (λ (k : ℕ). k + length x) long-front ∙ sym long) in
     let header : take 16 (take len o) ≡ head =
-    ap (take 16) front ∙ take-append-le 16 (take start under) rest (omega (arith, long-front)) ∙ take-take 16 start under low
+    ap (take 16) front ∙ take-append-le 16 (take at under) x (omega (arith, long-front)) ∙ take-take 16 at under low
     ∙ ap (take 16) (over-front d head) ∙ take-at head (drop (length head) d) 16 long-head in
-    let rows : drop start (take len o) ≡ rest = ap (drop start) front ∙ drop-at (take start under) rest start long-front in
-    let ended : image ≡ take 16 (take len o) ++ (middle ++ drop start (take len o)) =
-    parts ∙ ap₂ (λ (a b : List ℕ). a ++ (middle ++ b)) (sym header) (sym rows) in
+    let rows : drop at (take len o) ≡ x = ap (drop at) front ∙ drop-at (take at under) x at long-front in
     record {
+      low = low;
+      inside = inside;
       long = q;
-      fits = omega (arith, ap length f, length-over under start rest (omega (arith, long-under, long)), long-under);
-      whole = subst (λ (k : ℕ). image ≡ take 16 (take len o) ++ (take (k - 16) (drop 16 s) ++ drop k (take len o))) e ended;
+      fits = omega (arith, ap length f, length-over under at x (omega (arith, long-under, long)), long-under);
+      whole = parts ∙ ap₂ (λ (a b : List ℕ). a ++ (middle ++ b)) (sym header) (sym rows);
     }

@@ -82,16 +82,15 @@ pub fn put_row(
     put_word(out, offsets_at + 2 * offsets.len(), account);
 }
 
-// The header of an image, with these counts of streams and hops, and its rows, which start at a place, up to another.
-pub fn put_head(image: &[u8], out: &mut [u8], start: usize, to: usize, streams: u8, hops: u16)
-    requires { ⌜ (headerLength ≤ start) × (start ≤ to) × (to ≤ length (now image)) × (to ≤ length (now out)) ⌝ }
-    ensures { λ _. ⌜ now (out .exit) ≡ over (over (now (out .entry)) 0 (headed (now (image .entry)) headerLength streams hops)) start (take (to - start) (drop start (now (image .entry)))) ⌝ }
+// The header of an image, with these counts of streams and hops.
+pub fn put_head(image: &[u8], out: &mut [u8], streams: u8, hops: u16)
+    requires { ⌜ (headerLength ≤ length (now image)) × (headerLength ≤ length (now out)) ⌝ }
+    ensures { λ _. ⌜ now (out .exit) ≡ over (now (out .entry)) 0 (headed (now (image .entry)) headerLength streams hops) ⌝ }
 {
     put_part(&image[..12], out, 0);
     put(out, 12, streams);
     put_word(out, 13, hops);
     put_part(&image[15..image::HEADER], out, 15);
-    put_part(&image[start..to], out, start);
 }
 
 // Bytes 3 to 15 of a book without streams.

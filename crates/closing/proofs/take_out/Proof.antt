@@ -7,9 +7,8 @@ use lib.ListN.{length, take, drop, length-drop}
 use lib.Seq.{take-all}
 use Rattle.rules.specs.Tiles.{Plan}
 use Rattle.rules.specs.Image.{newest, longestImage, streamsOf, hopsOf}
-use Rattle.image.proofs.Walks.{rows-start}
 use Rattle.finding.proofs.Ids.{stored-long}
-use Rattle.closing.proofs.Less.{streams-more, hops-more, place-low, place-fits, out-done}
+use Rattle.closing.proofs.Less.{streams-more, hops-more, place-fits, out-done}
 use borrow.Author.Needs.{needs}
 use Rattle.closing.proofs.take_out.Statement.{statement}
 use Rattle.closing.proofs.take_out.Tie as tie
@@ -37,25 +36,18 @@ room c = omega arith
 
 sub-put-head : tie.Need-sub-put-head
 sub-put-head c =
-    let gone = c .before .before .before .before in
+    let gone = c .before .before .before in
     omega (arith, gone .before .before .read .ensures .streams, streams-more (gone .before .before .before .before .pre .0 .newest) (gone .rows-of .ensures))
 
 sub-put-head-2 : tie.Need-sub-put-head-2
 sub-put-head-2 c =
-    let gone = c .before .before .before .before .before .before in
+    let gone = c .before .before .before .before .before in
     omega (arith, gone .before .before .read .ensures .hops, hops-more (gone .before .before .before .before .pre .0 .newest) (gone .rows-of .ensures))
 
 put-head-requires : tie.Need-put-head-requires
 put-head-requires c κs =
-    let gone = c .before .before .before .before .before .before in
-    let a = gone .before .before .before .before in
-    let h = a .pre .0 .newest in
-    let first = rows-start (gone .before .before .read .ensures) (c .before .before .before .before .rows-start .ensures) in (
-      omega (arith, first),
-      omega (arith, first, place-low h (gone .rows-of .ensures)),
-      gone .rows-of .ensures .inside,
-      omega (arith, room (c .before .before .before .before .before), place-fits h (gone .rows-of .ensures)),
-    )
+    let long = stored-long (c .before .before .before .before .before .before .before .before .before .pre .0 .newest .lawful) in
+    (long, omega (arith, room (c .before .before .before .before)))
 
 room-left : (c : tie.After-put-head) → length (c .put-head .last .1 .0) ≡ longestImage newest
 room-left c = omega (arith, c .put-head .kept)
@@ -69,7 +61,7 @@ part-long s next = ap length (part-is s next) ∙ length-drop next s
 
 put-part-requires : tie.Need-put-part-requires
 put-part-requires c κs =
-    let gone = c .before .before .before .before .before .before .before .before .before in
+    let gone = c .before .before .before .before .before .before .before .before in
     let a = gone .before .before .before .before in
     let s : List ℕ = a .args .image .now in
     let next : ℕ = gone .rows-of .result .next in
@@ -77,22 +69,20 @@ put-part-requires c κs =
 
 add-done : tie.Need-add-done
 add-done c =
-    let gone = c .before .before .before .before .before .before .before .before .before .before in
+    let gone = c .before .before .before .before .before .before .before .before .before in
     omega (arith, place-fits (gone .before .before .before .before .pre .0 .newest) (gone .rows-of .ensures))
 
 returns : tie.Need-returns
 returns c =
     let part = c .before in
     let head = part .before .before .before in
-    let gone = head .before .before .before .before .before .before .before in
+    let gone = head .before .before .before .before .before .before in
     let a = gone .before .before .before .before in
     let s : List ℕ = a .args .image .now in
     let next : ℕ = gone .rows-of .result .next in (
       c .done .ensures .0,
-      λ mains. out-done (a .pre .0 .newest) (gone .rows-of .ensures) _ _ (streams-less gone) (hops-less gone) _ _ _ _ _
-          (rows-start (gone .before .before .read .ensures) (head .before .before .before .before .before .rows-start .ensures)) (c .done .ensures .1)
-          (room (head .before .before .before .before .before .before))
-          (head .put-head .ensures) (part-is s next) (part .put-part .ensures),
+      λ mains. out-done (a .pre .0 .newest) (gone .rows-of .ensures) _ _ (streams-less gone) (hops-less gone) _ _ _ _ (c .done .ensures .1)
+          (room (head .before .before .before .before .before)) (head .put-head .ensures) (part-is s next) (part .put-part .ensures),
     )
 
 pub take-out-spec : {M : Type 1} → statement M
@@ -101,17 +91,16 @@ take-out-spec =
     (tie.spec
     (λ c κs. stored-long (c .before .pre .0 .newest .lawful))
     rows-of-requires
-    (λ c κs. search needs)
     sub-put-head
     (λ c. search needs)
     sub-put-head-2
     (λ c. search needs)
     put-head-requires
-    (λ c. fits (c .before .before .before .before .before .before .before))
-    (λ c. fits (c .before .before .before .before .before .before .before))
+    (λ c. fits (c .before .before .before .before .before .before))
+    (λ c. fits (c .before .before .before .before .before .before))
     (λ c. search needs)
     put-part-requires
-    (λ c. fits (c .before .before .before .before .before .before .before .before .before .before))
+    (λ c. fits (c .before .before .before .before .before .before .before .before .before))
     add-done
     (λ c κs. search needs)
     returns)

@@ -1,13 +1,11 @@
 -- The front of an image is written part by part.
 use borrow.Author.Needs.{needs}
 use native.Mathlib.Omega.{arith}
-use mathlib.Core.Path.{sym, ap, _∙_}
-use mathlib.Core.List.{List}
-use Prim.Native.Nat.{ℕ, _-_, _≤_}
-use lib.ListN.{length, take, drop}
+use mathlib.Core.Path.{sym}
+use Prim.Native.Nat.{_≤_}
+use lib.ListN.{length}
 use lib.Seq.{length-take-le}
 use Rattle.rules.specs.Image.{headerLength}
-use Rattle.writer.specs.Over.{over}
 use Rattle.writer.proofs.Laws.{head-written}
 use Rattle.writer.proofs.put_head.Statement.{statement}
 use Rattle.writer.proofs.put_head.Tie as tie
@@ -23,16 +21,12 @@ put-part-requires c κs = let a = c .before .before .before .before in omega (ar
 
 returns : tie.Need-returns
 returns c =
-    let last = c .before .before in
-    let rest = last .before .before .before .before .before in
+    let rest = c .before .before in
     let hops = rest .before .before .before .before .before in
     let streams = hops .before .before .before .before in
     let front = streams .before .before .before .before in
     let a = front .before .before .before .before .before in
-    let s : List ℕ = a .args .image .now in
-    last .put-part3 .ensures
-    ∙ ap (λ (o : List ℕ). over o (a .args .start) (take (a .args .to - a .args .start) (drop (a .args .start) s)))
-    (head-written _ _ _ _ _ s headerLength _ _ (omega (arith, a .pre)) (front .put-part .ensures) (streams .put .ensures) (hops .put-word .ensures) (rest .put-part2 .ensures))
+    head-written _ _ _ _ _ (a .args .image .now) headerLength _ _ (omega (arith, a .pre)) (front .put-part .ensures) (streams .put .ensures) (hops .put-word .ensures) (rest .put-part2 .ensures)
 
 pub put-head-spec : {M : Type 1} → statement M
 put-head-spec =
@@ -41,10 +35,6 @@ put-head-spec =
     slice-aggregate-put-part
     put-part-requires
     (λ c κs. search needs)
-    (λ c κs. search needs)
-    (λ c. search needs)
-    (λ c. search needs)
-    (λ c. search needs)
     (λ c κs. search needs)
     (λ c. search needs)
     (λ c. search needs)

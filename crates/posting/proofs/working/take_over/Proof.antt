@@ -1,4 +1,4 @@
--- The header is put in, and the rows where they start.
+-- The header is put in, and what stands from the place on.
 use native.Mathlib.Omega.{arith}
 use borrow.Author.Needs.{needs}
 use mathlib.Core.Path.{sym, ap₂, _∙_}
@@ -26,18 +26,18 @@ put-part-requires-2 : tie.Need-put-part-requires-2
 put-part-requires-2 c κs =
     let a = c .before .before .before .before .before .before .before .before .before in
     let next : List ℕ = a .args .next .now in
-    let start : ℕ = a .args .start in
-    let rows = length-take-le (length next - start) (drop start next) (omega (arith, length-drop start next)) in
+    let at : ℕ = a .args .at in
+    let rows = length-take-le (length next - at) (drop at next) (omega (arith, length-drop at next)) in
     omega (arith, a .pre, rows, c .before .before .before .before .put-part .kept .1 .0)
 
 returns : tie.Need-returns
 returns c =
     let a = c .before .before .before .before .before .before .before .before .before .before .before .before in
     let next : List ℕ = a .args .next .now in
-    let start : ℕ = a .args .start in
+    let at : ℕ = a .args .at in
     c .before .before .put-part2 .ensures
-    ∙ ap₂ (λ (book part : List ℕ). over book start part) (c .before .before .before .before .before .before .before .put-part .ensures)
-    (take-all (length next - start) (drop start next) (omega (arith, length-drop start next)))
+    ∙ ap₂ (λ (book part : List ℕ). over book at part) (c .before .before .before .before .before .before .before .put-part .ensures)
+    (take-all (length next - at) (drop at next) (omega (arith, length-drop at next)))
 
 pub take-over-spec : {M : Type 1} → statement M
 take-over-spec =

@@ -1,35 +1,29 @@
 -- The image after the request is laid out beside the book, and takes its place where it was done.
-use mathlib.Core.Path.{_≡_, sym}
+use mathlib.Core.Path.{_≡_, sym, subst}
+use mathlib.Core.List.{List}
+use Prim.Native.Nat.{ℕ}
 use native.Mathlib.Omega.{arith}
-use lib.ListN.{length, take}
+use lib.ListN.{length, take, drop}
 use lib.Seq.{length-take-le}
 use Rattle.rules.specs.Words.{TwoBytes}
-use Rattle.rules.specs.Image.{rowsPlace}
-use Rattle.image.proofs.Walks.{rows-start}
-use Rattle.finding.proofs.Ids.{stored-long}
-use Rattle.posting.proofs.Steps.{small-id, size-most, starts, work-refused, work-done}
+use Rattle.rules.specs.Image.{headerLength}
+use Rattle.writer.specs.Over.{over}
+use Rattle.posting.proofs.Steps.{small-id, size-most, inside, work-refused, work-done}
 use borrow.Author.Needs.{needs}
 use Rattle.posting.proofs.working.work.Statement.{statement}
 use Rattle.posting.proofs.working.work.Tie as tie
 
-slice-reshare-prefix-serve : tie.Need-slice-reshare-prefix-serve
-slice-reshare-prefix-serve c = c .before .before .before .before .pre .fits
-
 slice-aggregate-serve : tie.Need-slice-aggregate-serve
-slice-aggregate-serve c = sym (length-take-le _ _ (c .before .before .before .before .before .pre .fits))
+slice-aggregate-serve c = sym (length-take-le _ _ (c .before .before .before .before .pre .fits))
 
 serve-requires : tie.Need-serve-requires
-serve-requires c κs = c .before .before .before .before .before .before .before .pre .image
-
--- where the rows start
-start-is : (c : tie.After-rows-start) → let a = c .before .before .before .before .args in c .rows-start .result ≡ rowsPlace (take (a .length) (a .book .now))
-start-is c = rows-start (c .before .read .ensures) (c .rows-start .ensures)
+serve-requires c κs = (c .before .before .before .before .before .before .pre .image, c .before .before .before .find .ensures)
 
 array-share-prefix-next : tie.Need-array-share-prefix-next
-array-share-prefix-next c = c .before .before .before .serve .ensures .done (c .before .if1 .taken) .laid .fits
+array-share-prefix-next c = c .before .before .before .before .serve .ensures .done (c .before .before .if1 .taken) .laid .fits
 
 slice-aggregate-take-over : tie.Need-slice-aggregate-take-over
-slice-aggregate-take-over c = sym (length-take-le _ _ (c .before .before .before .before .serve .ensures .done (c .before .before .if1 .taken) .laid .fits))
+slice-aggregate-take-over c = sym (length-take-le _ _ (c .before .before .before .before .before .serve .ensures .done (c .before .before .before .if1 .taken) .laid .fits))
 
 -- the id of a record has 2 bytes
 small : (c : tie.Start) → TwoBytes (c .args .q .id)
@@ -37,26 +31,28 @@ small c = search needs
 
 take-over-requires : tie.Need-take-over-requires
 take-over-requires c κs =
-    let first = c .before .before .before .before .before .before .before .before in
-    let start = first .before .before .before .before in
-    let serve = c .before .before .before .before .serve in
-    let done = c .before .before .if1 .taken in
+    let start = c .before .before .before .before .before .before .before .before .before .before .before .before in
+    let serve = c .before .before .before .before .before .serve in
+    let done = c .before .before .before .if1 .taken in
     let id = small-id (start .args .q) (small start) in
     let most = size-most (start .pre) (serve .ensures) id done in
-    let inside = starts (start .pre) (serve .ensures) id done (start-is first) in
-    let long = length-take-le (serve .result .length) (serve .last .1 .1 .1 .1 .0) (serve .ensures .done done .laid .fits) in
-    (inside .0, omega (arith, inside .2, long), omega (arith, long, most, start .pre .room))
+    let within = inside (start .pre) (serve .ensures) id done in
+    let long = length-take-le (serve .result .length) (serve .last .1 .1 .1 .1 .1 .0) (serve .ensures .done done .laid .fits) in
+    let place = c .before .place .ensures in
+    (omega (arith, place, within .0), omega (arith, place, within .2, long), omega (arith, long, most, start .pre .room))
 
 returns : tie.Need-returns
 returns c =
-    let first = c .before .before .before .before .before .before .before .before .before .before .before in
-    let start = first .before .before .before .before in
-    let over = c .before .before .take-over in
-    work-done (start .pre) (c .before .before .before .before .before .before .before .serve .ensures) (small-id (start .args .q) (small start))
-    (c .before .before .before .before .before .if1 .taken) (start-is first) (over .ensures) (over .kept .0)
+    let start = c .before .before .before .before .before .before .before .before .before .before .before .before .before .before .before in
+    let serve = c .before .before .before .before .before .before .before .before .serve in
+    let taken = c .before .before .take-over in
+    let next : List ℕ = take (serve .result .length) (serve .last .1 .1 .1 .1 .1 .0) in
+    let buffer : List ℕ = start .args .book .now in
+    work-done (start .pre) (serve .ensures) (small-id (start .args .q) (small start)) (c .before .before .before .before .before .before .if1 .taken)
+    (subst (λ (at : ℕ). taken .last .0 ≡ over (over buffer 0 (take headerLength next)) at (drop at next)) (c .before .before .before .before .place .ensures) (taken .ensures)) (taken .kept .0)
 
 returns-2 : tie.Need-returns-2
-returns-2 c = work-refused (c .before .before .before .before .before .before .before .before .before .before .pre) (c .before .before .serve .ensures) (c .if1 .left)
+returns-2 c = work-refused (c .before .before .before .before .before .before .before .before .before .pre) (c .before .before .serve .ensures) (c .if1 .left)
 
 pub work-spec : {M : Type 1} → statement M
 work-spec =
@@ -64,11 +60,11 @@ work-spec =
     (tie.spec
     (λ c. c .before .pre .fits)
     (λ c. sym (length-take-le _ _ (c .before .before .pre .fits)))
-    (λ c κs. stored-long (c .before .before .pre .image .newest .lawful))
-    (λ c κs. search needs)
-    slice-reshare-prefix-serve
+    (λ c κs. c .before .before .pre .image .newest .lawful)
+    (λ c. c .before .before .before .pre .fits)
     slice-aggregate-serve
     serve-requires
+    (λ c κs. search needs)
     array-share-prefix-next
     slice-aggregate-take-over
     take-over-requires
