@@ -40,6 +40,8 @@ const MACHINE_AT: usize = 18;
 const X86_64: [u8; 2] = [62, 0];
 /// What runs such a program on another processor.
 const EMULATOR: &str = "qemu-x86_64";
+/// The plainest processor that it has, under which it starts soonest and moves bytes fastest.
+const EMULATED: [&str; 2] = ["-cpu", "qemu64"];
 const LOADER: &str = "ld-linux-x86-64.so.2";
 
 /// A program that runs, with the pipes to it and from it.
@@ -111,7 +113,8 @@ impl Program {
             .ok_or_else(|| self.wrong(format!("does not run here: {EMULATOR} is not there")))?;
         let library = tools.join("lib");
         let mut command = Command::new(tools.join("bin").join(EMULATOR));
-        command.arg(library.join(LOADER)).arg("--library-path").arg(library).arg(program);
+        command.args(EMULATED).arg(library.join(LOADER));
+        command.arg("--library-path").arg(library).arg(program);
         Ok(command)
     }
 

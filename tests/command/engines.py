@@ -2,6 +2,7 @@
 import os
 import shutil
 import subprocess
+import sys
 
 import tool
 from tool import check
@@ -9,8 +10,7 @@ from tool import check
 # Answers each call with what the mode says; a call's room stands in bytes 16 and 17, its bytes in 14 and 15, those of its
 # hearing in 38 and 39, those of its records, which have 11 each, of the accounts of a new book or of tables in 40 and 41, and the words
 # of its index, or the 65,536s of tables, in 42 and 43. The index is that of the book which a call leaves, out of a file beside new.image or beside the engine.
-FAKE = r'''#!/usr/bin/env python3
-import os, sys
+FAKE = "#!%s -IS\n" % sys.executable + r'''import os, sys
 INDEXES = ("indexnone", "indexkept", "indexturned", "indexbefore", "indexonce", "indexbit", "indexwithout", "indexrefused", "indexagain")
 mode = sys.argv[0].rsplit("-", 1)[1]
 read, write = sys.stdin.buffer.read, sys.stdout.buffer

@@ -9,7 +9,7 @@ from concurrent.futures import ThreadPoolExecutor
 import tool
 
 # The longest first; waits does little else than wait.
-SUBJECTS = ["waits", "cuts", "chance", "differences", "postings", "statements", "salvages", "names", "outputs", "pages", "reading", "plans", "engines", "answers", "versions", "hearing", "mains", "accounts", "adoptions", "documents", "clerks", "changes"]
+SUBJECTS = ["waits", "engines", "statements", "outputs", "salvages", "cuts", "postings", "accounts", "chance", "answers", "adoptions", "documents", "names", "mains", "differences", "pages", "plans", "versions", "clerks", "reading", "hearing", "changes"]
 AT_ONCE = 4
 
 

@@ -8,6 +8,9 @@ import subprocess
 import tool
 from tool import check
 
+# What these print for a person has at most 80 columns.
+DRAWN = ("show", "balance", "table", "diff")
+
 
 def hold(room, file):
     """Runs the command of a stored case in a folder of its own."""
@@ -25,7 +28,8 @@ def hold(room, file):
         leaves = "".join("leaves %s: %s\n" % (name, hashlib.sha256(own.get(name)).hexdigest()) for name in changed)
         got = "$ lindurask %s\n%s%sexit status %d\n" % (" ".join(words), out, leaves, said.status)
         others = [name for name in own.names() if name not in there + ["made.book"]]
-        return file, got == stored and said.err == "" and others == [], got, said.err
+        narrow = words[0] not in DRAWN or {"--json", "--raw"} & set(words) or max(map(len, said.out.split("\n"))) <= 80
+        return file, got == stored and said.err == "" and others == [] and narrow, got, said.err
 
 
 def colours(room):
@@ -72,8 +76,4 @@ def test(room):
     check(sorted(worked_out) == files, "the stored cases are not those that are worked out")
     for file in files:
         check(open(os.path.join(tool.STORED, file)).read() == worked_out.get(file), "%s is not what is worked out" % file)
-    for name in tool.SAMPLES:
-        for words in [["show"], ["show", "--no-lists"], ["balance"], ["table"], ["diff", "yard.book"]]:
-            wide = max(map(len, room.run(words[0], name + ".book", *words[1:]).out.split("\n")))
-            check(wide <= 80, "%s %s has %d columns" % (words, name, wide))
     colours(room)

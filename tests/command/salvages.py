@@ -11,25 +11,29 @@ from tool import check, refusal, work_out
 VARIABLE = "LINDURASK_SALVAGE"
 USAGE = "usage: lindurask salvage BAD NEW [--raw] [--json]\n"
 SITES, IMAGES = 10, 12
+# The ways to say what is salvaged: for a person, line by line, and for programs.
+WAYS = [(work_out.salvage, []), (work_out.salvage_raw, ["--raw"]), (work_out.salvage_json, ["--json"])]
 
 
-def hold(room, what, image):
-    """Salvages an image: what is said in each way, what is made, and that the engine calls it lawful. Gives the reasons."""
+def hold(room, what, image, ways=WAYS):
+    """Salvages an image: what is said in each of these ways, what is made, and that the engine calls it lawful. Gives the reasons."""
     room.put("bad.book", image)
     got = work_out.salvaged(image)
     if isinstance(got, int):
-        room.says(1, "refused %s (bad.book)\n" % refusal(got), "salvage", "bad.book", "new.book")
-        room.says(1, "refused %d\n" % got, "salvage", "bad.book", "new.book", "--raw")
+        told = {"": "refused %s (bad.book)\n" % refusal(got), "--raw": "refused %d\n" % got, "--json": work_out.in_json({"refused": got, "words": work_out.WORDS[got], "about": "bad.book"})}
+        for _, more in ways:
+            room.says(1, told["".join(more)], "salvage", "bad.book", "new.book", *more)
         check("new.book" not in room.names() and room.get("bad.book") == image, "%s: something was made of a book that is refused" % what)
         return {"refused": got}
     told, lost, book = got
     status = int(not work_out.is_whole(image))
-    for said, more in [(work_out.salvage(image), []), (work_out.salvage_raw(image), ["--raw"]), (work_out.salvage_json(image), ["--json"])]:
-        room.says(status, said, "salvage", "bad.book", "new.book", *more)
+    for in_words, more in ways:
+        said = room.says(status, in_words(image), "salvage", "bad.book", "new.book", *more)
         check(room.get("new.book") == book.image(), "%s: another book was made" % what)
-        check(more != [] or max(map(len, said.split("\n"))) <= 80, "%s is wider than 80 columns" % what)
-        room.says(0, "lawful: " + work_out.counts(book), "check", "new.book")
-        os.remove(room.at("new.book"))
+        check(more != [] or max(map(len, said.out.split("\n"))) <= 80, "%s is wider than 80 columns" % what)
+        os.rename(room.at("new.book"), room.at("made.book"))
+    room.says(0, "lawful: " + work_out.counts(book), "check", "made.book")
+    os.remove(room.at("made.book"))
     check(room.get("bad.book") == image, "%s: the damaged book was changed" % what)
     return {reason for _, reason in told} | ({"lost"} if lost else set())
 
@@ -68,12 +72,13 @@ def damaged(dice, one, other):
 
 
 def site(turn):
-    """Images by chance; gives what became of their rows."""
+    """Images by chance, each said in one way; gives what became of their rows."""
     dice, seen = random.Random(chance.SEED * 1000 + turn), set()
     with tool.Room() as room:
         for place in range(IMAGES):
             image = damaged(dice, grown(dice), grown(dice))
-            seen |= {str(one) for one in hold(room, "image %d of site %d" % (place, turn), image)}
+            way = WAYS[place % len(WAYS)]
+            seen |= {str(one) for one in hold(room, "image %d of site %d" % (place, turn), image, [way])}
     return seen
 
 
@@ -110,6 +115,10 @@ def full(room):
     more = work_out.cut(line.but(ways=long[34:]).image())[0][0]
     seen = hold(room, "more hops than a book holds", image[:-len(work_out.cut(image)[0][-1])] + more + work_out.cut(image)[0][-1])
     check(seen == {0, 8}, "more hops than a book holds: %s" % seen)
+    # A row of 16 hops, one more than a route has, cannot be cut out.
+    over = (36).to_bytes(2, "big") + b"\1" + (1000).to_bytes(2, "big") + bytes([16, *range(17)]) + b"".join(offset.to_bytes(2, "big") for offset in range(16)) + bytes(2)
+    seen = hold(room, "a row of 16 hops", line.but(ways=long[:1]).image() + over)
+    check(seen == {0, "lost"}, "a row of 16 hops: %s" % seen)
     tiny = b"\0\1\1\0\1\1\0\1\0\0"
     for length in [4096, 4097, 16384, 65535]:
         image = head + tiny * ((length - len(head)) // len(tiny))
