@@ -1,6 +1,6 @@
 -- What is left of each account while rows draw from them.
 use mathlib.Core.Path.{_≡_, refl, sym, ap, _∙_, subst}
-use mathlib.Core.Logic.{_⊎_, inl, inr, ⊎-elim}
+use mathlib.Core.Logic.{_⊎_, ⊎-elim}
 use mathlib.Core.Bool.{Bool, false, true, cond}
 use mathlib.Core.List.{List, [], _∷_, _++_}
 use Prim.Native.Nat.{ℕ, _+_, _-_, _<_, _≤_}
@@ -11,9 +11,9 @@ use borrow.Author.Tests.{eqb-true, eq-eqb}
 use lib.Dec.{eqb, leb}
 use lib.ListN.{length, getD, set, length-set}
 use lib.Seq.{getD-set-same, getD-set-other}
-use Rattle.rules.specs.Words.{_∈_, Pairwise, total, Tests}
+use Rattle.rules.specs.Words.{Tests}
 use Rattle.rules.specs.Book.{Account, Row, draws, drawn, Paid, AccountsInRange}
-use Rattle.rules.proofs.Tests.{alike, tests-le, never}
+use Rattle.rules.proofs.Tests.{alike, tests-le}
 use Rattle.rules.proofs.Lists.{total-append}
 use Rattle.rules.specs.Image.{accountsOf}
 use Rattle.image.specs.Places.{rowAt}

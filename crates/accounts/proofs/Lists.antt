@@ -7,7 +7,7 @@ use Prim.Native.Nat.{ℕ, zero, suc, _+_, _*_, _-_, _<_, _≤_}
 use native.Mathlib.Numerals.{unary-clauses}
 use native.Mathlib.Omega.{arith}
 use lib.Dec.{ltb}
-use lib.ListN.{length, getD}
+use lib.ListN.{length}
 use Rattle.rules.specs.Words.{TwoBytes, FourBytes, _∈_, Pairwise, Tests}
 use Rattle.rules.specs.Book.{Account, mostAccounts, AccountsInRange}
 use Rattle.rules.specs.Image.{hasAccounts, oldAccounts, headerLength, linksStart, wordAt, word32At, accountsAt, versionOf, accountCountOf, accountsOf, linksPlace}

@@ -8,7 +8,7 @@ use lib.ListN.{length, drop, length-append, length-drop}
 use Rattle.rules.specs.Words.{_∈_, Reordered}
 use Rattle.rules.specs.Words.Reordered.{put}
 use Rattle.rules.specs.Book.{Row, Book, key, RisingByKey, hopsInAll, mostStreams, mostHops, Plus}
-use Rattle.rules.specs.Image.{newest, headerLength, linksStart, linksPlace, rowsStart, rowLength, longestImage, versionOf}
+use Rattle.rules.specs.Image.{newest, headerLength, linksStart, linksPlace, rowsStart, rowLength, longestImage}
 use Rattle.rules.specs.Image.{nodesOf, streamsOf, hopsOf, accountCountOf, accountsOf, rowsPlace, inTurn, encodeRow, encode}
 use Rattle.rules.proofs.Written.{length-sets-at}
 use Rattle.rules.proofs.Lists.{reordered-same, in-left, in-right, in-append}

@@ -1,7 +1,7 @@
 -- Rows that are put into the image of a book in the newest version.
 use mathlib.Core.Path.{_≡_}
 use mathlib.Core.List.{List}
-use Prim.Native.Nat.{ℕ, _+_, _<_, _≤_}
+use Prim.Native.Nat.{ℕ, _+_, _≤_}
 use lib.ListN.{length}
 use Rattle.rules.specs.Words.{_∈_}
 use Rattle.rules.specs.Topology.{mostRouteHops}

@@ -1,7 +1,7 @@
 -- A node's part of the tables and the table that its book expands to.
-use mathlib.Core.Path.{_≡_, refl, sym, ap, ap₂, _∙_, subst}
+use mathlib.Core.Path.{_≡_, sym, ap, ap₂, _∙_, subst}
 use mathlib.Core.Bool.{Bool, false}
-use mathlib.Core.List.{List, _++_}
+use mathlib.Core.List.{List}
 use Prim.Native.Nat.{ℕ, _+_, _*_, _-_, _<_, _≤_}
 use native.Mathlib.Nat.{mul-le-mul, le-refl}
 use native.Mathlib.Omega.{arith}
@@ -11,7 +11,6 @@ use Rattle.rules.specs.Words.{Tests}
 use Rattle.rules.specs.Tiles.{Plan, PlanInRange, shortTiles}
 use Rattle.rules.specs.Periods.{thePlan}
 use Rattle.rules.specs.Image.{headerLength, planOf, nodesOf, imageRefusals}
-use Rattle.rules.specs.Says.{Says}
 use Rattle.rules.specs.Table.{tableLength, TablePart}
 use Rattle.rules.specs.Tables.{entriesOf, tableAt}
 use Rattle.rules.proofs.Tests.{alike, said-no}

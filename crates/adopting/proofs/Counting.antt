@@ -1,7 +1,7 @@
 -- Over 64 different pairs are shown exactly if over 64 different keys were found.
 use mathlib.Core.Path.{_≡_, refl, sym, subst}
 use mathlib.Core.Logic.{inl, inr}
-use mathlib.Core.Bool.{false, true}
+use mathlib.Core.Bool.{false}
 use mathlib.Core.List.{List, [], _∷_}
 use Prim.Native.Nat.{ℕ, suc, _*_, _<_, _≤_}
 use native.Mathlib.Decide.{decLt}
@@ -13,7 +13,7 @@ use Rattle.rules.specs.Words.With.{here, there}
 use Rattle.rules.specs.Tiles.{Plan, shortTiles}
 use Rattle.rules.specs.Book.{mostStreams}
 use Rattle.rules.specs.Tables.{TooMany}
-use Rattle.rules.proofs.Tests.{never, alike, tests-lt}
+use Rattle.rules.proofs.Tests.{never, tests-lt}
 use Rattle.entries.specs.Keys.{Collected}
 use Rattle.drafting.proofs.Image.{over-many}
 

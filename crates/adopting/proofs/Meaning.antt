@@ -1,7 +1,6 @@
 -- The draft is sound and complete: where its image expands to the tables it is their book, and where they have one it is the draft.
 use mathlib.Core.Path.{_≡_, refl, sym, ap, ap₂, _∙_, subst, subst₂}
-use mathlib.Core.Logic.{inl, inr}
-use mathlib.Core.List.{List, [], _∷_, _++_}
+use mathlib.Core.List.{List}
 use Prim.Native.Nat.{ℕ, _+_, _*_, _<_, _≤_}
 use native.Mathlib.Omega.{arith}
 use lib.ListN.{length, take, drop}
@@ -25,7 +24,7 @@ use Rattle.image.proofs.Stands.{stored-rows}
 use Rattle.answers.specs.Reply.{Reply}
 use Rattle.answers.proofs.Replies.{reply-refused, reply-next, reply-done}
 use Rattle.drafting.specs.Drafts.{DraftPut, Drafted, drafted}
-use Rattle.adopting.specs.Expanded.{SameAt, Expanded, Adopts}
+use Rattle.adopting.specs.Expanded.{Expanded, Adopts}
 
 lawful-image : (b : Book) → LawfulBook b → LawfulImage (encode newest b)
 lawful-image b l =

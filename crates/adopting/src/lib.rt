@@ -1,6 +1,6 @@
 // Checks another planner's tables: whether some lawful book with periods up to 100 expands to exactly these, and which.
 ghost use mathlib.Core.Path.{_≡_};
-ghost use Prim.Native.Nat.{ℕ, _*_, _<_, _≤_};
+ghost use Prim.Native.Nat.{ℕ, _*_, _<_};
 ghost use lib.ListN.{length};
 ghost use Rattle.rules.specs.Words.{Tests};
 ghost use Rattle.rules.specs.Tiles.{PlanInRange};

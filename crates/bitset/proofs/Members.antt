@@ -1,18 +1,17 @@
 -- A set is known by its members, and a walk over them from the lowest on meets each.
-use mathlib.Core.Path.{_≡_, refl, sym, _∙_, subst}
+use mathlib.Core.Path.{_≡_, sym, _∙_, subst}
 use mathlib.Core.Logic.{_⊎_, inl, inr, ⊎-elim}
-use Prim.Native.Nat.{ℕ, zero, suc, _/_, _-_, _%_, _^_, _<_}
+use Prim.Native.Nat.{ℕ, zero, suc, _/_, _-_, _^_, _<_}
 use native.Mathlib.Nat.{pow-suc}
 use native.Mathlib.Decide.{ℕ-discrete, decLt}
 use native.Mathlib.Omega.{arith}
-use lib.Arith.{lt-one}
 use lib.Bits.{and-le-l, and-le-r}
 use lib.Pow.{pow-pos}
-use Rattle.rules.specs.Words.{bit, Has, NoBitFrom}
+use Rattle.rules.specs.Words.{Has, NoBitFrom}
 use Rattle.rules.proofs.Sets.{bit-suc, zero-none, same-members}
 pub use Rattle.rules.proofs.Sets.{set-unique}
 use Rattle.bitset.specs.Sets.{SetOf, Lowest}
-use Rattle.bitset.proofs.Bits.{bit-lt, within, lowest-law, rest-law, difference-law}
+use Rattle.bitset.proofs.Bits.{within, lowest-law, rest-law, difference-law}
 
 -- a set is 0 exactly if it has no member
 pub none-zero : (n : ℕ) → NoBitFrom 64 n → ((k : ℕ) → k < 64 → Has n k → ⊥) → n ≡ 0

@@ -2,13 +2,13 @@
 use mathlib.Core.Path.{_≡_, refl, sym, ap, _∙_, subst}
 use mathlib.Core.Bool.{Bool, false, cond}
 use mathlib.Core.List.{List, [], _∷_, _++_, append-assoc, append-nil}
-use Prim.Native.Nat.{ℕ, _+_, _*_, _-_, _<_, _≤_}
+use Prim.Native.Nat.{ℕ, _+_, _*_, _-_, _≤_}
 use native.Mathlib.Omega.{arith}
 use lib.ListN.{length, getD, take, drop, length-append, length-drop}
 use lib.Seq.{getD-drop, take-at}
 use Rattle.rules.specs.Book.{Row, hops}
 use Rattle.rules.specs.Topology.{mostRouteHops}
-use Rattle.rules.specs.Image.{hasWays, hasAccounts, hopsPlace, rowLength, encodeRow, wordAt, versionOf}
+use Rattle.rules.specs.Image.{hasWays, hasAccounts, hopsPlace, encodeRow, wordAt, versionOf}
 use Rattle.rules.specs.Salvage.{Cuttable, Cut, CutAll}
 use Rattle.rules.proofs.Encoding.{hopsIn, length-row}
 use Rattle.rules.proofs.Written.{Bytes}

@@ -1,5 +1,4 @@
 // Answers framed calls: reads them on standard input, and writes the answers on standard output.
-ghost use mathlib.Core.Path.{_≡_};
 ghost use Prim.Native.Nat.{_≤_};
 ghost use lib.ListN.{length};
 ghost use Rattle.frames.specs.Lengths.{headLength, mostWords, mostPart};

@@ -1,6 +1,5 @@
 -- Entries tile by tile are entries through all the tables: the kinds of the tiles come round with every node.
 use mathlib.Core.Path.{_≡_, refl, sym, ap, ap₂, _∙_, subst, subst₂}
-use mathlib.Core.Logic.{_⊎_, inl, inr, ⊎-elim}
 use mathlib.Core.Bool.{Bool, true, false, cond}
 use mathlib.Core.List.{List}
 use Prim.Native.Nat.{ℕ, _+_, _*_, _/_, _%_, _<_, _≤_}
@@ -9,8 +8,8 @@ use native.Mathlib.Omega.{arith}
 use lib.Dec.{ltb, eqb}
 use lib.ListN.{length}
 use Rattle.rules.specs.Words.{bit, Tests}
-use Rattle.rules.specs.Tiles.{Plan, PlanInRange, shortTiles, slotsOf, controlSlots, Control, Data}
-use Rattle.rules.specs.Tables.{entriesOf, operationAt, idAt, OfStream, IsEntry, TablesOfEntries}
+use Rattle.rules.specs.Tiles.{Plan, PlanInRange, shortTiles, slotsOf, controlSlots, Data}
+use Rattle.rules.specs.Tables.{entriesOf, operationAt, idAt, IsEntry, TablesOfEntries}
 use Rattle.rules.specs.Tables.IsEntry.{sleep, works, control}
 use Rattle.rules.proofs.Tests.{never, alike, tests-lt}
 use Rattle.rules.proofs.Cycle.{kinds-round}

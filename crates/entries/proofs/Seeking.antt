@@ -1,7 +1,7 @@
 -- Entries looked at one after the other, up to the first that is sought.
 use mathlib.Core.Path.{_≡_, refl, sym, ap, _∙_, subst}
 use mathlib.Core.Logic.{_⊎_, inl, inr, ⊎-elim}
-use mathlib.Core.Bool.{Bool, true, false, _||_}
+use mathlib.Core.Bool.{Bool, true, false}
 use mathlib.Core.List.{List}
 use Prim.Native.Nat.{ℕ, _+_, _*_, _<_, _≤_}
 use native.Mathlib.Decide.{decLt}
@@ -10,7 +10,7 @@ use native.Mathlib.Omega.{arith}
 use Rattle.rules.specs.Words.{Tests}
 use Rattle.rules.specs.Table.{onWay}
 use Rattle.rules.proofs.Seen.{Has, Next}
-use Rattle.rules.proofs.Tests.{said-yes, fails}
+use Rattle.rules.proofs.Tests.{fails}
 use Rattle.entries.specs.Entries.{Receives, Receiver}
 
 -- none from one on, before another, has the operation and the id

@@ -2,12 +2,11 @@
 use mathlib.Core.Path.{_≡_, refl, sym, ap, _∙_, subst, subst₂}
 use mathlib.Core.Logic.{_⊎_, inl, inr, ⊎-elim}
 use mathlib.Core.Bool.{Bool, true, false}
-use Prim.Native.Nat.{ℕ, _+_, _-_, _<_, _≤_}
+use Prim.Native.Nat.{ℕ, _+_, _-_, _≤_}
 use native.Mathlib.Omega.{arith}
 use Rattle.rules.specs.Words.{Tests}
 use Rattle.rules.specs.Table.{onWay}
 use Rattle.rules.specs.Tables.{OfStream}
-use Rattle.rules.proofs.Tests.{said-yes, said-no}
 use Rattle.entries.specs.Entries.{WayOf, EntryIn}
 use Rattle.entries.specs.Entries.EntryIn.{control, sleep, works}
 

@@ -10,7 +10,7 @@ use lib.ListN.{length, getD, drop, length-append, length-drop}
 use lib.Seq.{getD-drop, drop-drop}
 use Rattle.rules.specs.Words.{_∈_}
 use Rattle.rules.specs.Book.{Row, hops, hopsInAll}
-use Rattle.rules.specs.Image.{hasHearing, RowFits, linksStart, hopsPlace, rowLength, imageLength, inTurn, encodeRow, versionOf, nodesOf, streamsOf, accountCountOf, accountsOf, linksPlace, rowsPlace}
+use Rattle.rules.specs.Image.{hasHearing, RowFits, hopsPlace, rowLength, imageLength, inTurn, encodeRow, versionOf, nodesOf, streamsOf, accountCountOf, linksPlace, rowsPlace}
 use Rattle.rules.specs.Image.{RowsOf}
 use Rattle.rules.proofs.Encoding.{hopsIn, frontRow, Sized, AllSized, AllFit, row-back, hops-in, length-row, left-over, lawful-sized, rows-of, length-encode}
 use Rattle.rules.proofs.Lists.{in-right}

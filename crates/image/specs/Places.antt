@@ -6,7 +6,7 @@ use Prim.Native.Nat.{ℕ, zero, suc, _+_, _*_, _≤_, _-_}
 use lib.ListN.{length, getD, take, drop, replicate}
 use Rattle.rules.specs.Words.{_∈_}
 use Rattle.rules.specs.Book.{Row, LawfulRow}
-use Rattle.rules.specs.Image.{hasHearing, headerLength, linksStart, hopsPlace, rowLength, inTurn, encodeRow, setsAt, versionOf, siteOf, rowsPlace}
+use Rattle.rules.specs.Image.{hasHearing, headerLength, linksStart, hopsPlace, rowLength, inTurn, encodeRow, setsAt, versionOf, siteOf}
 use Rattle.rules.proofs.Encoding.{frontRow}
 use Rattle.rules.proofs.Reading.{rowsIn, LawfulImage}
 

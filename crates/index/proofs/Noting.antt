@@ -1,5 +1,5 @@
 -- The word behind the slots, which is 0 only where no period over 100 was noted.
-use mathlib.Core.Path.{_≡_, refl, sym, _∙_}
+use mathlib.Core.Path.{_≡_, refl}
 use mathlib.Core.Bool.{false, not}
 use mathlib.Core.List.{List}
 use Prim.Native.Nat.{ℕ, _*_, _+_, _<_, _≤_}

@@ -11,7 +11,7 @@ use lib.ListN.{length, getD, set}
 use lib.Seq.{getD-set-same, getD-set-other}
 use Rattle.rules.specs.Words.{_∈_, Tests}
 use Rattle.rules.specs.Tiles.{PlanInRange, Period, shortTiles}
-use Rattle.rules.specs.Book.{Row, hops, rowHop, rowOffset, LawfulRow, RowsMeet}
+use Rattle.rules.specs.Book.{Row, rowHop, rowOffset, LawfulRow, RowsMeet}
 use Rattle.rules.specs.Image.{planOf, FieldsInRange, hearingOf, siteOf}
 use Rattle.rules.proofs.Tests.{alike, fails}
 use Rattle.clash.specs.Reach.{End, Clashes, ReachOf}

@@ -5,20 +5,18 @@ use mathlib.Core.Bool.{Bool, true, false}
 use mathlib.Core.List.{List, [], _∷_, _++_}
 use Prim.Native.Nat.{ℕ, _+_, _<_, _≤_}
 use native.Mathlib.Omega.{arith}
-use native.Mathlib.Decide.{decLt, ℕ-discrete}
+use native.Mathlib.Decide.{decLt}
 use lib.ListN.{length, getD, set, length-append, length-set}
 use lib.Seq.{getD-set-same, getD-set-other}
 use Rattle.rules.specs.Words.{_∈_}
-use Rattle.rules.specs.Says.{Says}
-use Rattle.rules.specs.Book.{Row, key, hops, hopsInAll, mostAccounts, LawfulRow, Pair, Paid, RowsMeet}
+use Rattle.rules.specs.Book.{Row, key, hops, mostAccounts, LawfulRow, Pair, Paid, RowsMeet}
 use Rattle.rules.specs.Placing.{Full}
 use Rattle.rules.specs.Image.{RowFits, versionOf, planOf, FieldsInRange, accountsOf, siteOf, bookOf}
 use Rattle.rules.specs.Salvage.{LawfulBeside, dropReasons}
 use Rattle.rules.proofs.Tests.{fails}
 use Rattle.rules.proofs.Says.{None, says-none}
-use Rattle.rules.proofs.Lists.{rising-one, total-append, in-left, in-right, in-append}
-use Rattle.rules.proofs.Saved.{Held, last-or, keep-held}
-use Rattle.index.specs.Index.{IndexOf}
+use Rattle.rules.proofs.Lists.{rising-one, total-append, in-left, in-right}
+use Rattle.rules.proofs.Saved.{last-or, keep-held}
 use Rattle.index.specs.Marks.{Adds, Notes, HopsTake}
 use Rattle.index.proofs.Rows.{index-more, index-alike}
 use Rattle.image.specs.Places.{rowAt}
@@ -30,7 +28,7 @@ use Rattle.meeting.specs.Meeting.{RowMarked}
 use Rattle.meeting.proofs.Reaching.{row-there}
 use Rattle.judging.specs.declared.Kept.{Kept}
 use Rattle.judging.specs.Placed.{placed, RowMeets, RowBeside}
-use Rattle.judging.specs.Keeping.{Beside, SomeBeside, Room, StandsBeside, ReasonFor, KeptMore, Judges}
+use Rattle.judging.specs.Keeping.{Beside, SomeBeside, Room, ReasonFor, KeptMore, Judges}
 use Rattle.judging.proofs.Holding.{each-set, found-row, row-found}
 
 -- with the row behind them the rows overdraw no account, whatever rows left so much

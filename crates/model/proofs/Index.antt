@@ -3,15 +3,14 @@ use mathlib.Core.Path.{_≡_, refl, sym, ap, _∙_, subst}
 use mathlib.Core.Logic.{inl, inr}
 use mathlib.Core.Bool.{Bool, true, false, _&&_}
 use mathlib.Core.List.{List, [], _∷_}
-use Prim.Native.Nat.{ℕ, zero, suc, _+_, _*_, _/_, _%_, _<_, _≤_}
+use Prim.Native.Nat.{ℕ, zero, suc, _+_, _*_, _/_, _<_}
 use native.Mathlib.Nat.{pow-suc, add-zero, zero-add}
-use native.Mathlib.Decide.{decLt}
 use native.Mathlib.Omega.{arith}
 use lib.Dec.{eqb, leb}
 use lib.ListN.{length, getD}
 use Rattle.rules.specs.Words.{Has, NoBitFrom, SetOf, _∈_, Tests}
-use Rattle.rules.specs.Tiles.{Takes, slotsOf, shortTiles}
-use Rattle.rules.specs.Topology.{Hop, nodes}
+use Rattle.rules.specs.Tiles.{slotsOf, shortTiles}
+use Rattle.rules.specs.Topology.{Hop}
 use Rattle.rules.specs.Book.{Row, Book, hops, rowHop, rowOffset}
 use Rattle.rules.specs.Index.{Marks, IndexOf}
 use Rattle.rules.proofs.Tests.{alike, tests-and, tests-eq, tests-le, someBelow, tests-some, tests-member}

@@ -1,5 +1,5 @@
 -- The rows of an image, each at its place, and their index.
-use mathlib.Core.Path.{_≡_, sym, _∙_, subst, subst₂}
+use mathlib.Core.Path.{_≡_, sym, subst, subst₂}
 use mathlib.Core.List.{List}
 use Prim.Native.Nat.{ℕ, zero, suc, _-_, _<_, _≤_}
 use native.Mathlib.Omega.{arith}
@@ -7,7 +7,7 @@ use Rattle.rules.specs.Words.{_∈_}
 use Rattle.rules.specs.Book.{Row}
 use Rattle.rules.specs.Image.{streamsOf, rowsPlace}
 use Rattle.rules.proofs.Reading.{rowsIn, LawfulImage}
-use Rattle.image.specs.Places.{rowsFrom, Stands}
+use Rattle.image.specs.Places.{Stands}
 use Rattle.image.proofs.Places.{rows-in}
 use Rattle.image.proofs.Hops.{node-known}
 use Rattle.image.proofs.Stands.{stored-rows, stands-start, stands-row, stands-next}

@@ -8,7 +8,7 @@ use native.Mathlib.Decide.{decLt}
 use Rattle.rules.specs.Tiles.{Period}
 use Rattle.rules.specs.Topology.{nodes}
 use Rattle.rules.specs.Placing.{Asked}
-use Rattle.rules.specs.Image.{linksPlace, versionOf, nodesOf, linksOf, siteOf}
+use Rattle.rules.specs.Image.{linksPlace, nodesOf, linksOf, siteOf}
 use Rattle.rules.specs.Calls.{askedRefusals, openRefusals, Opened}
 use Rattle.rules.specs.Calls.Request.{Open}
 use Rattle.rules.proofs.Says.{None}

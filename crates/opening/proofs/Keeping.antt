@@ -4,7 +4,7 @@ use mathlib.Core.Logic.{inl, inr}
 use mathlib.Core.List.{List, [], _∷_, _++_}
 use Prim.Native.Nat.{ℕ}
 use native.Mathlib.Omega.{arith}
-use Rattle.rules.specs.Words.{_∈_, Reordered}
+use Rattle.rules.specs.Words.{_∈_}
 use Rattle.rules.specs.Topology.{hopCount}
 use Rattle.rules.specs.Book.{Row, Plus}
 use Rattle.rules.specs.Placing.{Asked, NotPaid}

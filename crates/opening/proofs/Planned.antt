@@ -1,5 +1,5 @@
 -- The links and the hearing behind the index are the book's, and the planner's answer over the links is that of the book.
-use mathlib.Core.Path.{_≡_, refl, sym, ap, _∙_, subst, subst₂}
+use mathlib.Core.Path.{_≡_, sym, ap, _∙_, subst, subst₂}
 use mathlib.Core.List.{List}
 use Prim.Native.Nat.{ℕ, _+_, _≤_}
 use native.Mathlib.Omega.{arith}
@@ -10,7 +10,6 @@ use Rattle.rules.specs.Image.{linksPlace, nodesOf, linksOf, hearingOf}
 use Rattle.rules.specs.Placing as placing
 use Rattle.rules.proofs.Written.{length-sets-at}
 use Rattle.rules.proofs.Reading.{LawfulImage}
-use Rattle.image.specs.Header.{HeaderOf}
 use Rattle.image.specs.declared.Book as head
 use Rattle.image.proofs.Topologies.{hearing-nodes}
 use Rattle.index.specs.Index.{linksBehind, hearingBehind}

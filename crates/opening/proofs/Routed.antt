@@ -1,5 +1,5 @@
 -- Where the routes are known: the refusals that are left are those of the open, and its rows are one list.
-use mathlib.Core.Path.{_≡_, refl, sym, ap, _∙_, subst}
+use mathlib.Core.Path.{_≡_, refl, sym, _∙_, subst}
 use mathlib.Core.Logic.{_⊎_, inl, inr, ⊎-elim, _↔_}
 use mathlib.Core.Bool.{Bool, true}
 use mathlib.Core.List.{List, [], _∷_}
@@ -8,14 +8,14 @@ use native.Mathlib.Omega.{arith}
 use native.Mathlib.Decide.{decLt}
 use lib.ListN.{length}
 use Rattle.rules.specs.Words.{Tests, total}
-use Rattle.rules.specs.Says.{Refusal, _when_}
+use Rattle.rules.specs.Says.{_when_}
 use Rattle.rules.specs.Topology.{Topology, Route, NoRoute, TooFar, SecondPath, hopCount}
 use Rattle.rules.specs.Book.{Row, Book, mostStreams, mostHops, hopsInAll}
 use Rattle.rules.specs.Placing.{Asked, Planned, NoSecond, FirstPlacing, NoPlacings, Full, NewRow, beside, NewRows, NotPaid}
 use Rattle.rules.specs.Placing.Planned.{one, two}
 use Rattle.rules.specs.Image.{streamsOf, hopsOf, siteOf}
 use Rattle.rules.specs.Calls.{OfRoutes, Opened}
-use Rattle.rules.proofs.Choice.{best-unique, planned-unique, new-unique, rows-unique}
+use Rattle.rules.proofs.Choice.{best-unique, planned-unique, new-unique}
 use Rattle.rules.proofs.Cases.{route-near, route-some}
 use Rattle.rules.proofs.Tests.{never, alike}
 use Rattle.rules.proofs.Reading.{rowsIn, bookIn, LawfulImage}

@@ -5,7 +5,7 @@ use mathlib.Core.List.{List, [], _∷_}
 use Prim.Native.Nat.{ℕ, _+_, _≤_}
 use native.Mathlib.Omega.{arith}
 use lib.ListN.{take, drop}
-use Rattle.rules.specs.Topology.{hopCount, mostRouteHops, Path, Route, SecondPath, SecondRoute, mostShortHops}
+use Rattle.rules.specs.Topology.{Route, SecondPath, SecondRoute, mostShortHops}
 use Rattle.rules.specs.Placing.{Asked, Planned}
 use Rattle.rules.specs.Placing.Planned.{two}
 use Rattle.rules.specs.Image.{linksOf}
@@ -15,7 +15,7 @@ use Rattle.bitset.specs.Rows.{topology}
 use Rattle.routes.specs.Planner as routes
 use Rattle.routes.specs.declared.second.Sought.{Sought}
 use Rattle.routes.specs.Second.{SecondSays}
-use Rattle.opening.specs.Beside.{NewBeside, RouteBeside, RoutesBeside, SecondBeside}
+use Rattle.opening.specs.Beside.{RoutesBeside, SecondBeside}
 use Rattle.opening.proofs.Planned.{asked, route-on, second-says}
 
 module _ {s words : List ℕ} {mains : ℕ} {book : Book} {q : Asked} {at : ℕ} {first : List ℕ} (w : SecondBeside s words mains book q at first) {links : List ℕ}

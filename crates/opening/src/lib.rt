@@ -1,5 +1,4 @@
 // Opens a stream on the image of a lawful book in the newest version.
-ghost use mathlib.Core.Path.{_≡_};
 ghost use Rattle.rules.specs.Periods.{theAsked};
 ghost use Rattle.rules.specs.Calls.Request.{Open};
 ghost use Rattle.index.specs.Beside.{ImageBeside, Works};

@@ -1,5 +1,4 @@
 // Opens a stream on the planner's route, and on a second one where it is asked for.
-ghost use mathlib.Core.Path.{_≡_};
 ghost use mathlib.Core.List.{[], _∷_};
 ghost use mathlib.Core.Logic.{_⊎_};
 ghost use Prim.Native.Nat.{ℕ, _+_, _-_, _<_, _≤_};

@@ -10,7 +10,7 @@ use Rattle.rules.specs.Words.{NoBitFrom, _∈_}
 use Rattle.rules.specs.Says.{Refusal, _when_, Says}
 use Rattle.rules.specs.Topology.{nodes, allNodes}
 use Rattle.rules.specs.Book.{Book}
-use Rattle.rules.specs.Image.{newest, longestImage, FullSize, encode, planOf, nodesOf, Stored}
+use Rattle.rules.specs.Image.{newest, longestImage, FullSize, encode, planOf, Stored}
 use Rattle.rules.specs.Index.{indexLength, Indexed}
 use Rattle.rules.specs.Calls.{OfBook, SaysOf, Wrote, Request, mostRequests, Beyond, Work, InOrder, postRefusals, Posted, Post, Serve}
 use Rattle.rules.specs.Order.{IdInRange, current, Posting, Ample}

@@ -17,7 +17,7 @@ use Rattle.rules.specs.Index.{indexLength}
 use Rattle.rules.specs.Calls.{Request}
 use Rattle.rules.specs.Calls.Request.{Close}
 use Rattle.rules.specs.Order.{Room, Posting, InAnyOrder, Ample}
-use Rattle.rules.proofs.Tests.{tests-not, tests-eq, tests-le}
+use Rattle.rules.proofs.Tests.{tests-not, tests-le}
 use Rattle.rules.proofs.Lists.{reordered-same}
 use Rattle.rules.proofs.Mains.{all-below}
 use Rattle.model.specs.Test.{same}

@@ -1,7 +1,5 @@
 // The first placing of a route's hops beside the rows of an index, rows that it leaves out, and another route.
-ghost use mathlib.Core.Path.{_≡_};
 ghost use Prim.Native.Nat.{_*_, _<_};
-ghost use lib.ListN.{length};
 ghost use Rattle.rules.specs.Words.{Tests};
 ghost use Rattle.rules.specs.Tiles.{PlanInRange, Period};
 ghost use Rattle.rules.specs.Periods.{thePlan};

@@ -3,19 +3,19 @@ use mathlib.Core.Path.{_≡_, sym, ap, _∙_, subst, subst₂}
 use mathlib.Core.Logic.{_↔_}
 use mathlib.Core.Bool.{Bool, true, false}
 use mathlib.Core.List.{List}
-use Prim.Native.Nat.{ℕ, suc, _+_, _*_, _%_, _<_, _≤_}
+use Prim.Native.Nat.{ℕ, _+_, _*_, _%_, _<_}
 use native.Mathlib.Numerals.{add-one}
 use native.Mathlib.Decide.{decLt}
 use native.Mathlib.Omega.{arith}
 use lib.Dec.{eqb}
-use lib.ListN.{length, getD}
+use lib.ListN.{getD}
 use Rattle.rules.specs.Words.{Has, Tests}
 use Rattle.rules.specs.Tiles.{PlanInRange, Period, Meet}
-use Rattle.rules.specs.Topology.{Hop, hopAt}
+use Rattle.rules.specs.Topology.{hopAt}
 use Rattle.rules.specs.Book.{Site, Row, hops, rowHop, rowOffset, LawfulRow}
 use Rattle.rules.specs.Image.{planOf}
 use Rattle.rules.specs.declared.Node.{Node}
-use Rattle.rules.proofs.Tests.{alike, fails, never, said-no, tests-eq}
+use Rattle.rules.proofs.Tests.{alike, fails, said-no, tests-eq}
 use Rattle.rules.proofs.Meeting.{meet-rule}
 use Rattle.clash.specs.Reach.{End, nodeAt, hop}
 use Rattle.clash.specs.Reach.End.{sender, receiver}

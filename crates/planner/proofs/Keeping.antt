@@ -7,7 +7,7 @@ use Prim.Native.Nat.{ℕ}
 use native.Mathlib.Omega.{arith}
 use Rattle.rules.specs.Words.{NoBitFrom, Tests}
 use Rattle.rules.specs.Topology.{nodes}
-use Rattle.rules.specs.Image.{versionOf, linksOf}
+use Rattle.rules.specs.Image.{versionOf}
 use Rattle.rules.specs.Calls.{keepsRefusals, BookKeepsTo, Keeps}
 use Rattle.rules.proofs.Reading.{bookIn, LawfulImage}
 use Rattle.image.specs.Header.{HeaderOf}

@@ -1,12 +1,12 @@
 -- A node's links are the members of its row.
-use mathlib.Core.Path.{_≡_, refl, sym, ap, _∙_, subst}
+use mathlib.Core.Path.{_≡_, sym, ap, _∙_, subst}
 use mathlib.Core.Logic.{inl, inr}
 use mathlib.Core.List.{List}
 use Prim.Native.Nat.{ℕ, zero, suc, _+_, _*_, _<_, _≤_}
 use native.Mathlib.Omega.{arith}
 use lib.ListN.{length, getD}
 use Rattle.rules.specs.Words.{Has, Count}
-use Rattle.rules.specs.Topology.{nodes, Joined, SoundTopology}
+use Rattle.rules.specs.Topology.{nodes, SoundTopology}
 use Rattle.rules.specs.Image.{linksPlace, versionOf, nodesOf, word64At, setsAt, linksOf}
 use Rattle.rules.specs.Calls.{balanceRefusals, LinksOf, Links}
 use Rattle.rules.proofs.Counts.{count-below}

@@ -1,5 +1,4 @@
 // The C interface: the fourteen calls over bare numbers.
-ghost use mathlib.Core.Path.{_≡_};
 ghost use Rattle.rules.specs.Salvage.{Salvage};
 ghost use Rattle.rules.specs.Tables.{BookOf};
 ghost use Rattle.rules.specs.Calls.{New, Check, Rewrite, Serve, Purchase, Expand, Balance, Links};

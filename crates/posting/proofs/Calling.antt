@@ -15,11 +15,11 @@ use Rattle.rules.specs.Book.{Site, Book}
 use Rattle.rules.specs.Image.{newest, longestImage, encode, versionOf, planOf, nodesOf, linksOf, imageRefusals}
 use Rattle.rules.specs.Index.{indexLength, Indexed}
 use Rattle.rules.specs.Calls as calls
-use Rattle.rules.specs.Calls.{Wrote, Unchanged, Work, InOrder, SaysOf, postRefusals, mostRequests, Posted, Post}
+use Rattle.rules.specs.Calls.{Wrote, Unchanged, Work, InOrder, SaysOf, postRefusals, mostRequests, Posted}
 use Rattle.rules.proofs.Tests.{never, tests-eq}
 use Rattle.rules.proofs.Mains.{stored-nodes}
 use Rattle.rules.proofs.Lawful.{in-order-site}
-use Rattle.rules.proofs.Reading.{rowsIn, bookIn, LawfulImage, NewestImage, newest-book, newest-image, newest-bytes}
+use Rattle.rules.proofs.Reading.{bookIn, LawfulImage, NewestImage, newest-book, newest-image, newest-bytes}
 use Rattle.index.specs.Index as inner
 use Rattle.index.specs.Index.{Beside}
 use Rattle.lawful.specs.Verdict.{Verdict}

@@ -7,12 +7,10 @@ use native.Mathlib.Omega.{arith}
 use lib.ListN.{length, take, drop}
 use lib.Seq.{length-take-le, getD-take, take-length, paste}
 use Rattle.rules.specs.Words.{SetOf}
-use Rattle.rules.specs.Tiles.{slotsOf, shortTiles}
-use Rattle.rules.specs.Topology.{Hop}
 use Rattle.rules.specs.Book.{Book, LawfulBook}
 use Rattle.rules.specs.Index.{Marks, indexLength, IndexOf}
 use Rattle.index.specs.Index as inner
-use Rattle.index.specs.Index.{wordAt, Ends}
+use Rattle.index.specs.Index.{Ends}
 use Rattle.clash.specs.Reach.{End, nodeAt}
 use Rattle.clash.specs.Reach.End.{sender, receiver}
 

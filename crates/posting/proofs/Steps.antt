@@ -19,7 +19,7 @@ use Rattle.rules.proofs.Encoding.{version-back}
 use Rattle.rules.proofs.Reading.{bookIn, NewestImage, book-back, lawful-stored}
 use Rattle.rules.proofs.Lawful.{lawful-length, made-lawful, made-site}
 use Rattle.index.specs.Index.{Beside}
-use Rattle.index.specs.Beside.{ImageBeside, Works}
+use Rattle.index.specs.Beside.{Works}
 use Rattle.writer.specs.Over.{over}
 use Rattle.writer.proofs.Laws.{over-front}
 use Rattle.posting.specs.declared.Request.{Request}

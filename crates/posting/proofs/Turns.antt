@@ -1,7 +1,7 @@
 -- The loop over the records, as it is between two turns: plain lists and numbers, with no memory.
 use mathlib.Core.Path.{_≡_, refl, sym, ap, _∙_, subst}
 use mathlib.Core.Logic.{_⊎_, inl, inr, ⊎-elim}
-use mathlib.Core.Bool.{Bool, true, false, _||_}
+use mathlib.Core.Bool.{Bool, false, _||_}
 use mathlib.Core.List.{List, [], _∷_, _++_, map-append}
 use Prim.Native.Nat.{ℕ, suc, _+_, _<_, _≤_, _^_}
 use native.Mathlib.Omega.{arith}
@@ -10,7 +10,7 @@ use native.Mathlib.Numerals.{add-one}
 use lib.Dec.{eqb}
 use lib.ListN.{length, take, drop, getD, set, length-set}
 use lib.Seq.{drop-cons, take-suc, take-suc-set, drop-set-lt, take-all}
-use Rattle.rules.specs.Words.{_∈_, Each, Tests}
+use Rattle.rules.specs.Words.{_∈_, Tests}
 use Rattle.rules.specs.Book.{Book}
 use Rattle.rules.specs.Calls as calls
 use Rattle.rules.specs.Calls.{Work, InOrder}

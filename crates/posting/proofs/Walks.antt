@@ -18,7 +18,6 @@ use denote.Laws.{Is, Tells, shows}
 use denote.Memory.{mem, lone, cellAt, partOf}
 use denote.Array.{Array, arrayVal, array-vals, array-tells}
 use denote.Index.{row, place}
-use denote.Ref.{RefT}
 use denote.Slice.{MutSlice, finally, res-finally, codedHoleys, heres}
 use denote.Steps.{only, peeks, nothing}
 

@@ -1,7 +1,6 @@
 // Works through a list of requests on a book: the records are lent by the caller, and each receives its own answer.
 pub mod working;
 
-ghost use mathlib.Core.Path.{_≡_};
 ghost use Prim.Native.Nat.{_≤_};
 ghost use lib.ListN.{length, take};
 ghost use Rattle.rules.specs.Image.{planOf};

@@ -27,8 +27,7 @@ use Rattle.rules.proofs.Reading.{lawful-stored}
 use Rattle.rules.proofs.Added.{new-route}
 use Rattle.rules.proofs.Accounts.{opened-drawn, Raises, raised-from, raised-to, purchased-lawful}
 use Rattle.model.proofs.Reading.{stable}
-use Rattle.order.proofs.Calls.{of-stored, current-wrote, current-kept, Ran, ran, low-post}
-use Rattle.promises.specs.Promises.{Moves}
+use Rattle.order.proofs.Calls.{of-stored, current-wrote, current-kept, ran, low-post}
 use Rattle.promises.specs.Accounts.{Bought, Purchasing, Serving, OfAnySize, After, amounts, RaisedBy, OnlyRaisedBy, PaysItsWay, NeverOverdrawn}
 use Rattle.promises.specs.Accounts.{drawnFor, cost, OpenDraws, CloseGivesBack, Leaves, OpenComesBack}
 use Rattle.promises.specs.Accounts.After.{none, posted, served, bought, refused}

@@ -1,20 +1,18 @@
 -- The index decides nothing, is that of the last book, and loses to a close the bits of its stream alone.
-use mathlib.Core.Path.{_≡_, refl, sym, ap, _∙_, subst}
+use mathlib.Core.Path.{_≡_, refl, sym, _∙_, subst}
 use mathlib.Core.Logic.{_⊎_, inl, inr, ⊎-elim, _↔_}
-use mathlib.Core.List.{List}
-use Prim.Native.Nat.{ℕ, _+_, _*_, _<_}
-use native.Mathlib.Decide.{ℕ-discrete}
+use Prim.Native.Nat.{ℕ, _<_}
 use native.Mathlib.Omega.{arith}
-use lib.ListN.{length, getD}
+use lib.ListN.{length}
 use Rattle.rules.specs.Words.{Has, SetOf, _∈_}
 use Rattle.rules.specs.Says.{Says}
 use Rattle.rules.specs.Tiles.{slotsOf, shortTiles, Takes}
 use Rattle.rules.specs.Topology.{Hop, Touches}
-use Rattle.rules.specs.Book.{Site, Row, Book, rowHop, rowOffset, key, LawfulBook}
-use Rattle.rules.specs.Image.{newest, longestImage, planOf, Stored}
-use Rattle.rules.specs.Index.{Marks, indexLength, IndexOf, Indexed}
-use Rattle.rules.specs.Calls.{SaysOf, Request, Work, InOrder, Closed, postRefusals, Posted, Post}
-use Rattle.rules.specs.Order.{IdInRange, current}
+use Rattle.rules.specs.Book.{Site, Row, Book, rowHop, rowOffset, LawfulBook}
+use Rattle.rules.specs.Image.{newest, longestImage}
+use Rattle.rules.specs.Index.{Marks, indexLength, Indexed}
+use Rattle.rules.specs.Calls.{SaysOf, Work, Closed, postRefusals}
+use Rattle.rules.specs.Order.{current}
 use Rattle.rules.proofs.Lists.{reordered-in, reordered-back, in-append, in-right}
 use Rattle.rules.proofs.Encoding.{stored-unique}
 use Rattle.rules.proofs.Index.{stored-index}

@@ -1,14 +1,13 @@
 -- With all nodes in the set the planner is the plain one; a list posted with a set adds no row that does not keep to it.
-use mathlib.Core.Path.{_≡_, refl, sym, _∙_, subst}
-use mathlib.Core.Logic.{inl, inr, ⊎-elim, _↔_}
+use mathlib.Core.Path.{_≡_, refl, sym, subst}
+use mathlib.Core.Logic.{inl, inr, ⊎-elim}
 use mathlib.Core.Bool.{true}
 use mathlib.Core.List.{List, [], _∷_}
 use Prim.Native.Nat.{ℕ}
 use native.Mathlib.Decide.{ℕ-discrete}
-use native.Mathlib.Omega.{arith}
-use Rattle.rules.specs.Words.{NoBitFrom, _∈_, Tests}
-use Rattle.rules.specs.Topology.{Topology, nodes, hopCount, KeepsTo, allNodes, PathBetween, PathWithin, Best, FirstOf}
-use Rattle.rules.specs.Book.{Site, Row, Book}
+use Rattle.rules.specs.Words.{NoBitFrom, _∈_}
+use Rattle.rules.specs.Topology.{Topology, nodes, KeepsTo, allNodes, PathBetween, PathWithin, Best}
+use Rattle.rules.specs.Book.{Site, Book}
 use Rattle.rules.specs.Placing.{Asked, Planned}
 use Rattle.rules.specs.Placing.Planned.{one, two}
 use Rattle.rules.specs.Image.{Stored}

@@ -1,19 +1,18 @@
 -- What demand 3 says to those who file requests.
-use mathlib.Core.Path.{_≡_, refl, sym, ap, _∙_, subst}
-use mathlib.Core.Logic.{inl, inr, _↔_}
+use mathlib.Core.Path.{_≡_, sym, ap, _∙_, subst}
+use mathlib.Core.Logic.{inl, inr}
 use mathlib.Core.List.{List, [], _∷_}
 use Prim.Native.Nat.{ℕ}
 use native.Mathlib.Omega.{arith}
 use lib.ListN.{getD}
-use Rattle.rules.specs.Words.{_∈_, Reordered, Each}
+use Rattle.rules.specs.Words.{_∈_, Each}
 use Rattle.rules.specs.Book.{Row, Book}
-use Rattle.rules.specs.Image.{Stored}
 use Rattle.rules.specs.Calls.{Request}
-use Rattle.rules.specs.Order.{idOf, Posting, SameStream, AsAlone, InAnyOrder, Ample}
+use Rattle.rules.specs.Order.{idOf, Posting, SameStream, AsAlone, Ample}
 use Rattle.rules.proofs.Lists.{reordered-same}
 use Rattle.rules.proofs.Encoding.{stored-unique}
 use Rattle.order.proofs.Calls.{some-posting, low-posted}
-use Rattle.promises.specs.Promises.{Gets, OneImage, OrderDecidesNothing, OwnRequestDecides}
+use Rattle.promises.specs.Promises.{Gets, OrderDecidesNothing, OwnRequestDecides}
 
 -- THE CLERK
 pub order-decides-nothing : OrderDecidesNothing

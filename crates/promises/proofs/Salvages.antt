@@ -2,19 +2,18 @@
 use mathlib.Core.Path.{_≡_, refl, sym, ap, _∙_, subst}
 use mathlib.Core.Logic.{inl, inr}
 use mathlib.Core.List.{List, [], _∷_, _++_}
-use Prim.Native.Nat.{ℕ, _*_, _<_, _≤_}
+use Prim.Native.Nat.{ℕ, _*_, _≤_}
 use native.Mathlib.Decide.{ℕ-discrete}
 use native.Mathlib.Omega.{arith}
 use lib.Dec.{ltb}
 use lib.ListN.{length, take, drop}
 use lib.Seq.{take-at}
-use Rattle.rules.specs.Words.{_∈_}
 use Rattle.rules.specs.Says.{Says}
 use Rattle.rules.specs.Topology.{NodesInRange}
 use Rattle.rules.specs.Book.{Row, Book, key, LawfulSite}
 use Rattle.rules.specs.Image.{Version, encode, versionOf, nodesOf, accountsOf, linksPlace, linksOf, hearingOf, siteOf, bookOf, rowsPlace, imageRefusals, Stored}
 use Rattle.rules.specs.Calls.{InOrder, Wrote}
-use Rattle.rules.specs.Salvage.{LawfulBeside, Keep, NoRoom, salvageRefusals, Salvage}
+use Rattle.rules.specs.Salvage.{LawfulBeside, Keep, NoRoom, salvageRefusals}
 use Rattle.rules.proofs.Tests.{alike, decided, tests-and, tests-every, tests-lt}
 use Rattle.rules.proofs.Says.{None, says-none, says-unique}
 use Rattle.rules.proofs.Encoding.{version-back, stored-says}

@@ -4,7 +4,7 @@ use mathlib.Core.List.{List, [], _∷_}
 use Prim.Native.Nat.{ℕ}
 use Rattle.rules.specs.Tiles.{Plan}
 use Rattle.rules.specs.Topology.{Topology}
-use Rattle.rules.specs.Book.{Account, Row, Book, LawfulBook}
+use Rattle.rules.specs.Book.{Book, LawfulBook}
 use Rattle.rules.specs.Image.{newest, oldAccounts, encode, versionOf, planOf, linksOf, hearingOf, accountsOf}
 use Rattle.order.specs.Examples.{oneHop}
 use Rattle.promises.specs.OnAir.{LookAlike, SameAccounts, SameNumbers, ExpandAlike}

@@ -7,7 +7,6 @@ use native.Mathlib.Omega.{arith}
 use lib.ListN.{length, getD, take}
 use lib.Seq.{ext-getD, getD-take, length-take-le}
 use Rattle.rules.specs.Topology.{Topology, mostRouteHops}
-use Rattle.rules.specs.Topology as rules
 use Rattle.rules.proofs.Ways.{planned, no-route, too-far}
 use Rattle.rules.proofs.Cases.{route-near, route-some, far-some}
 use Rattle.rules.proofs.Choice.{best-unique}

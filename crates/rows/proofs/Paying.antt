@@ -1,14 +1,14 @@
 -- Row after row draws from its account.
 use mathlib.Core.Path.{_≡_, refl, sym, ap, _∙_, subst}
-use mathlib.Core.Bool.{Bool, true, false, cond, not}
+use mathlib.Core.Bool.{Bool, true, false, not}
 use mathlib.Core.List.{List, [], _∷_, _++_, append-assoc, append-nil}
 use Prim.Native.Nat.{ℕ, zero, suc, _+_, _<_, _≤_, _-_}
 use native.Mathlib.Numerals.{unary-clauses}
 use native.Mathlib.Omega.{arith}
 use borrow.Author.Tests.{not-true, not-false}
 use lib.ListN.{length}
-use Rattle.rules.specs.Words.{_∈_, Tests, total}
-use Rattle.rules.specs.Book.{Account, Row, drawn, Paid}
+use Rattle.rules.specs.Words.{total}
+use Rattle.rules.specs.Book.{Row, drawn, Paid}
 use Rattle.rules.specs.Image.{accountsOf, streamsOf, rowsPlace}
 use Rattle.rules.proofs.Tests.{fails}
 use Rattle.rules.proofs.Lists.{total-append}

@@ -1,5 +1,5 @@
 -- What a cycle of 1000 tiles says of periods up to 100, one of 100 tiles says.
-use mathlib.Core.Path.{_≡_, refl, sym, ap, _∙_, subst}
+use mathlib.Core.Path.{_≡_, sym, ap, _∙_, subst}
 use mathlib.Core.Bool.{cond}
 use Prim.Native.Nat.{ℕ, _+_, _*_, _/_, _%_, _<_, _≤_}
 use native.Mathlib.Nat.{add-mul-div-right, add-mul-mod-self-right, mod-lt, div-add-mod', mul-le-mul, le-refl, mul-assoc, add-mul}

@@ -13,7 +13,7 @@ use Rattle.rules.specs.Book.{Site, Row, Book, key, hops, hopsInAll, most
 use Rattle.rules.specs.Book.{MeetsClashing, RowsMeet, LawfulBook}
 use Rattle.rules.specs.Placing.{Asked, Planned, Full, NewRow, beside, NewRows, NotPaid}
 use Rattle.rules.specs.Placing.Planned.{one, two}
-use Rattle.rules.specs.Image.{newest, longestImage, encode, Stored}
+use Rattle.rules.specs.Image.{newest, longestImage, encode}
 use Rattle.rules.specs.Calls.{OfRoutes, Opened, Closed, openRefusals, Request, Made, requestRefusals, Work, InOrder}
 use Rattle.rules.specs.Calls.Request.{Open, Close}
 use Rattle.rules.specs.Says.{Says}
@@ -23,7 +23,7 @@ use Rattle.rules.proofs.Clashes.{rows-meet-turned}
 use Rattle.rules.proofs.Meeting.{in-at}
 use Rattle.rules.proofs.Encoding.{length-encode}
 use Rattle.rules.proofs.Added.{second-within, new-count, new-hops}
-use Rattle.rules.proofs.Reading.{withRows, row-newest}
+use Rattle.rules.proofs.Reading.{withRows}
 use Rattle.rules.proofs.Accounts.{known-account, opened-paid, closed-paid}
 
 -- the longest image of each version

@@ -5,11 +5,10 @@ use mathlib.Core.List.{List, [], _∷_, _++_}
 use Prim.Native.Nat.{ℕ, _+_, _*_}
 use native.Mathlib.Omega.{arith}
 use lib.ListN.{length, drop}
-use Rattle.rules.specs.Says.{Says}
 use Rattle.rules.specs.Book.{Row, Book, hops}
 use Rattle.rules.specs.Image.{rowLength, word, encode, versionOf, bookOf, rowsPlace}
-use Rattle.rules.specs.Calls.{InOrder, Wrote, Unchanged}
-use Rattle.rules.specs.Salvage.{Cut, CutAll, dropReasons, kept, Keep, Salvaged, reportBytes, OfSalvaged, salvageRefusals, SalvageWritten, Salvage}
+use Rattle.rules.specs.Calls.{InOrder, Unchanged}
+use Rattle.rules.specs.Salvage.{Cut, CutAll, dropReasons, kept, Keep, Salvaged, reportBytes, salvageRefusals, SalvageWritten, Salvage}
 use Rattle.rules.proofs.Says.{says-unique}
 use Rattle.rules.proofs.Encoding.{Sized, frontRow, cut-back, left-over}
 use Rattle.rules.proofs.Choice.{both, in-order-unique}

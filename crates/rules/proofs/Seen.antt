@@ -1,26 +1,26 @@
 -- What the tables show of a row of the book that expands to them: where its source sends, who receives, who forwards, and nothing else.
 use mathlib.Core.Path.{_≡_, refl, sym, ap, ap₂, _∙_, subst, subst₂}
 use mathlib.Core.Logic.{_⊎_, inl, inr, ⊎-elim}
-use mathlib.Core.List.{List, [], _∷_}
+use mathlib.Core.List.{List}
 use Prim.Native.Nat.{ℕ, zero, suc, _+_, _*_, _-_, _/_, _%_, _<_, _≤_}
 use native.Mathlib.Decide.{decLt}
 use native.Mathlib.Nat.{div-add-mod', div-lt-iff-lt-mul, mul-le-mul, mod-lt}
 use native.Mathlib.Omega.{arith}
-use lib.ListN.{length, getD, take, drop}
+use lib.ListN.{getD, take, drop}
 use lib.Seq.{getD-drop, getD-take}
 use Rattle.rules.specs.Words.{_∈_}
 use Rattle.rules.specs.Tiles.{shortTiles, slotsOf, Takes}
 use Rattle.rules.specs.Topology.{nodes}
-use Rattle.rules.specs.Book.{Site, Row, Book, key, hops, rowHop, rowOffset, LawfulRow}
-use Rattle.rules.specs.Image.{word, wordAt}
+use Rattle.rules.specs.Book.{Site, Row, Book, hops, rowOffset, LawfulRow}
+use Rattle.rules.specs.Image.{wordAt}
 use Rattle.rules.specs.Table.{Active, Does, onWay, Entry, tableLength}
 use Rattle.rules.specs.Table.Does.{sends, receives, forwards, delivers}
 use Rattle.rules.specs.Table.Entry.{works}
 use Rattle.rules.specs.Tables.{operationAt, idAt, OfStream, tableAt, ShownBy}
 use Rattle.rules.proofs.Lists.{at-in, pair-at, rising-one}
 use Rattle.rules.proofs.Entries.{does-work, Working, on-way-works, one-hop, entry-unique}
-use Rattle.rules.proofs.Air.{Fit, fit-short, within, first-inside, second-inside, first-turn, second-turn}
-use Rattle.rules.proofs.Alike.{way-and-operation, worker, sender, receiver, sent, received}
+use Rattle.rules.proofs.Air.{Fit, fit-short, first-inside, second-inside, first-turn, second-turn}
+use Rattle.rules.proofs.Alike.{way-and-operation, worker, sender, receiver, received}
 
 -- entry i of the tables is this operation and id
 pub record Has (tables : List ℕ) (i operation id : ℕ) : Type 0 where

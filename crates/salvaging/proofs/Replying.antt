@@ -1,8 +1,8 @@
 -- What was walked through and written is what the contract says, and so are the refusals.
-use mathlib.Core.Path.{_≡_, refl, sym, ap, ap₂, _∙_, subst}
-use mathlib.Core.Bool.{Bool, true, false}
-use mathlib.Core.Logic.{inl, inr, ⊎-elim}
-use mathlib.Core.List.{List, [], _∷_, _++_}
+use mathlib.Core.Path.{_≡_, refl, sym, ap, _∙_, subst}
+use mathlib.Core.Bool.{false}
+use mathlib.Core.Logic.{inl, inr}
+use mathlib.Core.List.{List, [], _++_}
 use Prim.Native.Nat.{ℕ, _+_, _*_, _-_, _<_, _≤_}
 use native.Mathlib.Nat.{mul-le-mul-left}
 use native.Mathlib.Omega.{arith}
@@ -10,16 +10,15 @@ use lib.Dec.{ltb}
 use lib.ListN.{length, drop, length-drop}
 use Rattle.rules.specs.Says.{Refusal, Says}
 use Rattle.rules.specs.Topology.{nodes, SoundTopologies}
-use Rattle.rules.specs.Book.{Row, Book, hopsInAll, mostStreams, mostHops, AccountsInRange}
+use Rattle.rules.specs.Book.{Book, hopsInAll, mostStreams, mostHops, AccountsInRange}
 use Rattle.rules.specs.Image.{headerLength, imageLength, rowLength, inTurn, encodeRow, encode, versionOf, nodesOf, FieldsInRange, accountsOf, linksPlace, linksOf, hearingOf, bookOf, rowsPlace}
 use Rattle.rules.specs.Calls.{Wrote}
-use Rattle.rules.specs.Salvage.{CutAll, Salvaged, reportBytes, OfSalvaged, NoRoom, salvageRefusals}
+use Rattle.rules.specs.Salvage.{CutAll, Salvaged, reportBytes, NoRoom, salvageRefusals}
 use Rattle.rules.proofs.Tests.{never, fails, tests-lt}
 use Rattle.rules.proofs.Choice.{in-order-even}
 use Rattle.rules.proofs.Encoding.{length-encode}
 use Rattle.rules.proofs.Written.{Bytes, length-sets-at, encode-rows}
 use Rattle.rules.proofs.Salvaging.{cut-all-unique, salvaged-unique, length-report}
-use Rattle.rules.proofs.Saved.{Held}
 use Rattle.writer.specs.Over.{over, headed}
 use Rattle.writer.proofs.Laws.{over-front, length-headed}
 use Rattle.image.proofs.Places.{links-counted}

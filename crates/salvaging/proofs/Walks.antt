@@ -1,19 +1,17 @@
 -- One row after the other is judged, reported, and laid where it is kept.
 use mathlib.Core.Path.{_≡_, refl, sym, ap, _∙_, subst}
-use mathlib.Core.Logic.{inl, inr}
 use mathlib.Core.List.{List, [], _∷_, _++_, append-nil}
-use Prim.Native.Nat.{ℕ, _+_, _*_, _-_, _<_, _≤_}
+use Prim.Native.Nat.{ℕ, _+_, _*_, _-_, _≤_}
 use native.Mathlib.Omega.{arith}
 use native.Mathlib.Decide.{ℕ-discrete}
 use lib.ListN.{length, take, drop, replicate, length-append}
-use Rattle.rules.specs.Words.{_∈_}
 use Rattle.rules.specs.Topology.{nodes, NodesInRange}
 use Rattle.rules.specs.Book.{Row, Book, hopsInAll, mostAccounts, LawfulSite}
 use Rattle.rules.specs.Image.{imageLength, word, inTurn, encodeRow, versionOf, nodesOf, planOf, accountCountOf, accountsOf, linksPlace, siteOf, bookOf, rowsPlace}
 use Rattle.rules.specs.Calls.{InOrder}
-use Rattle.rules.specs.Salvage.{Cuttable, Keep, Salvaged, reportBytes}
+use Rattle.rules.specs.Salvage.{Cuttable, Keep, reportBytes}
 use Rattle.rules.proofs.Choice.{in-order-more, in-order-even}
-use Rattle.rules.proofs.Encoding.{all-sized, length-rows, length-encode}
+use Rattle.rules.proofs.Encoding.{all-sized, length-rows}
 use Rattle.rules.proofs.Written.{Bytes, length-sets-at}
 use Rattle.rules.proofs.Salvaging.{length-report, report-more}
 use Rattle.rules.proofs.Saved.{Held, none-lawful}
@@ -29,7 +27,6 @@ use Rattle.cutting.proofs.Cuts.{row-bytes, cut-none, cut-more, cut-done}
 use Rattle.judging.specs.declared.Kept.{Kept}
 use Rattle.judging.specs.declared.Judged.{Judged}
 use Rattle.judging.specs.Keeping.{SiteRead, Beside, SomeBeside, Judges}
-use Rattle.salvaging.specs.declared.Walk.{Walk}
 use Rattle.salvaging.specs.Walk.{PutIf, LaidIf, Walked}
 use Rattle.salvaging.proofs.Puts.{put-none, put-more, put-alike}
 

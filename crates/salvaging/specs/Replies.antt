@@ -6,7 +6,7 @@ use lib.ListN.{length, getD, drop}
 use Rattle.rules.specs.Says.{Refusal, _when_, Says}
 use Rattle.rules.specs.Topology.{SoundTopologies}
 use Rattle.rules.specs.Book.{Row}
-use Rattle.rules.specs.Image.{headerLength, versionOf, linksOf, hearingOf, rowsPlace}
+use Rattle.rules.specs.Image.{versionOf, linksOf, hearingOf, rowsPlace}
 use Rattle.rules.specs.Calls.{Call, Unchanged}
 use Rattle.rules.specs.Salvage.{CutAll, NoRoom, SalvageWritten}
 use Rattle.image.proofs.Marks.{Marked}

@@ -1,22 +1,21 @@
 -- Hop by hop, what is read of a row is its front.
 use mathlib.Core.Path.{_≡_, refl, sym, ap, ap₂, _∙_, subst, subst₂}
-use mathlib.Core.Logic.{_⊎_, inl, inr, ⊎-elim}
+use mathlib.Core.Logic.{_⊎_, ⊎-elim}
 use mathlib.Core.List.{List, [], _∷_, _++_}
-use Prim.Native.Nat.{ℕ, zero, suc, _+_, _*_, _/_, _%_, _-_, _<_, _≤_}
+use Prim.Native.Nat.{ℕ, suc, _+_, _*_, _/_, _%_, _-_, _<_, _≤_}
 use native.Mathlib.Nat.{add-mul-div-right, add-mul-mod-self-right, div-eq-of-lt, mod-eq-of-lt, div-add-mod', mod-lt, div-lt-iff-lt-mul, mul-le-mul, le-refl}
 use native.Mathlib.Numerals.{add-one}
 use native.Mathlib.Omega.{arith}
 use lib.ListN.{length, getD, set, take}
 use lib.Seq.{take-suc, take-suc-set, take-all}
 use Rattle.rules.specs.Tiles.{shortTiles}
-use Rattle.rules.specs.Topology.{mostRouteHops}
 use Rattle.rules.specs.Book.{Row, hops, rowOffset}
 use Rattle.rules.specs.Table.{onWay}
 use Rattle.rules.specs.Tables.{operationAt}
-use Rattle.rules.proofs.Seen.{Has, Next, Seen, lawful, wide, fit, period-read, offset-inside, node-known, receives-there, receiver-is, forward-read}
+use Rattle.rules.proofs.Seen.{Has, Next, lawful, wide, period-read, offset-inside, node-known, receives-there, receiver-is, forward-read}
 use Rattle.rules.proofs.Alike.{way-and-operation}
 use Rattle.entries.specs.Entries.{Receives, Receiver}
-use Rattle.tracing.specs.Rows.{RowFrom, PeriodRead, RouteRead, Traced}
+use Rattle.tracing.specs.Rows.{RowFrom, PeriodRead, RouteRead}
 
 -- the node and the slot of an entry
 pub node-of : (L v o : ℕ) → o < L → (v * L + o) / L ≡ v

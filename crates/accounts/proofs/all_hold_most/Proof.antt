@@ -1,7 +1,6 @@
 -- Each account is asked.
 use Prim.Native.Nat.{_-_}
 use native.Mathlib.Omega.{arith}
-use borrow.Author.Needs.{needs}
 use Rattle.rules.specs.Image.{accountsOf}
 use Rattle.rules.proofs.Tests.{never}
 use Rattle.accounts.proofs.Places.{Asked, asked-none, asked-more, asked-all}

@@ -6,7 +6,6 @@ use borrow.Author.Needs.{needs}
 use borrow.Author.Tests.{not-true, not-false}
 use Rattle.rules.specs.Words.{Tests}
 use Rattle.rules.specs.Book.{Account, AccountsInRange}
-use Rattle.rules.specs.Image.{headerLength}
 use Rattle.rules.proofs.Tests.{said-yes, said-no}
 use Rattle.accounts.proofs.Lists.{tests-range, too-few, too-many, without-list, with-list, list-inside, old-in-range}
 use Rattle.accounts.proofs.list_holds.Statement.{statement}

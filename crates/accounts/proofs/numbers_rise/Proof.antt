@@ -2,7 +2,6 @@
 use mathlib.Core.Path.{_≡_}
 use Prim.Native.Nat.{_+_, _*_}
 use native.Mathlib.Omega.{arith}
-use borrow.Author.Needs.{needs}
 use Rattle.rules.specs.Image.{accountsAt}
 use Rattle.rules.proofs.Tests.{said-yes, said-no}
 use Rattle.accounts.specs.Lists.{RisesFrom}

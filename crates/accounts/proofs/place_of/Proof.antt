@@ -1,7 +1,6 @@
 -- The number is sought from the first account on.
 use Prim.Native.Nat.{_-_}
 use native.Mathlib.Omega.{arith}
-use borrow.Author.Needs.{needs}
 use Rattle.rules.specs.Image.{accountsOf}
 use Rattle.accounts.proofs.Places.{Passed, passed-none, passed-more, place-here, place-none}
 use Rattle.accounts.proofs.place_of.Statement.{statement}

@@ -1,6 +1,5 @@
 -- The draft is none, or not these tables' book, or it is.
-use mathlib.Core.Path.{_≡_, sym}
-use native.Mathlib.Omega.{arith}
+use mathlib.Core.Path.{sym}
 use borrow.Author.Tests.{not-true, not-false}
 use lib.Seq.{length-take-le}
 use Rattle.rules.specs.Periods.{thePlan}

@@ -2,7 +2,6 @@
 use Prim.Native.Nat.{ℕ, _-_, _<_, _≤_}
 use native.Mathlib.Omega.{arith}
 use borrow.Author.Count.{below-none, below-more}
-use borrow.Author.Needs.{needs}
 use borrow.Author.Tests.{not-true, not-false}
 use Rattle.rules.proofs.Tests.{said-yes, said-no, fails}
 use Rattle.adopting.specs.Expanded.{SameAt}

@@ -2,7 +2,6 @@
 use mathlib.Core.Path.{sym, subst}
 use Prim.Native.Nat.{_+_, _-_, _≤_}
 use native.Mathlib.Omega.{arith}
-use borrow.Author.Needs.{needs}
 use Rattle.rules.specs.Tiles.{Period}
 use Rattle.rules.specs.Image.{planOf}
 use Rattle.index.specs.Turns.{RepeatsOf}

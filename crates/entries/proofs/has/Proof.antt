@@ -1,6 +1,5 @@
 -- Both are compared.
-use mathlib.Core.Path.{_≡_, sym, _∙_}
-use native.Mathlib.Omega.{arith}
+use mathlib.Core.Path.{sym, _∙_}
 use borrow.Author.Needs.{needs}
 use Rattle.rules.proofs.Tests.{alike, tests-eq}
 use Rattle.entries.proofs.has.Statement.{statement}

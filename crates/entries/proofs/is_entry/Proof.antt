@@ -1,7 +1,4 @@
 -- By whether the slot is control, and by the way of the operation.
-use mathlib.Core.Path.{_≡_, refl}
-use mathlib.Core.Bool.{Bool, true, false}
-use native.Mathlib.Omega.{arith}
 use borrow.Author.Needs.{needs}
 use Rattle.rules.proofs.Tests.{alike, tests-eq, tests-not}
 use Rattle.entries.proofs.Ways.{tests-control, tests-idle, tests-stream}

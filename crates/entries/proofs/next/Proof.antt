@@ -1,10 +1,6 @@
 -- No entry before has both.
-use mathlib.Core.Path.{_≡_}
-use mathlib.Core.Logic.{⊎-elim}
-use Prim.Native.Nat.{ℕ, _-_, _<_, _≤_}
+use Prim.Native.Nat.{_-_, _≤_}
 use native.Mathlib.Omega.{arith}
-use borrow.Author.Needs.{needs}
-use Rattle.rules.proofs.Seen.{Has}
 use Rattle.rules.proofs.Tests.{fails}
 use Rattle.entries.proofs.Seeking.{Without, without-none, without-more, next-here, next-none}
 use Rattle.entries.proofs.next.Statement.{statement}

@@ -1,8 +1,7 @@
 -- No node before receives.
 use mathlib.Core.Path.{_≡_}
-use Prim.Native.Nat.{ℕ, _+_, _*_, _-_, _<_, _≤_}
+use Prim.Native.Nat.{_+_, _*_, _-_, _≤_}
 use native.Mathlib.Omega.{arith}
-use borrow.Author.Needs.{needs}
 use Rattle.rules.proofs.Tests.{fails}
 use Rattle.entries.proofs.Seeking.{entry-inside, step-inside, Deaf, deaf-none, deaf-more, receiver-here, receiver-none}
 use Rattle.entries.proofs.receiver.Statement.{statement}

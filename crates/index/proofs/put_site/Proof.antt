@@ -1,5 +1,4 @@
 -- The hearing is put behind the index, then the links before it.
-use native.Mathlib.Omega.{arith}
 use borrow.Author.Needs.{needs}
 use Rattle.index.proofs.Behind.{site-put}
 use Rattle.index.proofs.put_site.Statement.{statement}

@@ -4,7 +4,6 @@ use mathlib.Core.List.{List}
 use Prim.Native.Nat.{ℕ, _+_, _-_, _≤_}
 use native.Mathlib.Omega.{arith}
 use native.Mathlib.Numerals.{add-one}
-use borrow.Author.Needs.{needs}
 use lib.ListN.{length, length-set, set, getD}
 use lib.Seq.{paste, paste-zero, paste-suc}
 use Rattle.index.proofs.put_words.Statement.{statement}

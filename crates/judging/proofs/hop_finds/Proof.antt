@@ -1,6 +1,5 @@
 -- The reach of the hop is found once, and looked for in the slots that it takes and in the rows that have moduli.
 use mathlib.Core.Logic.{inl}
-use native.Mathlib.Omega.{arith}
 use borrow.Author.Needs.{needs}
 use Rattle.rules.proofs.Tests.{said-yes}
 use Rattle.meeting.proofs.Reaching.{hop-in-index, between-here, reach-is, hop-found}

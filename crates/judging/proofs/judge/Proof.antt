@@ -1,6 +1,5 @@
 -- The row is dropped for the reason, or kept.
 use mathlib.Core.Path.{subst}
-use borrow.Author.Needs.{needs}
 use Rattle.judging.proofs.Reasons.{dropped, kept-behind}
 use Rattle.judging.specs.Keeping.{ReasonFor}
 use Rattle.judging.proofs.judge.Statement.{statement}

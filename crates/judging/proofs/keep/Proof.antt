@@ -1,7 +1,6 @@
 -- The row is counted, its place noted, and its hops are marked: none of them meets anything.
 use mathlib.Core.Path.{refl, sym, ap, subst}
 use native.Mathlib.Omega.{arith}
-use borrow.Author.Needs.{needs}
 use Rattle.rules.specs.Tiles.{Plan, Period}
 use Rattle.rows.specs.Walk.{RowStands}
 use Rattle.meeting.proofs.Reaching.{row-placed}

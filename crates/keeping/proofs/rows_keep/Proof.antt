@@ -1,6 +1,5 @@
 -- The book keeps to the set exactly if the rows that are left do.
 use mathlib.Core.Path.{refl}
-use Prim.Native.Nat.{_≤_}
 use native.Mathlib.Omega.{arith}
 use borrow.Author.Tests.{not-true, not-false}
 use Rattle.rules.proofs.Tests.{fails, said-yes, said-no}

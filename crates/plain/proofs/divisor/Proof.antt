@@ -1,6 +1,5 @@
 -- Euclid's steps, until nothing is left.
 use native.Mathlib.Nat.{mod-lt}
-use native.Mathlib.Omega.{arith}
 use Rattle.plain.proofs.Euclid.{Stepping, stepping-more, stepping-done}
 use Rattle.plain.proofs.divisor.Statement.{statement}
 use Rattle.plain.proofs.divisor.Tie as tie

@@ -1,5 +1,4 @@
 -- The sender is looked at, then the receiver.
-use native.Mathlib.Omega.{arith}
 use borrow.Author.Needs.{needs}
 use Rattle.rules.proofs.Tests.{said-yes}
 use Rattle.clash.specs.Reach.End.{sender}

@@ -1,11 +1,10 @@
 -- Each row gets its modulus.
-use mathlib.Core.Path.{_≡_, sym, subst, subst₂}
-use Prim.Native.Nat.{ℕ, _-_, _<_, _≤_}
+use mathlib.Core.Path.{sym, subst}
+use Prim.Native.Nat.{_-_, _<_, _≤_}
 use native.Mathlib.Omega.{arith}
 use borrow.Author.Needs.{needs}
 use Rattle.rules.specs.Tiles.{Period}
-use Rattle.rules.specs.Image.{planOf}
-use Rattle.plain.specs.Plain.{Weighed, RowThere, nthRow}
+use Rattle.plain.specs.Plain.{RowThere}
 use Rattle.plain.proofs.Weighing.{Weighing, weighing-none, weighing-more, weighing-done, weighed-there}
 use Rattle.plain.proofs.weigh_rows.Statement.{statement}
 use Rattle.plain.proofs.weigh_rows.Tie as tie

@@ -2,7 +2,6 @@
 use native.Mathlib.Omega.{arith}
 use borrow.Author.Needs.{needs}
 use borrow.Author.Tests.{not-true, not-false}
-use Rattle.rules.specs.Book.{mostAccounts}
 use Rattle.rules.specs.Periods.{thePlan}
 use Rattle.rules.specs.Calls.{TopologiesGiven}
 use Rattle.rules.proofs.Tests.{fails}

@@ -1,6 +1,5 @@
 -- The key and the account are tested, then the rest.
 use mathlib.Core.Path.{sym, subst}
-use Prim.Native.Nat.{ℕ}
 use borrow.Author.Needs.{needs}
 use borrow.Author.Tests.{not-true, not-false}
 use Rattle.rules.specs.Book.{KnownAccount}

@@ -1,7 +1,4 @@
 -- All rows fill the image, and are paid for.
-use mathlib.Core.Path.{_≡_}
-use Prim.Native.Nat.{_<_}
-use borrow.Author.Needs.{needs}
 use borrow.Author.Tests.{not-true, not-false}
 use Rattle.rules.proofs.Tests.{fails, said-no, said-yes}
 use Rattle.rows.specs.Fill.{AllFill}

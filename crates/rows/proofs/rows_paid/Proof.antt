@@ -1,7 +1,6 @@
 -- Each row draws from what those before it have left.
 use mathlib.Core.Path.{refl}
 use native.Mathlib.Omega.{arith}
-use borrow.Author.Needs.{needs}
 use Rattle.rules.proofs.Tests.{said-yes, said-no}
 use Rattle.image.proofs.Walks.{rows-start}
 use Rattle.rows.proofs.Paying.{Paying, allRows, paying-first, next-draws, paying-no, paying-can, paying-more, paying-end}

@@ -1,6 +1,4 @@
 -- A tile's control slots are those of its kind.
-use native.Mathlib.Omega.{arith}
-use borrow.Author.Needs.{needs}
 use Rattle.rules.specs.Periods.{thePlan}
 use Rattle.rules.proofs.Plans.{tiles-some, tile-place, control-down, control-up}
 use Rattle.rules.proofs.control_slots.Statement.{statement}

@@ -1,10 +1,10 @@
 -- One row after the other is cut out, judged, reported and laid.
 use mathlib.Core.Path.{refl}
-use Prim.Native.Nat.{ℕ, _-_}
+use Prim.Native.Nat.{_-_}
 use native.Mathlib.Omega.{arith}
 use borrow.Author.Needs.{needs}
 use lib.ListN.{length, drop}
-use Rattle.rules.specs.Image.{imageLength, versionOf}
+use Rattle.rules.specs.Image.{versionOf}
 use Rattle.rules.specs.Salvage.{Cuttable}
 use Rattle.rules.proofs.Tests.{fails}
 use Rattle.image.specs.Places.{Whole}

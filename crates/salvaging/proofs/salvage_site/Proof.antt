@@ -1,6 +1,5 @@
 -- The topologies are tested before the rows.
 use mathlib.Core.Path.{_≡_, sym, ap, _∙_, subst₂}
-use Prim.Native.Nat.{ℕ}
 use native.Mathlib.Omega.{arith}
 use borrow.Author.Needs.{needs}
 use borrow.Author.Tests.{not-true, not-false}

@@ -4,9 +4,6 @@ use native.Mathlib.Omega.{arith}
 use Rattle.topologies.proofs.Decoded.{Decoded, decoded-from, decoded-four}
 use Rattle.topologies.proofs.read_fours.Statement.{statement}
 use Rattle.topologies.proofs.read_fours.Tie as tie
-use Rattle.topologies.proofs.read_fours.Reads as reads
-use Rattle.topologies.proofs.read_fours.Lts as lts
-use Rattle.image.proofs.word64_at.Reads as word64-at-reads
 
 abbrev Inv-loop : tie.InvT-loop
 Inv-loop image at n rows₀ i₀ rows i = (i ≤ n) × Decoded image at i rows

@@ -4,10 +4,6 @@ use native.Mathlib.Omega.{arith}
 use Rattle.topologies.proofs.Decoded.{Decoded, none-read, decoded-from, decoded-more, decoded-done}
 use Rattle.topologies.proofs.sets.Statement.{statement}
 use Rattle.topologies.proofs.sets.Tie as tie
-use Rattle.topologies.proofs.sets.Reads as reads
-use Rattle.topologies.proofs.sets.Lts as lts
-use Rattle.topologies.proofs.read_fours.Reads as read-fours-reads
-use Rattle.image.proofs.word64_at.Reads as word64-at-reads
 
 abbrev Inv-loop : tie.InvT-loop
 Inv-loop image at n rows₀ i₀ rows i = (i ≤ n) × Decoded image at i rows

@@ -1,6 +1,6 @@
 -- The distance to where it sends again is the period.
-use mathlib.Core.Path.{_≡_, refl, sym}
-use Prim.Native.Nat.{_+_, _*_, _/_}
+use mathlib.Core.Path.{refl}
+use Prim.Native.Nat.{_+_, _/_}
 use native.Mathlib.Omega.{arith}
 use borrow.Author.Needs.{needs}
 use Rattle.tracing.proofs.Hops.{end-after, factor-few, read-once, distance-few, read-again}

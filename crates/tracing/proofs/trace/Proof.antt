@@ -1,6 +1,6 @@
 -- Hop by hop, what is read of a row is its front.
 use mathlib.Core.Path.{_≡_, refl, sym, _∙_}
-use Prim.Native.Nat.{_+_, _*_, _/_, _%_, _-_, _<_, _≤_}
+use Prim.Native.Nat.{_+_, _*_, _%_, _-_, _<_, _≤_}
 use native.Mathlib.Nat.{mod-lt}
 use native.Mathlib.Omega.{arith}
 use borrow.Author.Needs.{needs}

@@ -1,7 +1,6 @@
 -- Each gets what it has bought.
 use Prim.Native.Nat.{_-_, _<_}
 use native.Mathlib.Omega.{arith}
-use borrow.Author.Needs.{needs}
 use Rattle.rules.specs.Image.{accountsOf}
 use Rattle.accounts.proofs.Drawing.{Filled, filled-none, filled-more, filled-all}
 use Rattle.accounts.proofs.purses.fill.Statement.{statement}

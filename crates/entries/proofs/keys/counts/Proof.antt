@@ -1,6 +1,6 @@
 -- Only where it is asked is the operation compared.
 use borrow.Author.Needs.{needs}
-use mathlib.Core.Path.{_≡_, sym, _∙_}
+use mathlib.Core.Path.{sym, _∙_}
 use Rattle.rules.proofs.Tests.{never, alike, said-yes, tests-eq}
 use Rattle.entries.proofs.keys.counts.Statement.{statement}
 use Rattle.entries.proofs.keys.counts.Tie as tie

@@ -1,5 +1,4 @@
 -- By the way of the operation, and whether it counts.
-use native.Mathlib.Omega.{arith}
 use borrow.Author.Needs.{needs}
 use borrow.Author.Tests.{not-true, not-false}
 use Rattle.entries.proofs.Collecting.{key-none, key-not, key-shown}

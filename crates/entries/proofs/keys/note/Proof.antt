@@ -2,7 +2,7 @@
 use native.Mathlib.Omega.{arith}
 use borrow.Author.Needs.{needs}
 use lib.Seq.{length-take-le}
-use mathlib.Core.Path.{_≡_, sym}
+use mathlib.Core.Path.{sym}
 use Rattle.entries.specs.Keys.Noted.{zero}
 use Rattle.entries.proofs.Collecting.{noted-there, noted-full, noted-put}
 use Rattle.entries.proofs.keys.note.Statement.{statement}

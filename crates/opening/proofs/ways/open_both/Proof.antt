@@ -9,7 +9,7 @@ use lib.Seq.{length-take-le}
 use Rattle.rules.specs.Words.{Tests}
 use Rattle.rules.specs.Placing.{Full}
 use Rattle.rules.proofs.Tests.{fails}
-use Rattle.rules.proofs.Reading.{rowsIn, bookIn}
+use Rattle.rules.proofs.Reading.{bookIn}
 use Rattle.opening.proofs.Outcomes.{out-refused, out-next}
 use Rattle.opening.proofs.Placed.{asked-route}
 use Rattle.opening.proofs.Routed.{tests-full}

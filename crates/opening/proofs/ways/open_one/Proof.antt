@@ -1,16 +1,16 @@
 -- Places the stream on its route: refused by 8 or 9, or the image with its row and the index with it.
-use mathlib.Core.Path.{_≡_, refl, sym, ap}
+use mathlib.Core.Path.{_≡_, refl, sym}
 use mathlib.Core.Logic.{inl}
 use mathlib.Core.List.{List, [], _∷_}
 use Prim.Native.Nat.{ℕ, _-_}
 use native.Mathlib.Omega.{arith}
-use lib.ListN.{length, take}
+use lib.ListN.{length}
 use lib.Seq.{length-take-le}
 use Rattle.rules.specs.Words.{Tests}
 use Rattle.rules.specs.Periods.{theAsked}
 use Rattle.rules.specs.Placing.{Full}
 use Rattle.rules.proofs.Tests.{fails}
-use Rattle.rules.proofs.Reading.{rowsIn, bookIn}
+use Rattle.rules.proofs.Reading.{bookIn}
 use Rattle.opening.proofs.Outcomes.{out-refused, out-next}
 use Rattle.opening.proofs.Placed.{asked-route}
 use Rattle.opening.proofs.Routed.{routed-in, new-row, tests-full}

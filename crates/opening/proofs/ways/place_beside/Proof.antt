@@ -1,5 +1,5 @@
 -- The rows get their moduli, and the route is placed.
-use mathlib.Core.Path.{_≡_, refl, ap}
+use mathlib.Core.Path.{refl, ap}
 use borrow.Author.Needs.{needs}
 use Rattle.rules.specs.Tiles.{Plan}
 use Rattle.image.proofs.Walks.{rows-start}
