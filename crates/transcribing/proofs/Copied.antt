@@ -1,5 +1,5 @@
--- An image is written again row by row.
-use mathlib.Core.Path.{_≡_, sym, ap, _∙_, subst}
+-- An image in the newest version is copied as it is, and an older one is written again row by row.
+use mathlib.Core.Path.{_≡_, refl, sym, ap, _∙_, subst}
 use mathlib.Core.List.{List, [], _∷_, _++_, append-assoc, append-nil}
 use Prim.Native.Nat.{ℕ, _+_, _*_, _-_, _<_, _≤_}
 use native.Mathlib.Omega.{arith}
@@ -8,7 +8,7 @@ use lib.Seq.{take-at}
 use Rattle.rules.specs.Book.{Row, hops}
 use Rattle.rules.specs.Image.{newest, rowsStart, rowLength, longestImage, inTurn, encodeRow, encode, streamsOf, rowsPlace}
 use Rattle.rules.proofs.Encoding.{length-row, lawful-sized, length-encode}
-use Rattle.rules.proofs.Reading.{rowsIn, bookIn, LawfulImage}
+use Rattle.rules.proofs.Reading.{rowsIn, bookIn, LawfulImage, newest-bytes}
 use Rattle.image.specs.Header.{HeaderOf}
 use Rattle.image.specs.declared.Book as head
 use Rattle.image.specs.Places.{rowAt, nextAt, rowsFrom, Stands}
@@ -41,6 +41,22 @@ pub record Copied (s out : List ℕ) (at to left : ℕ) : Type 0 where
 no-longer : {s : List ℕ} → LawfulImage s → length (encode newest (bookIn s)) ≤ longestImage newest
 no-longer {s} h =
     omega (arith, length-encode newest (bookIn s) (h .lawful), h .lawful .site .nodes .1, h .lawful .streams, h .lawful .hops)
+
+-- AN IMAGE IN THE NEWEST VERSION
+module _ {s : List ℕ} {b : head.Book} (h : LawfulImage s) (hd : HeaderOf s b) (e : b .version ≡ newest) where
+  same : s ≡ encode newest (bookIn s)
+  same = newest-bytes (record { lawful = h; version = sym (hd .version) ∙ e })
+
+  pub same-fits : length s ≤ longestImage newest
+  same-fits = omega (arith, ap length same, no-longer h)
+
+  -- its bytes are copied as they are
+  pub same-put : (d : List ℕ) {out : List ℕ} → length out ≡ longestImage newest → out ≡ over d 0 s → Transcribed s (length s) out
+  same-put d n p = record {
+    room = n;
+    fits = omega (arith, n, same-fits);
+    bytes = ap (take (length s)) (p ∙ over-front d s) ∙ take-at s (drop (length s) d) (length s) refl ∙ same;
+  }
 
 -- THE START
 module _ {s : List ℕ} (h : LawfulImage s) where

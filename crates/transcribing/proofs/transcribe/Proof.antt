@@ -1,9 +1,9 @@
--- The front is written, then row by row.
+-- An image in the newest version is copied; of another the front is written, then row by row.
 use native.Mathlib.Omega.{arith}
 use borrow.Author.Needs.{needs}
 use mathlib.Core.Path.{refl}
 use Rattle.image.proofs.Stands.{stored-length, stands-row}
-use Rattle.transcribing.proofs.Copied.{Copied, copied-start, copied-room, copied-next, copied-end}
+use Rattle.transcribing.proofs.Copied.{same-fits, same-put, Copied, copied-start, copied-room, copied-next, copied-end}
 use Rattle.transcribing.proofs.transcribe.Statement.{statement}
 use Rattle.transcribing.proofs.transcribe.Tie as tie
 
@@ -16,14 +16,28 @@ abbrev μ-loop : tie.MeasureT-loop
 read-requires : tie.Need-read-requires Inv-loop μ-loop
 read-requires c κs = omega (arith, stored-length (c .before .pre))
 
+put-part-requires : tie.Need-put-part-requires Inv-loop μ-loop
+put-part-requires c κs =
+    let read = c .before .before .before in
+    omega (arith, same-fits (read .before .before .pre) (read .read .ensures) (c .before .if1 .taken))
+
+returns : tie.Need-returns Inv-loop μ-loop
+returns c =
+    let test = c .before .before in
+    let a = test .before .before .before .before in
+    same-put (a .pre) (test .before .before .read .ensures) (test .if1 .taken) (a .args .out .now) (omega (arith, c .put-part .kept .1 .0)) (c .put-part .ensures)
+
 put-site-requires : tie.Need-put-site-requires Inv-loop μ-loop
-put-site-requires c κs = (c .before .before .before .before .pre, c .before .before .read .ensures, omega arith)
+put-site-requires c κs =
+    let read = c .before .before .before .before in
+    (read .before .before .pre, read .read .ensures, omega arith)
 
 loop-holds : tie.Need-loop-holds Inv-loop μ-loop
 loop-holds c =
-    let a = c .before .before .before .before .before in
+    let read = c .before .before .before .before .before in
+    let a = read .before .before in
     copied-start (a .pre) (a .args .out .now) (omega (arith, c .put-site .kept .1 .1 .0))
-    (c .before .before .before .read .ensures) (c .before .before .rows-start .ensures) refl (c .put-site .ensures)
+    (read .read .ensures) (c .before .before .rows-start .ensures) refl (c .put-site .ensures)
 
 put-again-requires : tie.Need-put-again-requires Inv-loop μ-loop
 put-again-requires c κs =
@@ -35,8 +49,8 @@ loop-again c =
     let turn = c .before .before .before in
     copied-next (turn .loop-test .taken) (turn .before .loop .inv) (c .before .put-again .kept .1 .1 .0) (c .next .ensures .0) (c .before .put-again .ensures)
 
-returns : tie.Need-returns Inv-loop μ-loop
-returns c = copied-end (c .loop-test .left) (c .before .loop .inv)
+returns-2 : tie.Need-returns-2 Inv-loop μ-loop
+returns-2 c = copied-end (c .loop-test .left) (c .before .loop .inv)
 
 pub transcribe-spec : {M : Type 1} → statement M
 transcribe-spec =
@@ -45,6 +59,8 @@ transcribe-spec =
     Inv-loop
     μ-loop
     read-requires
+    put-part-requires
+    returns
     (λ c κs. search needs)
     put-site-requires
     loop-holds
@@ -53,4 +69,4 @@ transcribe-spec =
     (λ c. omega arith)
     (λ c. omega arith)
     loop-again
-    returns)
+    returns-2)
