@@ -58,18 +58,19 @@ struct Answered {
     state: State,
 }
 
-// The next record of a list.
+// The next record of a list; the image after it is laid out in the buffer beside the book.
 fn answer_next(
     mains: u64,
     book: &mut [u8; Book::LONGEST],
     index: &mut [u64; index::WORDS],
     state: State,
     q: Request,
+    next: &mut [u8; Book::LONGEST],
 ) -> Answered
     requires { ⌜ Standing (now book) (state .length) (now index) ⌝ }
     ensures { λ r. ⌜ AnsweredNext mains (now (book .entry)) state (theRequest q) r (now (book .exit)) (now (index .exit)) ⌝ }
 {
-    let outcome = working::work(mains, book, state.length, index, q);
+    let outcome = working::work(mains, book, state.length, index, q, next);
     Answered {
         answer: outcome.answer,
         state: State {
@@ -91,13 +92,14 @@ pub fn post_all(
     requires { ⌜ Standing (now book) length (now index) ⌝ }
     ensures { λ r. ⌜ PostedAll mains (now (requests .entry)) (now (book .entry)) length r (now (requests .exit)) (now (book .exit)) (now (index .exit)) ⌝ }
 {
+    let mut next = [0u8; Book::LONGEST];
     let mut state = State {
         length,
         done: false,
     };
     let mut i = 0;
     while i < requests.len() {
-        let answered = answer_next(mains, book, index, state, requests[i]);
+        let answered = answer_next(mains, book, index, state, requests[i], &mut next);
         requests[i].answer = answered.answer;
         state = answered.state;
         i += 1;
@@ -224,7 +226,8 @@ pub fn post_one(image: &[u8], mains: u64, q: Request, out: &mut [u8]) -> Answer
         length: begun.length,
         done: false,
     };
-    let answered = answer_next(mains, &mut book, &mut words, state, q);
+    let mut next = [0u8; Book::LONGEST];
+    let answered = answer_next(mains, &mut book, &mut words, state, q, &mut next);
     let written = finish(&book, answered.state, out);
     Answer {
         number: answered.answer,

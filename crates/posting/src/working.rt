@@ -55,22 +55,24 @@ fn take_over(book: &mut [u8], at: usize, next: &[u8])
     writer::put_part(&next[at..], book, at);
 }
 
-// Does what the request asks for, on the image of so many bytes and its index.
+// Does what the request asks for, on the image of so many bytes and its index; the image after it is laid out in the buffer
+// beside the book.
 pub fn work(
     mains: u64,
     book: &mut [u8],
     length: usize,
     index: &mut [u64; index::WORDS],
     q: Request,
+    next: &mut [u8; Book::LONGEST],
 ) -> Outcome
     requires { ⌜ Standing (now book) length (now index) ⌝ }
     ensures { λ r. ⌜ Worked mains (now (book .entry)) length (theRequest q) r (now (book .exit)) (now (index .exit)) ⌝ }
 {
     let spot = finding::find(&book[..length], q.id);
-    let mut next = [0u8; Book::LONGEST];
-    let answer = serve(&book[..length], index, mains, q, spot, &mut next);
+    let answer = serve(&book[..length], index, mains, q, spot, next);
     if answer.number == 0 {
-        take_over(book, finding::place(spot), &next[..answer.length]);
+        let laid: &[u8] = next;
+        take_over(book, finding::place(spot), &laid[..answer.length]);
         Outcome {
             answer: 0,
             length: answer.length,

@@ -19,11 +19,10 @@ slice-aggregate-serve c = sym (length-take-le _ _ (c .before .before .before .be
 serve-requires : tie.Need-serve-requires
 serve-requires c κs = (c .before .before .before .before .before .before .pre .image, c .before .before .before .find .ensures)
 
-array-share-prefix-next : tie.Need-array-share-prefix-next
-array-share-prefix-next c = c .before .before .before .before .serve .ensures .done (c .before .before .if1 .taken) .laid .fits
-
 slice-aggregate-take-over : tie.Need-slice-aggregate-take-over
-slice-aggregate-take-over c = sym (length-take-le _ _ (c .before .before .before .before .before .serve .ensures .done (c .before .before .before .if1 .taken) .laid .fits))
+slice-aggregate-take-over c =
+    let test = c .before .before .before .before .before in
+    sym (length-take-le _ _ (test .before .before .serve .ensures .done (test .if1 .taken) .laid .fits))
 
 -- the id of a record has 2 bytes
 small : (c : tie.Start) → TwoBytes (c .args .q .id)
@@ -31,9 +30,9 @@ small c = search needs
 
 take-over-requires : tie.Need-take-over-requires
 take-over-requires c κs =
-    let start = c .before .before .before .before .before .before .before .before .before .before .before .before in
-    let serve = c .before .before .before .before .before .serve in
-    let done = c .before .before .before .if1 .taken in
+    let start = c .before .before .before .before .before .before .before .before .before .before .before .before .before .before in
+    let serve = c .before .before .before .before .before .before .before .serve in
+    let done = c .before .before .before .before .before .if1 .taken in
     let id = small-id (start .args .q) (small start) in
     let most = size-most (start .pre) (serve .ensures) id done in
     let within = inside (start .pre) (serve .ensures) id done in
@@ -43,12 +42,12 @@ take-over-requires c κs =
 
 returns : tie.Need-returns
 returns c =
-    let start = c .before .before .before .before .before .before .before .before .before .before .before .before .before .before .before in
-    let serve = c .before .before .before .before .before .before .before .before .serve in
+    let start = c .before .before .before .before .before .before .before .before .before .before .before .before .before .before .before .before .before in
+    let serve = c .before .before .before .before .before .before .before .before .before .before .serve in
     let taken = c .before .before .take-over in
     let next : List ℕ = take (serve .result .length) (serve .last .1 .1 .1 .1 .1 .0) in
     let buffer : List ℕ = start .args .book .now in
-    work-done (start .pre) (serve .ensures) (small-id (start .args .q) (small start)) (c .before .before .before .before .before .before .if1 .taken)
+    work-done (start .pre) (serve .ensures) (small-id (start .args .q) (small start)) (c .before .before .before .before .before .before .before .before .if1 .taken)
     (subst (λ (at : ℕ). taken .last .0 ≡ over (over buffer 0 (take headerLength next)) at (drop at next)) (c .before .before .before .before .place .ensures) (taken .ensures)) (taken .kept .0)
 
 returns-2 : tie.Need-returns-2
@@ -65,7 +64,6 @@ work-spec =
     slice-aggregate-serve
     serve-requires
     (λ c κs. search needs)
-    array-share-prefix-next
     slice-aggregate-take-over
     take-over-requires
     (λ c. search needs)
