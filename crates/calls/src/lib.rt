@@ -157,7 +157,7 @@ fn salvage_into(
 ) -> Reply
     requires { ⌜ (headLength ≤ length (now frame)) × (room ≤ length (now lent)) × (size ≤ length (now report)) ⌝ }
 {
-    frames::fill(frame, report);
+    frames::fill(frame, report, 0, size);
     let salvaged = planner::salvage(book, &mut lent[..room], &mut report[..size]);
     Reply {
         number: salvaged.number,
@@ -174,11 +174,11 @@ fn put_report(report: &[u8], size: usize, lent: &mut [u8], at: usize)
     writer::put_part(&report[..size], lent, at);
 }
 
-// Salvages a damaged book; what is lent is an output of so many bytes, and then room for the longest report.
-pub fn salvage(frame: &[u8], book: &[u8], room: usize, lent: &mut [u8]) -> Reply
-    requires { ⌜ (headLength ≤ length (now frame)) × (room + mostReport ≤ length (now lent)) ⌝ }
+// Salvages a damaged book; what is lent is an output of so many bytes, and then the report.
+fn salvage(frame: &[u8], book: &[u8], room: usize, lent: &mut [u8]) -> Reply
+    requires { ⌜ (headLength ≤ length (now frame)) × (room ≤ length (now lent)) × (length (now lent) ≤ room + mostReport) ⌝ }
 {
-    let size = frames::report_room(frame);
+    let size = lent.len() - room;
     let mut report = [0u8; frames::MOST_REPORT];
     let reply = salvage_into(frame, book, room, lent, size, &mut report);
     put_report(&report, size, lent, room);
@@ -186,7 +186,7 @@ pub fn salvage(frame: &[u8], book: &[u8], room: usize, lent: &mut [u8]) -> Reply
 }
 
 // Makes a call that is neither a posting nor a salvage, with its book or its links.
-pub fn call(frame: &[u8], book: &[u8], out: &mut [u8]) -> Reply
+fn make(frame: &[u8], book: &[u8], out: &mut [u8]) -> Reply
     requires { ⌜ headLength ≤ length (now frame) ⌝ }
 {
     let call = frame[0];
@@ -204,4 +204,14 @@ pub fn call(frame: &[u8], book: &[u8], out: &mut [u8]) -> Reply
         LINKS => links(frame, book),
         _ => balance(frame, book),
     }
+}
+
+// Makes a call that is no posting, with its book or its links; what is lent is an output of so many bytes, and then the report of a salvage.
+pub fn call(frame: &[u8], book: &[u8], room: usize, lent: &mut [u8]) -> Reply
+    requires { ⌜ (headLength ≤ length (now frame)) × (room ≤ length (now lent)) × (length (now lent) ≤ room + mostReport) ⌝ }
+{
+    if frame[0] == frames::SALVAGE {
+        return salvage(frame, book, room, lent);
+    }
+    make(frame, book, &mut lent[..room])
 }

@@ -104,11 +104,14 @@ pub fn index(frame: &[u8]) -> [u64; MOST_WORDS]
     [broad(frame[18]) * 72_340_172_838_076_673; MOST_WORDS]
 }
 
-// The length of the report of a salvage; one that is too long is left out.
+// The length of the report of a salvage, which no other call has; one that is too long is left out.
 pub fn report_room(frame: &[u8]) -> usize
     requires { ⌜ headLength ≤ length (now frame) ⌝ }
     ensures { λ r. ⌜ r ≤ mostReport ⌝ }
 {
+    if frame[0] != SALVAGE {
+        return 0;
+    }
     let room = long(image::word_at(frame, 42));
     if MOST_REPORT < room {
         return 0;
@@ -144,11 +147,9 @@ fn further_length(frame: &[u8]) -> usize
     further + 65536 * long(image::word_at(frame, 42))
 }
 
-// The length of the frame, 0 if it ends the stream.
-pub fn size(frame: &[u8]) -> usize
-    requires { ⌜ headLength ≤ length (now frame) ⌝ }
-{
-    if !is_call(frame[0]) {
+// The length of the frame, 0 if it ends the stream or its head is cut off.
+pub fn size(frame: &[u8]) -> usize {
+    if frame.len() < HEAD || !is_call(frame[0]) {
         return 0;
     }
     let bytes = long(image::word_at(frame, 14));
@@ -246,13 +247,13 @@ pub fn mains(frame: &[u8]) -> u64
     image::word64_at(frame, 26)
 }
 
-// Fills the output buffer before the call.
-pub fn fill(frame: &[u8], out: &mut [u8])
-    requires { ⌜ headLength ≤ length (now frame) ⌝ }
+// Fills the bytes from start to end before the call.
+pub fn fill(frame: &[u8], out: &mut [u8], start: usize, end: usize)
+    requires { ⌜ (headLength ≤ length (now frame)) × (end ≤ length (now out)) ⌝ }
 {
     let filler = frame[18];
-    let mut i = 0;
-    while i < out.len() {
+    let mut i = start;
+    while i < end {
         writer::put(out, i, filler);
         i += 1;
     }
@@ -276,14 +277,14 @@ fn put_count(out: &mut [u8], at: usize, x: usize)
     writer::put_word(out, at + 2, (x % 65536) as u16);
 }
 
-// Puts the reply at the head of its answer.
-pub fn put_reply(out: &mut [u8], reply: Reply)
-    requires { ⌜ replyLength ≤ length (now out) ⌝ }
+// Puts the reply at the place where its answer starts.
+pub fn put_reply(out: &mut [u8], at: usize, reply: Reply)
+    requires { ⌜ at + replyLength ≤ length (now out) ⌝ }
 {
-    writer::put(out, 0, reply.number);
-    put_count(out, 1, reply.first);
-    put_count(out, 5, reply.second);
-    put_count(out, 9, reply.third);
+    writer::put(out, at, reply.number);
+    put_count(out, at + 1, reply.first);
+    put_count(out, at + 5, reply.second);
+    put_count(out, at + 9, reply.third);
 }
 
 // Puts a word of an index at its place, if the index has so many.

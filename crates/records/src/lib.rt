@@ -1,4 +1,6 @@
 // The records of a framed posting, in bytes and as an array, and the posting itself.
+pub mod answering;
+
 ghost use Prim.Native.Nat.{_+_, _*_, _≤_};
 ghost use lib.ListN.{length};
 ghost use Rattle.posting.specs.Posting.{listed};
@@ -97,7 +99,7 @@ fn put(list: [Request; posting::LISTED], count: usize, out: &mut [u8])
 }
 
 // Posts records on a book, with a set of nodes that may stand in the middle and an index; what else is lent is an output of so many bytes, and then as many as the records are.
-pub fn post(
+fn post(
     book: &[u8],
     mains: u64,
     records: &[u8],

@@ -1,16 +1,16 @@
 -- Every byte is stored within the buffer.
 use native.Mathlib.Omega.{arith}
-use Prim.Native.Nat.{_≤_, _-_}
+use Prim.Native.Nat.{_-_}
 use mathlib.Core.Path.{_≡_}
 use lib.ListN.{length}
 use Rattle.frames.proofs.fill.Statement.{statement}
 use Rattle.frames.proofs.fill.Tie as tie
 
 abbrev Inv-loop : tie.InvT-loop
-Inv-loop frame out₀ filler i₀ out i = (i ≤ length out) × (length out ≡ length out₀)
+Inv-loop frame out₀ start end filler i₀ out i = length out ≡ length out₀
 
 abbrev μ-loop : tie.MeasureT-loop
-μ-loop frame out₀ filler i₀ out i = length out - i
+μ-loop frame out₀ start end filler i₀ out i = end - i
 
 shared-slice-read-filler : tie.Need-shared-slice-read-filler Inv-loop μ-loop
 shared-slice-read-filler c = omega arith

@@ -3,14 +3,14 @@ use mathlib.Core.Path.{sym}
 use native.Mathlib.Omega.{arith}
 use lib.Seq.{length-take-le}
 use borrow.Author.Needs.{needs}
-use Rattle.engine.proofs.answer_posting.Statement.{statement}
-use Rattle.engine.proofs.answer_posting.Tie as tie
+use Rattle.records.proofs.answering.answer.Statement.{statement}
+use Rattle.records.proofs.answering.answer.Tie as tie
 
 slice-aggregate-answer-indexed : tie.Need-slice-aggregate-answer-indexed
 slice-aggregate-answer-indexed c = sym (length-take-le _ _ (omega arith))
 
-pub answer-posting-spec : {M : Type 1} → statement M
-answer-posting-spec =
+pub answer-spec : {M : Type 1} → statement M
+answer-spec =
     tie.close
     (tie.spec
     (λ c κs. search needs)
