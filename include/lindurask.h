@@ -92,7 +92,7 @@
  *   table takes 3 x S bytes for each of its tiles, S the slots of a tile: at most
  *   LINDURASK_LONGEST_TABLE. A list of routes takes at most LINDURASK_LONGEST_LIST. The index of a
  *   posting takes 200 x S words: at most LINDURASK_LONGEST_INDEX.
- * - A call takes up to 70 KB of stack, and nothing from the heap.
+ * - A call takes up to 80 KB of stack, and nothing from the heap.
  *
  * Every image is otherwise safe to pass: damaged bytes are refused by number.
  */

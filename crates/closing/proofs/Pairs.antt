@@ -1,6 +1,6 @@
 -- The rows of an id stand one after the other, and are at most two; once they are taken out the words are the index of the others.
 use mathlib.Core.Path.{_≡_, refl, sym, ap, _∙_, subst}
-use mathlib.Core.Logic.{_⊎_, inl, inr, ⊎-elim}
+use mathlib.Core.Logic.{inl, inr, ⊎-elim}
 use mathlib.Core.List.{List, [], _∷_, _++_}
 use Prim.Native.Nat.{ℕ, _+_, _*_, _-_, _<_, _≤_}
 use native.Mathlib.Omega.{arith}
@@ -12,7 +12,9 @@ use Rattle.rules.proofs.Encoding.{AllSized, length-rows, lawful-sized}
 use Rattle.rules.proofs.Lists.{with-in, with-this, with-other, with-less, with-alone, in-left}
 use Rattle.rules.proofs.Reading.{rowsIn, bookIn}
 use Rattle.index.specs.Index.{Beside}
-use Rattle.index.specs.Marks.{Removes, HopsTake}
+use Rattle.index.specs.Areas.{quickTiles}
+use Rattle.index.specs.Marks.{HopsTake}
+use Rattle.index.specs.Folding.{Removes}
 use Rattle.index.proofs.Behind.{beside-alike}
 use Rattle.index.proofs.Apart.{beside-without, lawful-quiet}
 use Rattle.image.specs.Places.{rowAt, nextAt, rowsFrom, Stands, RowHere}
@@ -26,9 +28,9 @@ use Rattle.closing.specs.Gone.{RowOut, GoneAt}
 
 -- one of some rows of a lawful book is taken out of their index
 row-out : {b : Book} {r : Row} {rows more : List Row} {t u : List ℕ} → LawfulBook b → With r rows more → RisingByKey more → ((x : Row) → x ∈ more → x ∈ b .rows)
-    → Beside (b .site) more t → Removes (HopsTake (b .site .plan .slots) r (hops r)) t u → Beside (b .site) rows u
+    → Beside (b .site) more t → Removes (quickTiles * b .site .plan .slots) (HopsTake (b .site .plan .slots) r (hops r)) t u → Beside (b .site) rows u
 row-out {b} {r} {rows} {more} l p up known w a =
-    beside-without (b .site) r rows (l .rows r (known r (with-this p)) .period) (λ x m. lawful-quiet b l r x (known r (with-this p)) (known x (with-other x p m)) (λ e. with-alone x p up m (sym e)))
+    beside-without (b .site) r rows (λ x m. lawful-quiet b l r x (known r (with-this p)) (known x (with-other x p m)) (λ e. with-alone x p up m (sym e)))
     (beside-alike (λ x m. with-in x p m) (λ x m. ⊎-elim (λ (e : x ≡ r). subst (λ (v : Row). v ∈ more) (sym e) (with-this p)) (λ (k : x ∈ rows). with-other x p k) m) w) a
 
 module _ {s : List ℕ} {id at : ℕ} (t : Taken s id at) where

@@ -12,7 +12,7 @@ use Rattle.rules.specs.Topology.{Hop}
 use Rattle.bitset.specs.Sets.{SetOf}
 use Rattle.clash.specs.Reach.{End, nodeAt}
 use Rattle.clash.specs.Reach.End.{sender, receiver}
-use Rattle.index.specs.Index.{indexSlots, slowPlace, wordAt, AtWork}
+use Rattle.index.specs.Areas.{indexSlots, slowPlace, wordAt, AtWork}
 use Rattle.index.specs.Marks.{Adds}
 
 pub adds-none : {P : End → ℕ → ℕ → Type 0} (t : List ℕ) → ((end : End) (slot node : ℕ) → P end slot node → ⊥) → Adds P t t

@@ -4,21 +4,21 @@ use mathlib.Core.List.{List, _∷_, _++_, append-assoc}
 use Prim.Native.Nat.{ℕ, _+_, _*_, _-_, _<_, _≤_}
 use native.Mathlib.Omega.{arith}
 use lib.ListN.{length, getD, take, drop}
-use lib.Seq.{paste, take-paste, drop-paste, length-paste, take-take, take-at, drop-at, drop-drop, take-length, length-take-le, getD-take}
+use lib.Seq.{paste, take-paste, drop-paste, length-paste, take-take, take-at, drop-at, take-length, length-take-le, getD-take}
 use Rattle.rules.specs.Words.{_∈_}
-use Rattle.rules.specs.Tiles.{Period, shortTiles}
-use Rattle.rules.specs.Book.{Site, Row, hops}
+use Rattle.rules.specs.Tiles.{Period}
+use Rattle.rules.specs.Book.{Site, Row, hops, rowOffset}
 use Rattle.bitset.specs.Sets.{SetOf}
 use Rattle.clash.specs.Reach.{End}
 use Rattle.clash.specs.Reach.End.{sender, receiver}
-use Rattle.index.specs.Index.{slowPlace, linksBehind, hearingBehind, indexLength, wordAt, Ends, IndexOf, StandAt, SitePut, Beside}
-use Rattle.index.specs.Marks.{Adds, Removes, Notes, HopsTake}
+use Rattle.index.specs.Areas.{quickTiles, foldPlace, indexSlots, slowPlace, linksBehind, hearingBehind, indexLength, wordAt}
+use Rattle.index.specs.Marks.{Adds, Notes, HopsTake}
+use Rattle.index.specs.Folding.{Removes}
+use Rattle.index.specs.Index.{RowsTake, IndexOf, StandAt, SitePut, Beside}
+use Rattle.index.proofs.Folding.{same-fold}
+use Rattle.index.proofs.Lending.{further}
 use Rattle.index.proofs.Rows.{index-more, index-alike}
 use Rattle.index.proofs.Removing.{index-less}
-
--- what is the same from a place on is the same from any place behind it
-further : (place k : ℕ) (t u : List ℕ) → drop place u ≡ drop place t → drop (place + k) u ≡ drop (place + k) t
-further place k t u e = sym (drop-drop k place u) ∙ ap (drop k) e ∙ drop-drop k place t
 
 stand-still : (place : ℕ) (these t u : List ℕ) → drop place u ≡ drop place t → StandAt place these t → StandAt place these u
 stand-still place these t u e w = ap (take (length these)) e ∙ w
@@ -79,7 +79,8 @@ pub site-beside : {site : Site} {rows : List Row} {links hearing t u : List ℕ}
 site-beside {site} {rows} {t = t} {u} most w p e f = record {
   slots = record {
     size = p .size ∙ w .size;
-    sets = λ end slot l. subst (SetOf (Ends (site .plan .slots) rows end slot)) (sym (same (wordAt end slot) (low end slot l))) (w .sets end slot l);
+    sets = λ end slot l. subst (SetOf (RowsTake (site .plan .slots) rows end slot)) (sym (same (wordAt end slot) (low end slot (omega arith)))) (w .sets end slot l);
+    folded = same-fold (omega arith) (λ end slot l. same (wordAt end slot) (low end slot l)) (w .folded);
     none-slow = λ z. w .none-slow (sym (same slowPlace (omega arith)) ∙ z);
   };
   links = subst (λ (these : List ℕ). StandAt linksBehind these u) e (p .links-stand);
@@ -89,9 +90,9 @@ site-beside {site} {rows} {t = t} {u} most w p e f = record {
     same : (i : ℕ) → i < linksBehind → getD u i 0 ≡ getD t i 0
     same i l = sym (getD-take linksBehind u i 0 l) ∙ ap (λ (x : List ℕ). getD x i 0) (p .front) ∙ getD-take linksBehind t i 0 l
 
-    low : (end : End) (slot : ℕ) → slot < shortTiles * site .plan .slots → wordAt end slot < linksBehind
-    low sender slot l = omega (arith, l, most)
-    low receiver slot l = omega (arith, l, most)
+    low : (end : End) (slot : ℕ) → slot < indexSlots → wordAt end slot < linksBehind
+    low sender slot l = omega (arith, l)
+    low receiver slot l = omega (arith, l)
 
 -- an index with other slots and the same links and hearing
 pub beside-still : {site : Site} {rows others : List Row} (t u : List ℕ) → drop linksBehind u ≡ drop linksBehind t → Beside site rows t → IndexOf (site .plan .slots) others u
@@ -104,14 +105,15 @@ beside-still {site} t u e w i = record {
 
 module _ {site : Site} {r : Row} {rows : List Row} where
   -- the row is marked, and its period noted
-  pub beside-more : {t u v : List ℕ} → site .plan .slots ≤ 32 → Beside site rows t → Period (r .period) → Adds (HopsTake (site .plan .slots) r (hops r)) t u
+  pub beside-more : {t u v : List ℕ} → site .plan .slots ≤ 32 → Beside site rows t → Period (r .period)
+      → ((i : ℕ) → i < hops r → rowOffset r i < r .period * site .plan .slots) → Adds (HopsTake (site .plan .slots) r (hops r)) t u
       → Notes (r .period) u v → Beside site (r ∷ rows) v
-  beside-more {t} {u} {v} most w p a b = beside-still t v (b .behind ∙ further slowPlace 1 t u (a .behind)) w (index-more most (w .slots) p a b)
+  beside-more {t} {u} {v} most w p within a b = beside-still t v (b .behind ∙ further slowPlace 1 t u (a .behind)) w (index-more most (w .slots) p within a b)
 
   -- a row less, whose ends no other row shares
-  pub beside-less : {t u : List ℕ} → Beside site (r ∷ rows) t → Period (r .period) → Removes (HopsTake (site .plan .slots) r (hops r)) t u
-      → ((end : End) (slot node : ℕ) → Ends (site .plan .slots) rows end slot node → HopsTake (site .plan .slots) r (hops r) end slot node → ⊥) → Beside site rows u
-  beside-less {t} {u} w p a apart = beside-still t u (further slowPlace 1 t u (a .behind)) w (index-less (w .slots) p a apart)
+  pub beside-less : {t u : List ℕ} → Beside site (r ∷ rows) t → Removes (quickTiles * site .plan .slots) (HopsTake (site .plan .slots) r (hops r)) t u
+      → ((end : End) (slot node : ℕ) → slot < foldPlace → RowsTake (site .plan .slots) rows end slot node → HopsTake (site .plan .slots) r (hops r) end slot node → ⊥) → Beside site rows u
+  beside-less {t} {u} w a apart = beside-still t u (further slowPlace 1 t u (a .behind)) w (index-less (w .slots) a apart)
 
 -- the order of the rows makes no difference
 pub beside-alike : {site : Site} {xs ys : List Row} {words : List ℕ} → ((x : Row) → x ∈ xs → x ∈ ys) → ((x : Row) → x ∈ ys → x ∈ xs) → Beside site xs words → Beside site ys words

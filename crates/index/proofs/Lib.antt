@@ -1,9 +1,16 @@
+pub mod Classes
 pub mod Adding
 pub mod Turns
 pub mod Noting
 pub mod Seeing
+pub mod Clearing
+pub mod Folding
+pub mod Hops
+pub mod Lending
+pub mod Whole
 pub mod Rows
-pub mod Meets
 pub mod Removing
 pub mod Behind
 pub mod Apart
+pub mod Meets
+pub mod Ends

@@ -11,7 +11,7 @@ use borrow.Author.Tests.{not-false, eqb-true}
 use Rattle.rules.specs.Tiles.{shortTiles}
 use Rattle.clash.specs.Reach.{End}
 use Rattle.clash.specs.Reach.End.{sender, receiver}
-use Rattle.index.specs.Index.{indexLength, indexSlots, slowPlace, linksBehind, wordAt}
+use Rattle.index.specs.Areas.{indexLength, indexSlots, slowPlace, linksBehind, wordAt}
 use Rattle.index.specs.Marks.{Notes}
 
 pub noted : (K : ℕ) (t : List ℕ) → length t ≡ indexLength → Notes K t (set t slowPlace 1)

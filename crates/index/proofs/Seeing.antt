@@ -1,24 +1,19 @@
 -- What is found in the slots that a hop takes, one turn after the other.
 use mathlib.Core.Path.{_≡_, refl, subst}
 use mathlib.Core.Logic.{_⊎_, inl, inr, ⊎-elim}
-use mathlib.Core.Bool.{not}
 use mathlib.Core.List.{List}
 use Prim.Native.Nat.{ℕ, _+_, _*_, _<_}
 use native.Mathlib.Omega.{arith}
-use lib.Dec.{eqb}
 use lib.ListN.{getD}
-use Rattle.rules.specs.Words.{Has, Tests}
-use Rattle.rules.proofs.Tests.{alike, tests-eq, tests-not}
+use Rattle.rules.specs.Words.{Has}
 use Rattle.bitset.specs.Sets.{SetOf}
 use Rattle.bitset.proofs.Bits.{zero-none}
 use Rattle.bitset.proofs.Members.{some-member}
 use Rattle.clash.specs.Reach.{End}
 use Rattle.clash.specs.Reach.End.{sender, receiver}
 use Rattle.clash.specs.declared.Reach.{Reach}
-use Rattle.index.specs.declared.Repeats.{Repeats}
-use Rattle.index.specs.Index.{AtWork}
-use Rattle.index.specs.Turns.{TakesFirst}
-use Rattle.index.specs.Marks.{Busy, FindsFirst, Finds, Common, InReach}
+use Rattle.index.specs.Areas.{AtWork}
+use Rattle.index.specs.Marks.{Busy, FindsFirst, Common, InReach}
 use Rattle.index.specs.Marks.Common.{sends, receives}
 use Rattle.index.proofs.Turns.{Turning, more, split}
 
@@ -65,48 +60,6 @@ module _ {words : List ℕ} {reach : Reach} {span o turns turn slot common : ℕ
   finds-here z = let k = some-member common (s .fits) z in finds-more g l (inr (common-busy s (k .0) (k .1)))
 
 -- a hop that finds one in its first turns finds one
-pub finds-within : {C : End → ℕ → Type 0} {words : List ℕ} {o n : ℕ} (r : Repeats) → n < r .turns → FindsFirst C words (r .span .0) o (n + 1) → Finds C words r o
-finds-within r l f =
+pub finds-within : {C : End → ℕ → Type 0} {words : List ℕ} {span start n : ℕ} (turns : ℕ) → n < turns → FindsFirst C words span start (n + 1) → FindsFirst C words span start turns
+finds-within turns l f =
     record { slot = f .slot; takes = record { turn = f .takes .turn; within = omega (arith, f .takes .within); at = f .takes .at }; busy = f .busy }
-
--- LOOKING AT ALL: in one of the slots of the first n turns the node is at work, at this end
-pub record WorksFirst (words : List ℕ) (span o n : ℕ) (end : End) (node : ℕ) : Type 0 where
-  pub slot : ℕ
-  pub takes : TakesFirst span o n slot
-  pub there : AtWork words end slot node
-
-pub works-none : (words : List ℕ) (span o : ℕ) (end : End) → SetOf (WorksFirst words span o 0 end) 0
-works-none words span o end = record { fits = omega arith; only = λ k m. absurd (zero-none k m); all = λ k w. omega (arith, w .takes .within) }
-
--- the next turn's slot is looked at in words that are there as they were
-pub works-more : {before : List ℕ} (words : List ℕ) {span o turns turn slot : ℕ} (end : End) {had next : ℕ} → Turning span o turns turn slot → turn < turns
-    → SetOf (λ (k : ℕ). Has had k ⊎ AtWork words end slot k) next
-    → ((node : ℕ) → AtWork words end slot node → AtWork before end slot node) → ((node : ℕ) → AtWork before end slot node → AtWork words end slot node)
-    → SetOf (WorksFirst before span o turn end) had → SetOf (WorksFirst before span o (turn + 1) end) next
-works-more {before} words {slot = slot} end g l u old kept w = record {
-  fits = u .fits;
-  only = λ k m. ⊎-elim (λ q. let f = w .only k q in record { slot = f .slot; takes = more g l (f .slot) (inl (f .takes)); there = f .there })
-      (λ q. record { slot = slot; takes = more g l slot (inr refl); there = old k q }) (u .only k m);
-  all = λ k f. u .all k (⊎-elim (λ t. inl (w .all k (record { slot = f .slot; takes = t; there = f .there })))
-      (λ e. inr (kept k (subst (λ (x : ℕ). AtWork before end x k) e (f .there)))) (split g l (f .slot) (f .takes)));
-}
-
--- of all that was seen, what is in reach was found
-pub works-tests : {before : List ℕ} {reach : Reach} {span o turn turns sent received common : ℕ} → turn ≡ turns
-    → SetOf (WorksFirst before span o turn sender) sent → SetOf (WorksFirst before span o turn receiver) received
-    → SetOf (Common sent received reach) common → Tests (not (eqb common 0)) (FindsFirst (InReach reach) before span o turns)
-works-tests {before} {reach} {span} {o} {turn} {sent = sent} {received} {common} e s r c =
-    subst (λ (n : ℕ). Tests (not (eqb common 0)) (FindsFirst (InReach reach) before span o n)) e
-    (alike (tests-not (tests-eq common 0)) (λ f. let k = some-member common (c .fits) f in found (k .0) (c .only (k .0) (k .1)))
-    (λ f z. zero-none (f .busy .node) (subst (λ (x : ℕ). Has x (f .busy .node)) z (c .all (f .busy .node) (seen f)))))
-  where
-    found : (k : ℕ) → Common sent received reach k → FindsFirst (InReach reach) before span o turn
-    found k (sends m p) = let w = s .only k m in record { slot = w .slot; takes = w .takes; busy = record { end = sender; node = k; sought = p; there = w .there } }
-    found k (receives m p) = let w = r .only k m in record { slot = w .slot; takes = w .takes; busy = record { end = receiver; node = k; sought = p; there = w .there } }
-
-    by-end : (end : End) {k : ℕ} → InReach reach end k → WorksFirst before span o turn end k → Common sent received reach k
-    by-end sender {k} p w = sends (s .all k w) p
-    by-end receiver {k} p w = receives (r .all k w) p
-
-    seen : (f : FindsFirst (InReach reach) before span o turn) → Common sent received reach (f .busy .node)
-    seen f = by-end (f .busy .end) (f .busy .sought) (record { slot = f .slot; takes = f .takes; there = f .busy .there })

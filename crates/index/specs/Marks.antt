@@ -1,18 +1,16 @@
 -- What is marked in an index, and what is found there.
 use mathlib.Core.Path.{_≡_}
 use mathlib.Core.Logic.{_⊎_}
-use mathlib.Core.Bool.{Bool}
 use mathlib.Core.List.{List}
 use Prim.Native.Nat.{ℕ, _<_, _≤_}
 use lib.ListN.{length, getD, drop}
-use Rattle.rules.specs.Words.{Has, NoBitFrom, Tests}
+use Rattle.rules.specs.Words.{Has, NoBitFrom}
 use Rattle.rules.specs.Tiles.{shortTiles}
-use Rattle.rules.specs.Topology.{Hop}
 use Rattle.rules.specs.Book.{Row, rowHop, rowOffset}
 use Rattle.clash.specs.Reach.{End, nodeAt, setAt}
 use Rattle.clash.specs.declared.Reach.{Reach}
-use Rattle.index.specs.Index.{indexSlots, slowPlace, linksBehind, wordAt, AtWork}
-use Rattle.index.specs.Turns.{TakesFirst, TakesShort, TakesIn}
+use Rattle.index.specs.Areas.{indexSlots, slowPlace, linksBehind, wordAt, AtWork}
+use Rattle.index.specs.Turns.{TakesFirst, MarkedAt, LooksAt, LooksIn}
 use Rattle.index.specs.declared.Repeats.{Repeats}
 
 -- the sets have the nodes that they had before, and those with P
@@ -25,7 +23,7 @@ pub record Adds (P : End → ℕ → ℕ → Type 0) (before after : List ℕ) :
   pub behind : drop slowPlace after ≡ drop slowPlace before
 
 -- the sets have the nodes that they had before, without those with P
-pub record Removes (P : End → ℕ → ℕ → Type 0) (before after : List ℕ) : Type 0 where
+pub record Clears (P : End → ℕ → ℕ → Type 0) (before after : List ℕ) : Type 0 where
   pub size : length after ≡ length before
   pub fits : (end : End) (slot : ℕ) → NoBitFrom 64 (getD before (wordAt end slot) 0) → NoBitFrom 64 (getD after (wordAt end slot) 0)
   pub only : (end : End) (slot node : ℕ) → AtWork after end slot node → AtWork before end slot node × (P end slot node → ⊥)
@@ -40,11 +38,11 @@ pub record Notes (K : ℕ) (before after : List ℕ) : Type 0 where
   pub short : getD after slowPlace 0 ≡ 0 → K ≤ shortTiles
   pub behind : drop linksBehind after ≡ drop linksBehind before
 
--- one of the row's first n hops takes the slot in the first 100 tiles, with the node at this end
+-- one of the row's first n hops is marked at the slot, with the node at this end
 pub record HopsTake (S : ℕ) (r : Row) (n : ℕ) (end : End) (slot node : ℕ) : Type 0 where
   pub hop : ℕ
   pub there : hop < n
-  pub takes : TakesShort S (r .period) (rowOffset r hop) slot
+  pub takes : MarkedAt S (r .period) (rowOffset r hop) slot
   pub is-end : node ≡ nodeAt end (rowHop r hop)
 
 -- a node with C is at work in the slot
@@ -55,14 +53,16 @@ pub record Busy (C : End → ℕ → Type 0) (words : List ℕ) (slot : ℕ) : T
   pub there : AtWork words end slot node
 
 -- in one of the slots of its first n turns a hop finds such a node
-pub record FindsFirst (C : End → ℕ → Type 0) (words : List ℕ) (span o n : ℕ) : Type 0 where
+pub record FindsFirst (C : End → ℕ → Type 0) (words : List ℕ) (span start n : ℕ) : Type 0 where
   pub slot : ℕ
-  pub takes : TakesFirst span o n slot
+  pub takes : TakesFirst span start n slot
   pub busy : Busy C words slot
 
--- it does in one of the slots that it takes
-abbrev pub Finds : (End → ℕ → Type 0) → List ℕ → Repeats → ℕ → Type 0
-Finds C words r o = FindsFirst C words (r .span .0) o (r .turns)
+-- it does in one of the slots where it is looked for
+pub record Finds (C : End → ℕ → Type 0) (words : List ℕ) (r : Repeats) (o : ℕ) : Type 0 where
+  pub slot : ℕ
+  pub looked : LooksIn r o slot
+  pub busy : Busy C words slot
 
 -- the node is in reach, as one of those that send or of those that receive
 pub data Common (senders receivers : ℕ) (reach : Reach) (node : ℕ) : Type 0 where
@@ -73,13 +73,8 @@ pub data Common (senders receivers : ℕ) (reach : Reach) (node : ℕ) : Type 0 
 abbrev pub InReach : Reach → End → ℕ → Type 0
 InReach reach end node = Has (setAt end reach) node
 
--- the hop was marked in the slots that it takes, and the test says whether a node in reach was at work in one of them before
-pub record Marks (r : Repeats) (o : ℕ) (h : Hop) (reach : Reach) (before after : List ℕ) (t : Bool) : Type 0 where
-  pub adds : Adds (λ (end : End) (slot node : ℕ). TakesIn r o slot × (node ≡ nodeAt end h)) before after
-  pub met : Tests t (Finds (InReach reach) before r o)
-
--- by the words a hop of period K and offset o takes a slot in the first 100 tiles where a node with C is at work
+-- by the words a hop of period K and offset o, where it is looked for, meets a node with C at work
 pub record MeetsIn (C : End → ℕ → Type 0) (S : ℕ) (words : List ℕ) (K o : ℕ) : Type 0 where
   pub slot : ℕ
-  pub takes : TakesShort S K o slot
+  pub looked : LooksAt S K o slot
   pub busy : Busy C words slot

@@ -1,5 +1,8 @@
-// The index of slots: for each slot of the first 100 tiles the set of nodes that send there, and of those that receive,
-// in streams of periods up to 100.
+// The index of slots: for each slot of the first 100 tiles the set of nodes that send there, and of those that receive, in
+// streams of periods up to 100. Those of periods up to ten tiles stand in ten tiles, the others in 100, and in a fold of their tens.
+pub mod slots;
+pub mod tens;
+
 ghost use mathlib.Core.Path.{_≡_};
 ghost use mathlib.Core.Bool.{false};
 ghost use Prim.Native.Nat.{ℕ, _+_, _*_, _<_, _≤_};
@@ -7,32 +10,44 @@ ghost use lib.ListN.{length, getD, take, drop};
 ghost use lib.Seq.{paste};
 ghost use Rattle.rules.specs.Words.{Tests};
 ghost use Rattle.rules.specs.Tiles.{Period, shortTiles};
-ghost use Rattle.bitset.specs.Sets.{SetOf};
 ghost use Rattle.clash.specs.Reach.{End, nodeAt, hop};
-ghost use Rattle.index.specs.Index.{slowPlace, linksBehind, hearingBehind, indexLength, SitePut};
+ghost use Rattle.index.specs.Areas.{slowPlace, linksBehind, hearingBehind, indexLength};
 ghost use Rattle.index.specs.Turns.{RepeatsOf, TakesIn, InIndex};
-ghost use Rattle.index.specs.Marks.{Removes, Notes, Common, Marks, InReach, Finds};
+ghost use Rattle.index.specs.Marks.{Adds, Notes, InReach, Finds};
+ghost use Rattle.index.specs.Folding.{Removes};
+ghost use Rattle.index.specs.Index.{SitePut};
 use clash::Reach;
 use rules::Node;
 use rules::Slot;
 use rules::Tile;
 
+// A period up to ten tiles comes round in ten.
+const QUICK_TILES: u16 = 10;
+
+// Behind the slots of 100 tiles of 32 slots are those of ten tiles, for periods up to ten,
+const QUICK: usize = 3200;
+
+// and then those of ten tiles, for the tens of the 100 laid over each other.
+const FOLD: usize = 3520;
+
 // Behind the slots stands a word that is 0 only where no period is over 100.
-const SLOW: usize = 6400;
+const SLOW: usize = 7680;
 
 // Behind it stand the links of a site, a word for each node,
-const LINKS: usize = 6401;
+const LINKS: usize = 7681;
 
 // and its hearing.
-const HEARING: usize = 6465;
+const HEARING: usize = 7745;
 
-// Two words for each slot of 100 tiles of 32 slots, and all that.
-pub const WORDS: usize = 6529;
+// Two words for each slot, and all that.
+pub const WORDS: usize = 7809;
 
-// How a period repeats: the slots from a turn to the next, and how many turns 100 tiles have.
+// How a period repeats: the slots from a turn to the next, how many turns 100 tiles have and how few ten have, and the slots of ten.
 pub struct Repeats {
     pub span: Slot,
     pub turns: u16,
+    pub few: u16,
+    pub fold: Slot,
 }
 
 // How many words an index has that is lent for tiles of so many slots: two for each slot of 100 tiles.
@@ -43,7 +58,7 @@ pub fn words_for(slots: Slot) -> usize
     2 * (rules::SHORT as usize * slots.0 as usize)
 }
 
-// How a period repeats: one over 100 has no turn, and is neither marked nor found.
+// How a period repeats: one over 100 has no turn, and is neither marked nor found, and one over ten has none in ten tiles.
 pub fn repeats_of(slots: Slot, period: Tile) -> Repeats
     requires { ⌜ (slots .0 ≤ 32) × Period (period .0) ⌝ }
     ensures { λ r. ⌜ RepeatsOf (slots .0) (period .0) r ⌝ }
@@ -51,6 +66,8 @@ pub fn repeats_of(slots: Slot, period: Tile) -> Repeats
     Repeats {
         span: rules::span(slots, period),
         turns: rules::SHORT / period.0,
+        few: QUICK_TILES / period.0,
+        fold: Slot(QUICK_TILES * slots.0),
     }
 }
 
@@ -118,88 +135,59 @@ pub fn hearing(index: &[u64; WORDS], nodes: usize) -> &[u64]
     part(index, HEARING, nodes)
 }
 
-// Which of the nodes that send and of those that receive are in reach.
-fn in_reach(senders: u64, receivers: u64, reach: Reach) -> u64
-    ensures { λ r. ⌜ SetOf (Common senders receivers reach) r ⌝ }
-{
-    bitset::union(
-        bitset::intersection(senders, reach.senders),
-        bitset::intersection(receivers, reach.receivers),
-    )
-}
-
-// Marks a hop with these repeats and this offset in every slot that it takes; whether a node in reach was at work in one of them.
-pub fn mark(
-    index: &mut [u64; WORDS],
-    repeats: Repeats,
-    offset: Slot,
-    from: Node,
-    to: Node,
-    reach: Reach,
-) -> bool
+// Marks a hop with these repeats and this offset.
+pub fn put(index: &mut [u64; WORDS], repeats: Repeats, offset: Slot, from: Node, to: Node)
     requires { ⌜ (length (now index) ≡ indexLength) × InIndex repeats (offset .0) × (from .0 < 64) × (to .0 < 64) ⌝ }
-    ensures { λ r. ⌜ Marks repeats (offset .0) (hop from to) reach (now (index .entry)) (now (index .exit)) r ⌝ }
+    ensures { λ _. ⌜ Adds (λ (end : End) (slot node : ℕ). TakesIn repeats (offset .0) slot × (node ≡ nodeAt end (hop from to))) (now (index .entry)) (now (index .exit)) ⌝ }
 {
-    let span = repeats.span.0 as usize;
-    let turns = repeats.turns;
-    let i = from.0 as usize;
-    let j = to.0 as usize;
-    let mut sent: u64 = 0;
-    let mut received: u64 = 0;
-    let mut slot = offset.0 as usize;
-    let mut turn = 0;
-    while turn < turns {
-        let at = 2 * slot;
-        let senders = index[at];
-        let receivers = index[at + 1];
-        sent = bitset::union(sent, senders);
-        received = bitset::union(received, receivers);
-        index[at] = bitset::insert(senders, i);
-        index[at + 1] = bitset::insert(receivers, j);
-        slot += span;
-        turn += 1;
+    let o = offset.0 as usize;
+    if 0 < repeats.few {
+        slots::put(index, repeats.span, repeats.few, QUICK + o, from, to);
+        return;
     }
-    in_reach(sent, received, reach) != 0
+    if 0 < repeats.turns {
+        let folded = FOLD + (offset.0 % repeats.fold.0) as usize;
+        slots::put(index, repeats.span, repeats.turns, o, from, to);
+        slots::put(index, repeats.span, 1, folded, from, to);
+    }
 }
 
-// Whether a node in reach is at work in a slot that such a hop takes.
+// Whether a node in reach is at work in a slot where such a hop is looked for.
 pub fn finds(index: &[u64; WORDS], repeats: Repeats, offset: Slot, reach: Reach) -> bool
     requires { ⌜ InIndex repeats (offset .0) ⌝ }
     ensures { λ r. ⌜ Tests r (Finds (InReach reach) (now (index .entry)) repeats (offset .0)) ⌝ }
 {
-    let span = repeats.span.0 as usize;
-    let turns = repeats.turns;
-    let mut slot = offset.0 as usize;
-    let mut turn = 0;
-    while turn < turns {
-        let at = 2 * slot;
-        if in_reach(index[at], index[at + 1], reach) != 0 {
+    let o = offset.0 as usize;
+    if 0 < repeats.few {
+        if slots::finds(index, repeats.span, repeats.few, QUICK + o, reach) {
             return true;
         }
-        slot += span;
-        turn += 1;
+        return slots::finds(index, repeats.span, repeats.few, FOLD + o, reach);
     }
-    false
+    if repeats.turns == 0 {
+        return false;
+    }
+    if slots::finds(index, repeats.span, repeats.turns, o, reach) {
+        return true;
+    }
+    let quick = QUICK + (offset.0 % repeats.fold.0) as usize;
+    slots::finds(index, repeats.span, 1, quick, reach)
 }
 
-// Takes the ends of a marked hop out of every slot that it takes.
+// Takes the ends of a marked hop out of every slot where it is marked.
 pub fn unmark(index: &mut [u64; WORDS], repeats: Repeats, offset: Slot, from: Node, to: Node)
     requires { ⌜ (length (now index) ≡ indexLength) × InIndex repeats (offset .0) × (from .0 < 64) × (to .0 < 64) ⌝ }
-    ensures { λ _. ⌜ Removes (λ (end : End) (slot node : ℕ). TakesIn repeats (offset .0) slot × (node ≡ nodeAt end (hop from to))) (now (index .entry)) (now (index .exit)) ⌝ }
+    ensures { λ _. ⌜ Removes (repeats .fold .0) (λ (end : End) (slot node : ℕ). TakesIn repeats (offset .0) slot × (node ≡ nodeAt end (hop from to)))
+        (now (index .entry)) (now (index .exit)) ⌝ }
 {
-    let span = repeats.span.0 as usize;
-    let turns = repeats.turns;
-    let i = from.0 as usize;
-    let j = to.0 as usize;
-    let mut slot = offset.0 as usize;
-    let mut turn = 0;
-    while turn < turns {
-        let at = 2 * slot;
-        let senders = index[at];
-        let receivers = index[at + 1];
-        index[at] = bitset::remove(senders, i);
-        index[at + 1] = bitset::remove(receivers, j);
-        slot += span;
-        turn += 1;
+    let o = offset.0 as usize;
+    if 0 < repeats.few {
+        slots::clear(index, repeats.span, repeats.few, QUICK + o, from, to);
+        return;
+    }
+    if 0 < repeats.turns {
+        let slot = (offset.0 % repeats.fold.0) as usize;
+        slots::clear(index, repeats.span, repeats.turns, o, from, to);
+        tens::refold(index, repeats.fold.0 as usize, slot);
     }
 }

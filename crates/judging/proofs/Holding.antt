@@ -110,7 +110,7 @@ module _ {s places words : List ℕ} {n at : ℕ} {rows : List Row} (fields : Fi
 
   pub found-row : RowMeets words s places n at → (x : Row) × (x ∈ rows) × RowsMeet (siteOf s) (rowAt s at) x
   found-row (i, l, inl m) =
-      let q = meets-row {site = siteOf s} index (law .period) (offset-within law i l) m in
+      let q = meets-row {site = siteOf s} index (law .period) (fields .plan .most) (offset-within law i l) m in
       (q .0, q .1, record { hop = i; there = l; meets = q .2 })
   found-row (i, l, inr m) =
       (placed s places (m .row), known (m .row) (m .there), record { hop = i; there = l; meets = row-clashing s (placed s places (m .row)) (m .meets) })
@@ -139,5 +139,5 @@ module _ {s places words : List ℕ} {n at : ℕ} {rows : List Row} (fields : Fi
       go (yes h) f = inr (plain (inl h))
       go (no h) (yes f) = inr (plain (inr f))
       go (no h) (no f) =
-          inl (row-meets {site = siteOf s} index (law .period) (offset-within law (k .hop) (k .there)) (fields .plan .some) (omega arith) x m
+          inl (row-meets {site = siteOf s} index (law .period) (fields .plan .most) (offset-within law (k .hop) (k .there)) (fields .plan .some) (omega arith) x m
           (subst (LawfulRow (siteOf s)) (sym (q .2)) (there .each (q .0) (q .1) .lawful)) (omega arith) (k .meets))

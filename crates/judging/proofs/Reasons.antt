@@ -20,6 +20,7 @@ use Rattle.rules.proofs.Saved.{last-or, keep-held}
 use Rattle.index.specs.Marks.{Adds, Notes, HopsTake}
 use Rattle.index.proofs.Rows.{index-more, index-alike}
 use Rattle.image.specs.Places.{rowAt}
+use Rattle.image.proofs.Hops.{offset-within}
 use Rattle.accounts.specs.Lists.{LeftBy, MayDraw, DrawsMore, CanDraw}
 use Rattle.plain.specs.Plain.{RowThere}
 use Rattle.rows.specs.Walk.{RowStands}
@@ -173,7 +174,7 @@ module _ {s : List ℕ} {at : ℕ} {kept : Kept} {places left words : List ℕ} 
     purses = more rows (w .purses);
     all-purses = all;
     index = index-alike turned back
-        (index-more (fields .plan .most) (w .index) (l .lawful .period) adds (subst (λ (K : ℕ). Notes K words′ words″) K-is notes));
+        (index-more (fields .plan .most) (w .index) (l .lawful .period) (offset-within (l .lawful)) adds (subst (λ (K : ℕ). Notes K words′ words″) K-is notes));
   }
     where
       r : Row

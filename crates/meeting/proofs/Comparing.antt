@@ -60,7 +60,7 @@ beside-more {s} {start} {done} {at} {before} w few e row m = record {
   there = record { each = each; few = omega arith };
   known = known;
   nth = nth;
-  index = index-more (w .in-range .most) (w .index) (row .lawful .period) (m .adds) (m .notes);
+  index = index-more (w .in-range .most) (w .index) (row .lawful .period) (offset-within (row .lawful)) (m .adds) (m .notes);
 }
   where
     each : (i : ℕ) → i < done + 1 → RowThere s (placeOf s start i)

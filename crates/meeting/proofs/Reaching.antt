@@ -13,11 +13,11 @@ use Rattle.rules.specs.Book.{hops, rowHop, rowOffset}
 use Rattle.rules.specs.Image.{planOf, FieldsInRange, hearingOf}
 use Rattle.rules.specs.declared.Node.{Node}
 use Rattle.bitset.specs.Rows.{topology}
-use Rattle.rules.proofs.Tests.{alike, fails, said-yes}
-use Rattle.clash.specs.Reach.{hop, Clashes, Between, ReachOf}
+use Rattle.rules.proofs.Tests.{alike, never, fails, said-yes, said-no}
+use Rattle.clash.specs.Reach.{End, nodeAt, hop, Clashes, Between, ReachOf}
 use Rattle.clash.specs.declared.Reach.{Reach}
-use Rattle.index.specs.Turns.{RepeatsOf, InIndex}
-use Rattle.index.specs.Marks.{Adds, Notes, HopsTake, Marks, Finds, InReach}
+use Rattle.index.specs.Turns.{RepeatsOf, TakesIn, InIndex}
+use Rattle.index.specs.Marks.{Adds, Notes, HopsTake, Finds, InReach}
 use Rattle.index.specs.declared.Repeats.{Repeats}
 use Rattle.index.proofs.Turns.{in-index}
 use Rattle.index.proofs.Meets.{tests-meets, own-before, own-after}
@@ -50,7 +50,7 @@ row-there fields stands = record { whole = stands .whole; lawful = stands .lawfu
 -- A HOP OF THE ROW
 module _ {s : List ℕ} {at : ℕ} {repeats : Repeats} (w : RowPlaced s at repeats) where
   pub hop-in-index : {i o : ℕ} → i < hops (rowAt s at) → o ≡ rowOffset (rowAt s at) i → InIndex repeats o
-  hop-in-index {i} l e = in-index (w .repeats-are) (w .fields .plan .most) (rw e (offset-within (w .row .lawful) i l))
+  hop-in-index {i} l e = in-index (w .repeats-are) (w .fields .plan .most) (w .row .lawful .period) (rw e (offset-within (w .row .lawful) i l))
 
   module _ {hearing : List ℕ} (v : HearingRead s hearing) (i : ℕ) {from to : Node} (e : from .0 ≡ getD (rowAt s at .route) i 0)
       (f : to .0 ≡ getD (rowAt s at .route) (i + 1) 0) where
@@ -70,41 +70,43 @@ module _ {s : List ℕ} {at : ℕ} {repeats : Repeats} (w : RowPlaced s at repea
       pub reach-is : ReachOf (hearingOf s) (rowHop (rowAt s at) i) reach
       reach-is = subst (λ (T : Topology). ReachOf T (rowHop (rowAt s at) i) reach) (ap topology (v .rows-are)) (subst (λ (h : Hop). ReachOf (topology hearing) h reach) hop-is u)
 
-      module _ {o : ℕ} {before after : List ℕ} {t : Bool} (g : o ≡ rowOffset (rowAt s at) i) (m : Marks repeats o (hop from to) reach before after t) where
-        marks-are : Marks repeats (rowOffset (rowAt s at) i) (rowHop (rowAt s at) i) reach before after t
-        marks-are =
-            subst (λ (h : Hop). Marks repeats (rowOffset (rowAt s at) i) h reach before after t) hop-is
-            (subst (λ (p : ℕ). Marks repeats p (hop from to) reach before after t) g m)
-
-        met-is : Tests t (HopIndexed before s at i)
-        met-is = tests-meets reach-is (w .repeats-are) (marks-are .met)
-
-        -- it met something in the index
-        pub hop-met : {start rows : ℕ} {moduli : List ℕ} → t ≡ true → HopMarked s start rows moduli at i repeats before after true
-        hop-met e = record { adds = marks-are .adds; met = said-yes (inl (met-is .yes e)) }
-
-        -- it did not, and was held against the rows that have moduli
-        pub hop-marked : {start rows : ℕ} {moduli : List ℕ} {u : Bool} → t ≡ false → Tests u (Agrees (InReach reach) s start rows moduli o)
-            → HopMarked s start rows moduli at i repeats before after u
-        hop-marked {start} {rows} {moduli} {u} e a = record {
-          adds = marks-are .adds;
-          met = alike (subst (λ (p : ℕ). Tests u (Agrees (InReach reach) s start rows moduli p)) g a)
-              (λ k. inr (agrees-for (InReach reach) (Clashes (hearingOf s) (rowHop (rowAt s at) i)) (λ end node q. reach-is end .only node q) k))
-              (λ h. ⊎-elim (λ k. absurd (fails met-is e k))
-              (λ k. agrees-for (Clashes (hearingOf s) (rowHop (rowAt s at) i)) (InReach reach) (λ end node q. reach-is end .all node q) k) h);
-        }
-
-      -- looked up, it is not marked
+      -- what is looked up is what it meets by the index
       pub hop-found : {o : ℕ} {words : List ℕ} {t : Bool} → o ≡ rowOffset (rowAt s at) i → Tests t (Finds (InReach reach) words repeats o) → Tests t (HopIndexed words s at i)
       hop-found {words = words} {t} g m = tests-meets reach-is (w .repeats-are) (subst (λ (p : ℕ). Tests t (Finds (InReach reach) words repeats p)) g m)
+
+      module _ {o : ℕ} {words : List ℕ} {t : Bool} (g : o ≡ rowOffset (rowAt s at) i) (m : Tests t (Finds (InReach reach) words repeats o)) where
+        -- it meets something in the index
+        pub hop-met : {start rows : ℕ} {moduli after : List ℕ} → t ≡ true → HopMarked s start rows moduli at i repeats words after true
+        hop-met e = record { adds = λ q. absurd (never (sym q)); met = said-yes (inl (hop-found g m .yes e)) }
+
+        -- or it agrees with one of the rows that have moduli
+        module _ {start rows : ℕ} {moduli : List ℕ} {v′ : Bool} (a : Tests v′ (Agrees (InReach reach) s start rows moduli o)) where
+          agrees-is : Tests v′ (Agrees (Clashes (hearingOf s) (rowHop (rowAt s at) i)) s start rows moduli (rowOffset (rowAt s at) i))
+          agrees-is =
+              alike (subst (λ (p : ℕ). Tests v′ (Agrees (InReach reach) s start rows moduli p)) g a)
+              (agrees-for (InReach reach) (Clashes (hearingOf s) (rowHop (rowAt s at) i)) (λ end node q. reach-is end .only node q))
+              (agrees-for (Clashes (hearingOf s) (rowHop (rowAt s at) i)) (InReach reach) (λ end node q. reach-is end .all node q))
+
+          pub hop-agreed : {after : List ℕ} → v′ ≡ true → HopMarked s start rows moduli at i repeats words after true
+          hop-agreed e = record { adds = λ q. absurd (never (sym q)); met = said-yes (inr (agrees-is .yes e)) }
+
+          -- or neither, and it was marked
+          pub hop-marked : {after : List ℕ} → t ≡ false → v′ ≡ false
+              → Adds (λ (end : End) (slot node : ℕ). TakesIn repeats o slot × (node ≡ nodeAt end (hop from to))) words after → HopMarked s start rows moduli at i repeats words after false
+          hop-marked {after} e d adds = record {
+            adds = λ q.
+                subst (λ (h : Hop). Adds (λ (end : End) (slot node : ℕ). TakesIn repeats (rowOffset (rowAt s at) i) slot × (node ≡ nodeAt end h)) words after) hop-is
+                (subst (λ (p : ℕ). Adds (λ (end : End) (slot node : ℕ). TakesIn repeats p slot × (node ≡ nodeAt end (hop from to))) words after) g adds);
+            met = said-no (λ h. ⊎-elim (fails (hop-found g m) e) (fails agrees-is d) h);
+          }
 
 -- it meets no hop of its own row, so it may be looked up with those marked already
 pub own-apart : {s : List ℕ} {at i : ℕ} {repeats : Repeats} {start rows : ℕ} {moduli before words : List ℕ} {t : Bool} → RowPlaced s at repeats → i < hops (rowAt s at)
     → Adds (HopsTake (planOf s .slots) (rowAt s at) i) before words → Tests t (HopAgrees words s start rows moduli at i) → Tests t (HopAgrees before s start rows moduli at i)
 own-apart w l a t =
     let row = w .row .lawful in
-    alike t (λ h. ⊎-elim (λ m. inl (own-before (row .period) (row .offsets) l a m)) (λ m. inr m) h)
-    (λ h. ⊎-elim (λ m. inl (own-after (row .period) (row .offsets) l a m)) (λ m. inr m) h)
+    alike t (λ h. ⊎-elim (λ m. inl (own-before (row .offsets) l a m)) (λ m. inr m) h)
+    (λ h. ⊎-elim (λ m. inl (own-after (row .offsets) l a m)) (λ m. inr m) h)
 
 -- WHAT THE MODULI SAY of the row's hops is what they meet of the rows before
 pub row-compared : {s : List ℕ} {start n K rows at : ℕ} {moduli before after : List ℕ} {t : Bool} → Framed s → RowStands s at → RowsThere s start n → K ≡ rowAt s at .period

@@ -41,9 +41,9 @@ HopMeets words s start n at i =
 abbrev pub RowMeets : List ℕ → List ℕ → ℕ → ℕ → ℕ → Type 0
 RowMeets words s start n at = (i : ℕ) × (i < hops (rowAt s at)) × HopMeets words s start n at i
 
--- the hop was marked, and the test says whether it met something before
+-- the test says whether the hop met something, and where it did not it was marked
 pub record HopMarked (s : List ℕ) (start rows : ℕ) (moduli : List ℕ) (at i : ℕ) (repeats : Repeats) (before after : List ℕ) (t : Bool) : Type 0 where
-  pub adds : Adds (λ (end : End) (slot node : ℕ). TakesIn repeats (rowOffset (rowAt s at) i) slot × (node ≡ nodeAt end (rowHop (rowAt s at) i))) before after
+  pub adds : t ≡ false → Adds (λ (end : End) (slot node : ℕ). TakesIn repeats (rowOffset (rowAt s at) i) slot × (node ≡ nodeAt end (rowHop (rowAt s at) i))) before after
   pub met : Tests t (HopAgrees before s start rows moduli at i)
 
 -- the test says whether a hop of the row met something before, and where none did all were marked

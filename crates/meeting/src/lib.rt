@@ -31,8 +31,8 @@ fn offset_in(image: &[u8], at: usize, nodes: usize, h: usize, i: usize) -> Slot
     Slot(image::word_at(image, at + (nodes + 1) + h + 2 * i))
 }
 
-// Marks hop i of the row; whether a node that clashes with it was at work in a slot that it takes, or it agrees with a
-// clashing hop of the rows that have moduli.
+// Whether a node that clashes with hop i of the row is at work in a slot that it takes, or it agrees with a clashing hop of the
+// rows that have moduli; where neither is so the hop is marked.
 fn hop_meets(
     image: &[u8],
     hearing: &[u64],
@@ -54,10 +54,14 @@ fn hop_meets(
     let to = node_in(image, at, nodes, i + 1);
     let offset = offset_in(image, at, nodes, h, i);
     let reach = clash::reach_of(hearing, from, to);
-    if index::mark(index, repeats, offset, from, to, reach) {
+    if index::finds(index, repeats, offset, reach) {
         return true;
     }
-    plain::agrees(image, start, rows, moduli, reach, offset)
+    if plain::agrees(image, start, rows, moduli, reach, offset) {
+        return true;
+    }
+    index::put(index, repeats, offset, from, to);
+    false
 }
 
 // Marks the row's hops up to the first that meets one of the rows before; whether there is such a hop.

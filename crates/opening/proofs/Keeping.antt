@@ -2,14 +2,15 @@
 use mathlib.Core.Path.{_≡_, sym, subst}
 use mathlib.Core.Logic.{inl, inr}
 use mathlib.Core.List.{List, [], _∷_, _++_}
-use Prim.Native.Nat.{ℕ}
+use Prim.Native.Nat.{ℕ, _*_, _<_}
 use native.Mathlib.Omega.{arith}
+use lib.ListN.{getD}
 use Rattle.rules.specs.Words.{_∈_}
 use Rattle.rules.specs.Topology.{hopCount}
 use Rattle.rules.specs.Book.{Row, Plus}
 use Rattle.rules.specs.Placing.{Asked, NotPaid}
 use Rattle.rules.specs.Image.{siteOf}
-use Rattle.rules.proofs.Lists.{reordered-in, reordered-back}
+use Rattle.rules.proofs.Lists.{at-in, reordered-in, reordered-back}
 use Rattle.rules.proofs.Reading.{rowsIn, bookIn}
 use Rattle.image.specs.declared.Book.{Book}
 use Rattle.index.specs.Index.{Beside}
@@ -27,6 +28,7 @@ pub marked-row : {s words marks : List ℕ} {q : Asked} {slots : ℕ} {rows : Li
     → MarkedAs s words q slots rows route offsets → Marked slots (q .period) route offsets words marks → Beside (siteOf s) (rowOn q way route offsets ∷ rows) marks
 marked-row {words = words} {marks} {q} {route = route} {offsets} way w m =
     beside-more (omega (arith, w .slots-are, w .markable .few)) (w .index) (w .markable .period)
+    (λ i l. subst (λ (S : ℕ). getD offsets i 0 < q .period * S) (w .slots-are) (w .markable .within (getD offsets i 0) (at-in offsets i (omega (arith, l, w .markable .count)))))
     (subst (λ (S : ℕ). Adds (HopsTake S (marking.rowOn (q .id) way (q .account) (q .period) route offsets) (hopCount route)) words (m .words)) (w .slots-are)
     (m .adds (q .id) way (q .account)))
     (m .notes)

@@ -3,7 +3,6 @@ ghost use mathlib.Core.Path.{_≡_};
 ghost use lib.ListN.{length};
 ghost use Rattle.index.specs.Index.{indexLength};
 ghost use Rattle.placing.specs.Marking.{Markable, Marked};
-use clash::Reach;
 use rules::Node;
 use rules::Slot;
 use rules::Tile;
@@ -22,17 +21,12 @@ pub fn mark(
     let repeats = index::repeats_of(slots, period);
     let mut i: usize = 0;
     while i < offsets.len() {
-        let nobody = Reach {
-            senders: 0,
-            receivers: 0,
-        };
-        index::mark(
+        index::put(
             index,
             repeats,
             Slot(offsets[i]),
             Node(route[i]),
             Node(route[i + 1]),
-            nobody,
         );
         i += 1;
     }

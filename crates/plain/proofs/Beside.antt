@@ -47,7 +47,7 @@ module _ {s : List ℕ} {start n : ℕ} {rows : List Row} {words : List ℕ} (w 
   module _ {K o : ℕ} (p : Period K) (l : o < K * planOf s .slots) {h : Hop} where
     pub meets-some : MeetsIn (Clashes (hearingOf s) h) (planOf s .slots) words K o ⊎ MeetsPlain (Clashes (hearingOf s) h) s start n K o
         → (x : Row) × (x ∈ rows) × MeetsClashing (siteOf s) x K h o
-    meets-some (inl m) = meets-row {site = siteOf s} (w .index) p l m
+    meets-some (inl m) = meets-row {site = siteOf s} (w .index) p (w .in-range .most) l m
     meets-some (inr m) = (nthRow s start (m .row), w .known (m .row) (m .there), row-clashing s (nthRow s start (m .row)) (m .meets))
 
     -- where the index leaves one of the periods out it is met by the plain test, and otherwise in the index
@@ -68,4 +68,4 @@ module _ {s : List ℕ} {start n : ℕ} {rows : List Row} {words : List ℕ} (w 
         go : Dec (shortTiles < K) → Dec (shortTiles < x .period) → MeetsIn (Clashes (hearingOf s) h) (planOf s .slots) words K o ⊎ MeetsPlain (Clashes (hearingOf s) h) s start n K o
         go (yes k) q = inr (plain (inl k))
         go (no k) (yes q) = inr (plain (inr q))
-        go (no k) (no q) = inl (row-meets {site = siteOf s} (w .index) p l (w .in-range .some) (omega arith) x m (row-lawful x m) (omega arith) c)
+        go (no k) (no q) = inl (row-meets {site = siteOf s} (w .index) p (w .in-range .most) l (w .in-range .some) (omega arith) x m (row-lawful x m) (omega arith) c)

@@ -7,21 +7,21 @@ use Prim.Native.Nat.{ℕ, zero, suc, _<_, _≤_}
 use native.Mathlib.Omega.{arith}
 use lib.Dec.{eqb}
 use lib.ListN.{length, take, drop, replicate, length-replicate, length-map, length-append, take-append-drop}
-use lib.Seq.{length-take-le, take-append-seam, drop-append-seam, paste}
+use lib.Seq.{length-take-le, take-append-seam, drop-append-seam}
 use Rattle.rules.specs.Words.{NoBitFrom, _∈_}
 use Rattle.rules.specs.Topology.{nodes}
 use Rattle.rules.specs.Says.{Says}
 use Rattle.rules.specs.Book.{Site, Book}
 use Rattle.rules.specs.Image.{newest, longestImage, encode, versionOf, planOf, nodesOf, linksOf, imageRefusals}
-use Rattle.rules.specs.Index.{indexLength, Indexed}
+use Rattle.rules.specs.Index.{indexLength, IndexOf, Indexed}
 use Rattle.rules.specs.Calls as calls
 use Rattle.rules.specs.Calls.{Wrote, Unchanged, Work, InOrder, SaysOf, postRefusals, mostRequests, Posted}
 use Rattle.rules.proofs.Tests.{never, tests-eq}
 use Rattle.rules.proofs.Mains.{stored-nodes}
 use Rattle.rules.proofs.Lawful.{in-order-site}
 use Rattle.rules.proofs.Reading.{bookIn, LawfulImage, NewestImage, newest-book, newest-image, newest-bytes}
-use Rattle.index.specs.Index as inner
 use Rattle.index.specs.Index.{Beside}
+use Rattle.index.proofs.Whole.{whole, whole-length, whole-lent}
 use Rattle.lawful.specs.Verdict.{Verdict}
 use Rattle.transcribing.specs.Again.{Transcribed}
 use Rattle.writer.specs.Over.{over}
@@ -32,8 +32,8 @@ use Rattle.posting.specs.declared.State.{State}
 use Rattle.posting.specs.declared.Answered.{Answered}
 use Rattle.posting.specs.Records.{theRequests, answers, OnlyMarked}
 use Rattle.posting.specs.Standing.{Standing, bookAt}
-use Rattle.posting.specs.Posting.{AnsweredNext, PostedAll, Words, Begun, Finished, Settled, Posts, PostsOne, listed, PostsFirst}
-use Rattle.posting.proofs.Indexing.{index-front, put-front}
+use Rattle.posting.specs.Posting.{AnsweredNext, PostedAll, Words, Begun, Finished, Settled, Posts, ownWords, PostsOne, listed, PostsFirst}
+use Rattle.posting.proofs.Indexing.{index-lent, indexed}
 
 -- BEFORE THE FIRST RECORD
 
@@ -82,7 +82,7 @@ module _ {s words : List ℕ} {n : ℕ} (v : Verdict s n words) (mains count len
 
       pub begun-narrow : (m : ℕ) → Words s m → count ≤ mostRequests → lent < m → r .number ≡ 12 → r .length ≡ 0 → Begun s mains count lent room r buffer words
       begun-narrow m w k l a b = record {
-        says = inr (versionOf s, bookIn s, v .stored z, inr (λ f. f (below (v .stored z) low), inr (λ y. omega (arith, y, k), inl (inr (omega (arith, l, w .is)), a))));
+        says = inr (versionOf s, bookIn s, v .stored z, inr (λ f. f (below (v .stored z) low), inr (λ y. omega (arith, y, k), inl (inr (omega (arith, l, w)), a))));
         refused = λ g. b;
         stands = λ y. absurd (omega (arith, y, a));
         wide = λ y. absurd (omega (arith, y, a));
@@ -98,12 +98,12 @@ module _ {s words : List ℕ} {n : ℕ} (v : Verdict s n words) (mains count len
         stands = λ y. (versionOf s, bookIn s, v .stored z, subst (λ (j : ℕ). Standing buffer j words × (bookAt buffer j ≡ bookIn s)) (sym b) (stands, book));
         wide = λ y. l;
         long = λ y. subst (λ (j : ℕ). indexLength (bookAt buffer j .site .plan) ≤ lent) (sym b)
-            (subst (λ (c : Book). indexLength (c .site .plan) ≤ lent) (sym book) (omega (arith, e, w .is)));
+            (subst (λ (c : Book). indexLength (c .site .plan) ≤ lent) (sym book) (omega (arith, e, w)));
       }
         where
           enough : (room < longestImage newest) ⊎ (lent < indexLength (planOf s)) → ⊥
           enough (inl y) = omega (arith, y, l)
-          enough (inr y) = omega (arith, y, e, w .is)
+          enough (inr y) = omega (arith, y, e, w)
 
           book : bookAt buffer m ≡ bookIn s
           book = ap bookIn (t .bytes) ∙ newest-book (v .stored z)
@@ -131,12 +131,6 @@ module _ {buffer : List ℕ} {state : State} {out : List ℕ} (r : Answer) (a : 
     kept = λ f. never (sym f ∙ t);
   }
 
--- with as many words given as the book's index has
-pub settled : {buffer words : List ℕ} {state : State} {index out : List ℕ} {r : Answer} {index′ out′ : List ℕ} {m : ℕ} → Words (take (state .length) buffer) m
-    → index′ ≡ paste index 0 (take m words) (length (take m words)) → Finished buffer state out r out′ → Settled buffer words state index out r index′ out′
-settled {words = words} {index = index} {index′ = index′} {m = m} w e f =
-    record { finished = f; given = subst (λ (k : ℕ). index′ ≡ take k words ++ drop (length (take k words)) index) (w .is) (e ∙ put-front index (take m words)) }
-
 -- THE WHOLE
 each-same : (rs : List Request) → OnlyMarked rs rs
 each-same [] = tt
@@ -145,7 +139,7 @@ each-same (r ∷ rs) = (refl, each-same rs)
 -- what is given of the words beside a book that stands is its index
 pub settled-index : {buffer words : List ℕ} {state : State} {index out : List ℕ} {r : Answer} {index′ out′ : List ℕ} → Standing buffer (state .length) words
     → Settled buffer words state index out r index′ out′ → Indexed (bookAt buffer (state .length)) index index′
-settled-index h t = record { words = _; index = index-front (h .image .newest .lawful .lawful) (h .image .index .slots); buffer = t .given }
+settled-index h t = indexed (h .image .newest .lawful .lawful) (h .image .index .slots) (t .lent) (t .wide)
 
 module _ {image : List ℕ} (mains : ℕ) (rs : List Request) (index out : List ℕ) (r : Answer) {buffer words : List ℕ}
     (h : Begun image mains (length rs) (length index) (length out) r buffer words) where
@@ -191,11 +185,11 @@ module _ {image : List ℕ} (mains : ℕ) (rs : List Request) (index out : List 
 
 -- A LIST OF ONE, with an index of its own
 abbrev own : List ℕ
-own = replicate inner.slowPlace 0
+own = replicate ownWords 0
 
-module _ {image : List ℕ} (mains : ℕ) (q : calls.Request) (out : List ℕ) (y : Answer) {buffer words : List ℕ} (h : Begun image mains 1 inner.slowPlace (length out) y buffer words) where
+module _ {image : List ℕ} (mains : ℕ) (q : calls.Request) (out : List ℕ) (y : Answer) {buffer words : List ℕ} (h : Begun image mains 1 ownWords (length out) y buffer words) where
   own-says : SaysOf image (postRefusals mains 1 (length out) (length own)) (y .number)
-  own-says = subst (λ (k : ℕ). SaysOf image (postRefusals mains 1 (length out) k) (y .number)) (sym (length-replicate {A = ℕ} inner.slowPlace 0)) (h .says)
+  own-says = subst (λ (k : ℕ). SaysOf image (postRefusals mains 1 (length out) k) (y .number)) (sym (length-replicate {A = ℕ} ownWords 0)) (h .says)
 
   pub one-refused : (y .number ≡ 0 → ⊥) → PostsOne image mains q out y out
   one-refused f = record {
@@ -203,7 +197,7 @@ module _ {image : List ℕ} (mains : ℕ) (q : calls.Request) (out : List ℕ) (
     answer = 0;
     index = own;
     index′ = own;
-    index-holds = length-replicate {A = ℕ} inner.slowPlace 0;
+    index-holds = length-replicate {A = ℕ} ownWords 0;
     posted = record { says = own-says; refused = λ g. (record { length-is = h .refused f; buffer = refl }, refl, refl); done = λ z. absurd (f z) };
     refused = λ g. refl;
     done = λ z. absurd (f z);
@@ -215,7 +209,14 @@ module _ {image : List ℕ} (mains : ℕ) (q : calls.Request) (out : List ℕ) (
     c = bookAt buffer′ (a .state .length)
 
     abbrev front : List ℕ
-    front = take (indexLength (c .site .plan)) words′
+    front = take (indexLength (c .site .plan)) (whole (c .site .plan .slots) words′)
+
+    -- which is the index of the book
+    front-index : IndexOf c front
+    front-index =
+        let l = w .worked .standing .image .newest .lawful .lawful in
+        let i = w .worked .standing .image .index .slots in
+        index-lent l i (whole-lent (l .site .plan .most) i) (omega (arith, whole-length (c .site .plan .slots) words′))
 
     -- whether it was done is whether it was answered 0
     done-is : a .state .done ≡ eqb (a .answer) 0
@@ -242,7 +243,7 @@ module _ {image : List ℕ} (mains : ℕ) (q : calls.Request) (out : List ℕ) (
       answer = a .answer;
       index = own;
       index′ = front ++ drop (length front) own;
-      index-holds = length-replicate {A = ℕ} inner.slowPlace 0;
+      index-holds = length-replicate {A = ℕ} ownWords 0;
       posted = record {
         says = subst (SaysOf image (postRefusals mains 1 (length out) (length own))) z own-says;
         refused = λ g. absurd (g refl);
@@ -255,7 +256,7 @@ module _ {image : List ℕ} (mains : ℕ) (q : calls.Request) (out : List ℕ) (
                 c,
                 (c, subst (λ (b : Book). Work mains b q (a .answer) c) (s .3 .1) (w .worked .work), refl),
                 answered (a .answer) refl,
-                record { words = front; index = index-front (w .worked .standing .image .newest .lawful .lawful) (w .worked .standing .image .index .slots); buffer = refl },
+                record { words = front; index = front-index; buffer = refl },
               ),
             );
       };

@@ -1,11 +1,12 @@
 -- What one request does to the book that is worked on, and what a list of them does.
 use mathlib.Core.Path.{_≡_}
 use mathlib.Core.Bool.{Bool, true, false, _||_}
-use mathlib.Core.List.{List, [], _∷_, _++_}
-use Prim.Native.Nat.{ℕ, _≤_}
+use mathlib.Core.List.{List, [], _∷_}
+use Prim.Native.Nat.{ℕ, _*_, _≤_}
 use lib.Dec.{eqb}
 use lib.ListN.{length, take, drop, replicate}
 use Rattle.rules.specs.Words.{_∈_, Tests}
+use Rattle.rules.specs.Tiles.{shortTiles}
 use Rattle.rules.specs.Book.{Book}
 use Rattle.rules.specs.Calls as calls
 use Rattle.rules.specs.Calls.{Wrote, Unchanged, OfBook, SaysOf, Work, InOrder, postRefusals, Post}
@@ -14,6 +15,7 @@ use Rattle.rules.specs.Image.{newest, longestImage, planOf, nodesOf}
 use Rattle.rules.specs.Index.{indexLength}
 use Rattle.rules.proofs.Reading.{LawfulImage}
 use Rattle.index.specs.Index as inner
+use Rattle.index.specs.Folding.{Lent}
 use Rattle.answers.specs.declared.Answer.{Answer}
 use Rattle.posting.specs.declared.Request.{Request}
 use Rattle.posting.specs.declared.Outcome.{Outcome}
@@ -45,10 +47,9 @@ pub record PostedAll (mains : ℕ) (rs : List Request) (buffer : List ℕ) (len 
 
 -- A CALL
 
--- so many words has the index of the image's book, no more than an array for it
-pub record Words (image : List ℕ) (r : ℕ) : Type 0 where
-  pub is : r ≡ indexLength (planOf image)
-  pub most : r ≤ inner.indexLength
+-- so many words has the index of the image's book
+abbrev pub Words : List ℕ → ℕ → Type 0
+Words image r = r ≡ indexLength (planOf image)
 
 -- nothing is marked in the words of an index
 abbrev pub Unmarked : List ℕ → Type 0
@@ -68,10 +69,11 @@ pub record Finished (buffer : List ℕ) (state : State) (out : List ℕ) (r : An
   pub written : state .done ≡ true → Wrote (take (state .length) buffer) out (r .length) out′
   pub kept : state .done ≡ false → Unchanged out (r .length) out′
 
--- and as many of the words as the book's index has are given
+-- and the index of the book is lent, for which there is room
 pub record Settled (buffer words : List ℕ) (state : State) (index out : List ℕ) (r : Answer) (index′ out′ : List ℕ) : Type 0 where
   pub finished : Finished buffer state out r out′
-  pub given : let own = take (indexLength (planOf (take (state .length) buffer))) words in index′ ≡ own ++ drop (length own) index
+  pub lent : Lent (planOf (take (state .length) buffer) .slots) words index index′
+  pub wide : indexLength (planOf (take (state .length) buffer)) ≤ length index
 
 -- the list is posted with the set, and no field but the answers is changed
 pub record Posts (image : List ℕ) (mains : ℕ) (rs : List Request) (index out : List ℕ) (r : Answer) (rs′ : List Request) (index′ out′ : List ℕ) : Type 0 where
@@ -87,13 +89,17 @@ pub record PostsFirst (image : List ℕ) (mains : ℕ) (rs : List Request) (coun
   pub posts : Posts image mains (take count rs) index out r (take count rs′) index′ out′
   pub rest : drop count rs′ ≡ drop count rs
 
+-- the words of an index for tiles of 32 slots
+abbrev pub ownWords : ℕ
+ownWords = 2 * (shortTiles * 32)
+
 -- a list of one is posted with the set and an index of its own: the whole call's refusal, or the record's answer
 pub record PostsOne (image : List ℕ) (mains : ℕ) (q : calls.Request) (out : List ℕ) (r : Answer) (out′ : List ℕ) : Type 0 where
   pub whole : ℕ
   pub answer : ℕ
   pub index : List ℕ
   pub index′ : List ℕ
-  pub index-holds : length index ≡ inner.slowPlace
+  pub index-holds : length index ≡ ownWords
   pub posted : Post image mains (q ∷ []) index out (0 ∷ []) whole (r .length) index′ out′ (answer ∷ [])
   pub refused : (whole ≡ 0 → ⊥) → r .number ≡ whole
   pub done : whole ≡ 0 → r .number ≡ answer

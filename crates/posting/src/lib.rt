@@ -167,8 +167,8 @@ fn settle(book: &[u8], words: &[u64], state: State, index: &mut [u64], out: &mut
     ensures { λ r. ⌜ Settled (now (book .entry)) (now (words .entry)) state (now (index .entry)) (now (out .entry)) r (now (index .exit)) (now (out .exit)) ⌝ }
 {
     let length = state.length;
-    let count = words_of(&book[..length]);
-    index::put_words(&words[..count], index, 0);
+    let slots = Book::read(&book[..length]).plan.slots;
+    index::tens::lend(words, slots, index);
     finish(book, state, out)
 }
 

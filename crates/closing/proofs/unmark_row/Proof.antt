@@ -1,11 +1,13 @@
 -- The hops of the row are taken out one by one.
 use mathlib.Core.Path.{sym, subst}
-use Prim.Native.Nat.{_+_, _-_, _≤_}
+use Prim.Native.Nat.{_+_, _*_, _-_, _≤_}
 use native.Mathlib.Omega.{arith}
 use Rattle.rules.specs.Tiles.{Period}
 use Rattle.rules.specs.Image.{planOf}
 use Rattle.index.specs.Turns.{RepeatsOf}
-use Rattle.index.specs.Marks.{Removes, HopsTake}
+use Rattle.index.specs.Areas.{quickTiles}
+use Rattle.index.specs.Marks.{HopsTake}
+use Rattle.index.specs.Folding.{Removes}
 use Rattle.index.proofs.Removing.{unhops-none, unhops-done}
 use Rattle.image.specs.Places.{rowAt}
 use Rattle.closing.proofs.Hops.{node-small, row-repeats, hop-in-index, hop-out}
@@ -13,7 +15,7 @@ use Rattle.closing.proofs.unmark_row.Statement.{statement}
 use Rattle.closing.proofs.unmark_row.Tie as tie
 
 abbrev Inv-loop : tie.InvT-loop
-Inv-loop image at index₀ repeats h i₀ index i = (i ≤ h) × Removes (HopsTake (planOf image .slots) (rowAt image at) i) index₀ index
+Inv-loop image at index₀ repeats h i₀ index i = (i ≤ h) × Removes (quickTiles * planOf image .slots) (HopsTake (planOf image .slots) (rowAt image at) i) index₀ index
 
 abbrev μ-loop : tie.MeasureT-loop
 μ-loop image at index₀ repeats h i₀ index i = h - i

@@ -1,65 +1,56 @@
--- One slot after the other loses the hop's ends.
-use Prim.Native.Nat.{_-_, _<_}
+-- A hop with a turn in ten tiles is taken out there, and another of the 100, and its slot of the fold is worked out again.
+use Prim.Native.Nat.{_*_, _%_, _<_}
+use native.Mathlib.Nat.{mod-lt}
 use native.Mathlib.Omega.{arith}
 use borrow.Author.Needs.{needs}
-use Rattle.index.specs.Index.{indexSlots}
-use Rattle.index.proofs.Turns.{Turning, turning-start, turning-inside, turning-next}
-use Rattle.index.proofs.Removing.{UnmarksFirst, unmarks-none, unmarks-more, unmarks-done}
+use Rattle.index.specs.Areas.{quickTiles}
+use Rattle.index.proofs.Turns.{quick-turns, short-turns}
+use Rattle.index.proofs.Hops.{out-quick, out-short, out-none}
 use Rattle.index.proofs.unmark.Statement.{statement}
 use Rattle.index.proofs.unmark.Tie as tie
 
-abbrev Inv-loop : tie.InvT-loop
-Inv-loop index₀ span turns i j slot₀ turn₀ index slot turn =
-    Turning span slot₀ turns turn slot × UnmarksFirst span slot₀ (record { from = i; to = j }) index₀ turn index
+clear-requires : tie.Need-clear-requires
+clear-requires c κs = let p = c .before .before .before .before .pre in (p .0, quick-turns (p .1), p .2, p .3)
 
-abbrev μ-loop : tie.MeasureT-loop
-μ-loop index₀ span turns i j slot₀ turn₀ index slot turn = turns - turn
+returns : tie.Need-returns
+returns c = out-quick (c .before .before .before .before .before .pre .1) _ (c .before .before .if1 .taken) (c .clear .ensures)
 
-loop-holds : tie.Need-loop-holds Inv-loop μ-loop
-loop-holds c = (turning-start _ (c .before .before .before .before .pre .1), unmarks-none _ _ _ _)
+rem-slot : tie.Need-rem-slot
+rem-slot c = omega (arith, c .before .before .before .before .before .before .before .pre .1 .some)
 
--- the slot is in the index
-inside : (c : tie.In-loop Inv-loop μ-loop) → c .before .loop .slot < indexSlots
-inside c = turning-inside (c .before .loop .inv .0) (c .loop-test .taken)
+-- the slot of the fold is one of it
+low : (c : tie.Start) → c .args .offset .0 % c .args .repeats .fold .0 < quickTiles * 32
+low c = let w = c .pre .1 in omega (arith, mod-lt (c .args .offset .0) (w .some), w .most)
 
-loop-again : tie.Need-loop-again Inv-loop μ-loop
-loop-again c =
-    let test = c .before .before .before .before in
-    let l = test .before .loop in
-    let more = test .loop-test .taken in (
-      turning-next (l .inv .0) more,
-      unmarks-more _ (l .inv .0) more (omega (arith, inside test, l .inv .1 .size)) (c .before .remove .ensures) (c .remove2 .ensures) (l .inv .1),
-    )
+clear-requires-2 : tie.Need-clear-requires-2
+clear-requires-2 c κs = let p = c .before .before .before .before .before .before .before .before .pre in (p .0, short-turns (p .1), p .2, p .3)
 
-returns : tie.Need-returns Inv-loop μ-loop
-returns c = let w = c .before .loop .inv in unmarks-done _ _ _ (omega (arith, w .0 .most)) (w .1)
+refold-requires : tie.Need-refold-requires
+refold-requires c κs =
+    let p = c .before .before .before .before .before .before .before .before .before .before .before .pre in
+    (omega (arith, p .0, c .before .before .clear2 .ensures .size), mod-lt _ (p .1 .some), p .1 .most)
+
+returns-2 : tie.Need-returns-2
+returns-2 c =
+    let if2 = c .before .before .before .before .before .before .before in
+    let start = if2 .before .before .before .before .before in
+    out-short (start .pre .1) _ (omega (arith, if2 .before .before .if1 .left)) (if2 .if2 .taken) (c .before .before .before .clear2 .ensures) (c .refold .ensures)
+
+returns-3 : tie.Need-returns-3
+returns-3 c = out-none (c .before .before .before .before .before .pre .1) _ _ (omega (arith, c .before .before .if1 .left)) (omega (arith, c .if2 .left))
 
 pub unmark-spec : {M : Type 1} → statement M
 unmark-spec =
     tie.close
     (tie.spec
-    Inv-loop
-    μ-loop
     (λ c. search needs)
     (λ c. search needs)
+    clear-requires
+    returns
+    rem-slot
+    (λ c. omega (arith, low (c .before .before .before .before .before .before .before)))
+    clear-requires-2
     (λ c. search needs)
-    (λ c. search needs)
-    loop-holds
-    (λ c. omega (arith, inside c))
-    (λ c. omega (arith, inside c))
-    (λ c. omega (arith, inside c))
-    (λ c. omega (arith, inside (c .before)))
-    (λ c. omega (arith, inside (c .before)))
-    (λ c. omega (arith, inside (c .before)))
-    (λ c κs. search needs)
-    (λ c. omega (arith, inside (c .before .before .before)))
-    (λ c. omega (arith, inside (c .before .before .before)))
-    (λ c κs. search needs)
-    (λ c. omega (arith, inside (c .before .before .before .before)))
-    (λ c. omega (arith, inside (c .before .before .before .before)))
-    (λ c. omega (arith, inside (c .before .before .before .before)))
-    (λ c. omega (arith, inside (c .before .before .before .before)))
-    (λ c. search needs)
-    (λ c. search needs)
-    loop-again
-    returns)
+    refold-requires
+    returns-2
+    returns-3)

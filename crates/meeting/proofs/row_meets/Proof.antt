@@ -45,7 +45,7 @@ loop-again c =
     let p = c .before .before .before .before .before .before .before .before .before .pre in
     let l = c .before .before .before .before .loop in
     let t = own-apart (p .0) (omega arith) (l .inv .1) (c .before .hop-meets .ensures .met) in
-    (omega arith, hops-more _ _ (l .i) (p .0 .repeats-are) (l .inv .1) (c .before .hop-meets .ensures .adds), below-more _ _ (l .inv .2) (fails t (c .if1 .left)))
+    (omega arith, hops-more _ _ (l .i) (p .0 .repeats-are) (l .inv .1) (c .before .hop-meets .ensures .adds (c .if1 .left)), below-more _ _ (l .inv .2) (fails t (c .if1 .left)))
 
 returns-2 : tie.Need-returns-2 Inv-loop μ-loop
 returns-2 c =

@@ -8,7 +8,7 @@ use Rattle.placing.proofs.is_free.Statement.{statement}
 use Rattle.placing.proofs.is_free.Tie as tie
 
 finds-requires : tie.Need-finds-requires
-finds-requires c κs = let p = c .before .before .before .pre in in-index (p .2) (p .0 .most) (p .3)
+finds-requires c κs = let p = c .before .before .before .pre in in-index (p .2) (p .0 .most) (p .1) (p .3)
 
 returns : tie.Need-returns
 returns c = said-no (λ f. f .quiet (tests-in (c .before .before .before .before .before .pre .2) (c .before .finds .ensures) .yes (c .if1 .taken)))

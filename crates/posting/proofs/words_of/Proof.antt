@@ -12,8 +12,7 @@ words-for-requires c κs = omega (arith, ap (λ (p : Plan). p .slots) (c .read .
 returns : tie.Need-returns
 returns c =
     let s = ap (λ (p : Plan). p .slots) (c .before .read .ensures .plan) in
-    let w = c .words-for .ensures in
-    record { is = omega (arith, s, w); most = omega (arith, s, w, c .before .before .before .pre .lawful .site .plan .most) }
+    omega (arith, s, c .words-for .ensures)
 
 pub words-of-spec : {M : Type 1} → statement M
 words-of-spec = tie.close (tie.spec (λ c κs. stored-long (c .before .pre)) words-for-requires returns)

@@ -34,8 +34,8 @@ shared-slice-read-t20 : tie.Need-shared-slice-read-t20 Inv-loop μ-loop
 shared-slice-read-t20 c =
     omega (arith, c .before .before .before .before .before .before .before .before .before .pre .0 .count, c .before .before .before .before .loop-test .taken)
 
-mark-requires : tie.Need-mark-requires Inv-loop μ-loop
-mark-requires c κs =
+put-requires : tie.Need-put-requires Inv-loop μ-loop
+put-requires c κs =
     let loop = c .before .before .before .before .before in
     let p = start (loop .before) .pre in
     let i = loop .loop .i in
@@ -48,7 +48,7 @@ loop-again : tie.Need-loop-again Inv-loop μ-loop
 loop-again c =
     let loop = c .before .before .before .before .before .before in (
       omega (arith, c .before .before .before .before .before .loop-test .taken),
-      λ S w id way account. marked-more w (loop .loop .i) id way account (loop .loop .inv .1 S w id way account) (c .mark .ensures),
+      λ S w id way account. marked-more w (loop .loop .i) id way account (loop .loop .inv .1 S w id way account) (c .put .ensures),
     )
 
 note-requires : tie.Need-note-requires Inv-loop μ-loop
@@ -80,7 +80,7 @@ mark-spec =
     shared-slice-read-t16
     (λ c. omega arith)
     shared-slice-read-t20
-    mark-requires
+    put-requires
     (λ c. omega arith)
     (λ c. omega arith)
     loop-again

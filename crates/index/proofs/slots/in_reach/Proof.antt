@@ -7,8 +7,8 @@ use Rattle.bitset.specs.Sets.{SetOf}
 use Rattle.clash.specs.declared.Reach.{Reach}
 use Rattle.index.specs.Marks.{Common}
 use Rattle.index.specs.Marks.Common.{sends, receives}
-use Rattle.index.proofs.in_reach.Statement.{statement}
-use Rattle.index.proofs.in_reach.Tie as tie
+use Rattle.index.proofs.slots.in_reach.Statement.{statement}
+use Rattle.index.proofs.slots.in_reach.Tie as tie
 
 joined : (senders receivers : ℕ) (reach : Reach) {a b u : ℕ} → SetOf (λ (k : ℕ). Has senders k × Has (reach .senders) k) a
     → SetOf (λ (k : ℕ). Has receivers k × Has (reach .receivers) k) b → SetOf (λ (k : ℕ). Has a k ⊎ Has b k) u → SetOf (Common senders receivers reach) u
