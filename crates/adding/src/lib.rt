@@ -4,7 +4,7 @@ ghost use mathlib.Core.List.{[], _∷_};
 ghost use Prim.Native.Nat.{_+_, _*_, _≤_};
 ghost use lib.ListN.{length};
 ghost use Rattle.rules.specs.Topology.{mostRouteHops};
-ghost use Rattle.rules.specs.Periods.{theAsked};
+ghost use Rattle.rules.specs.Records.{theAsked};
 ghost use Rattle.rules.specs.Book.{mostStreams, mostHops};
 ghost use Rattle.rules.specs.Image.{newest, rowLength, streamsOf, hopsOf};
 ghost use Rattle.rules.proofs.Reading.{NewestImage};

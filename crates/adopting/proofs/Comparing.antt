@@ -9,7 +9,7 @@ use lib.ListN.{length, take, drop, length-drop}
 use lib.Seq.{take-at, length-take-le}
 use Rattle.rules.specs.Words.{Tests}
 use Rattle.rules.specs.Tiles.{Plan, PlanInRange, shortTiles}
-use Rattle.rules.specs.Periods.{thePlan}
+use Rattle.rules.specs.Records.{thePlan}
 use Rattle.rules.specs.Image.{headerLength, planOf, nodesOf, imageRefusals}
 use Rattle.rules.specs.Table.{tableLength, TablePart}
 use Rattle.rules.specs.Tables.{entriesOf, tableAt}

@@ -6,7 +6,7 @@ ghost use Rattle.rules.specs.Words.{Tests};
 ghost use Rattle.rules.specs.Tiles.{PlanInRange};
 ghost use Rattle.rules.specs.Topology.{NodesInRange};
 ghost use Rattle.rules.specs.Calls.{TopologiesGiven};
-ghost use Rattle.rules.specs.Periods.{thePlan};
+ghost use Rattle.rules.specs.Records.{thePlan};
 ghost use Rattle.rules.specs.Image.{planOf, nodesOf};
 ghost use Rattle.rules.specs.Tables.{entriesOf, TablesOfEntries, TooMany, BookOf};
 ghost use Rattle.rules.proofs.Reading.{LawfulImage};

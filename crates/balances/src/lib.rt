@@ -2,7 +2,7 @@
 ghost use mathlib.Core.Path.{_≡_};
 ghost use Prim.Native.Nat.{_<_, _≤_};
 ghost use Rattle.rules.specs.Tiles.{PlanInRange};
-ghost use Rattle.rules.specs.Periods.{thePlan};
+ghost use Rattle.rules.specs.Records.{thePlan};
 ghost use Rattle.rules.specs.Table.{used, BalanceOf};
 ghost use Rattle.rules.proofs.Reading.{bookIn, LawfulImage};
 ghost use Rattle.image.specs.Places.{rowAt, RowHere};

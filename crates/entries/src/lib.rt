@@ -7,7 +7,7 @@ ghost use lib.ListN.{length};
 ghost use Rattle.rules.specs.Words.{Tests, TwoBytes};
 ghost use Rattle.rules.specs.Tiles.{PlanInRange, controlSlots};
 ghost use Rattle.rules.specs.Topology.{NodesInRange};
-ghost use Rattle.rules.specs.Periods.{thePlan};
+ghost use Rattle.rules.specs.Records.{thePlan};
 ghost use Rattle.rules.specs.Tables.{operationAt, idAt, TablesOfEntries};
 ghost use Rattle.rules.proofs.Seen.{Has, Next};
 ghost use Rattle.entries.specs.Entries.{WayOf, EntryIn, EntriesIn, Receives, Receiver};

@@ -12,7 +12,7 @@ use lib.Pow.{pow-pos}
 use Rattle.rules.specs.Words.{_∈_, NoBitFrom, Tests}
 use Rattle.rules.specs.Tiles.{Plan, tileCounts, PlanInRange}
 use Rattle.rules.specs.Topology.{NodesInRange}
-use Rattle.rules.specs.Periods.{thePlan}
+use Rattle.rules.specs.Records.{thePlan}
 use Rattle.rules.specs.Book.{mostStreams, mostHops}
 use Rattle.rules.specs.Image.{FieldsInRange}
 use Rattle.rules.proofs.Tests.{alike, tests-eq}

@@ -4,7 +4,7 @@ ghost use lib.ListN.{length};
 ghost use Rattle.rules.specs.Words.{Tests, _∈_, NoBitFrom};
 ghost use Rattle.rules.specs.Tiles.{tileCounts, PlanInRange};
 ghost use Rattle.rules.specs.Topology.{NodesInRange};
-ghost use Rattle.rules.specs.Periods.{thePlan};
+ghost use Rattle.rules.specs.Records.{thePlan};
 ghost use Rattle.rules.specs.Image.{headerLength, FieldsInRange};
 ghost use Rattle.image.specs.Header.{HeaderOf};
 use image::Book;

@@ -4,7 +4,7 @@ use mathlib.Core.List.{List}
 use Prim.Native.Nat.{ℕ, _<_}
 use Rattle.rules.specs.Words.{TwoBytes}
 use Rattle.rules.specs.Image.{versionOf, planOf, nodesOf, streamsOf, hopsOf, accountCountOf}
-use Rattle.rules.specs.Periods.{thePlan}
+use Rattle.rules.specs.Records.{thePlan}
 use Rattle.image.specs.declared.Book.{Book}
 
 -- the version, the plan and the counts are those of the image's header, and the count behind it

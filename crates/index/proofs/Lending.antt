@@ -28,7 +28,8 @@ Both index i j k = Has (getD index i 0) k ⊎ Has (getD index j 0) k
 pub ten-none : (ten : ℕ) (index t : List ℕ) → TenLent ten 0 index t t
 ten-none ten index t = record { size = refl; each = λ i l. absurd (omega arith); front = λ i l. refl; behind = refl }
 
-pub ten-more : {ten i v : ℕ} {index s t : List ℕ} → TenLent ten i index s t → ten + i < length t → SetOf (Both index (ten + i) (2 * quickPlace + i)) v → TenLent ten (i + 1) index s (set t (ten + i) v)
+pub ten-more : {ten i v : ℕ} {index s t : List ℕ} → TenLent ten i index s t → ten + i < length t → SetOf (Both index (ten + i) (2 * quickPlace + i)) v
+    → TenLent ten (i + 1) index s (set t (ten + i) v)
 ten-more {ten} {i} {v} {index} {s} {t} w l b = record {
   size = length-set t (ten + i) v ∙ w .size;
   each = λ j h. ⊎-elim

@@ -97,12 +97,16 @@ module _ (S K o L p : ℕ) where
       go (short z k b) = absurd (omega (arith, e, k))
       go (folded z k f) = absurd (omega (arith, f, l))
 
+-- the slots of a site's tiles
+abbrev S : Site → ℕ
+S site = site .plan .slots
+
 -- a hop of a period
 module _ {site : Site} {rows : List Row} {words : List ℕ} (w : IndexOf (site .plan .slots) rows words) {K o : ℕ} (p : Period K) (most : site .plan .slots ≤ 32)
     (l : o < K * site .plan .slots) {h : Hop} where
   -- the row of a node at work before the fold, whose hop is marked there
   found : (end : End) (slot node : ℕ) → slot < foldPlace → AtWork words end slot node → Clashes (site .hearing) h end node
-      → ((L q : ℕ) → Period L → MarkedAt (site .plan .slots) L q slot → Meet (site .plan .slots) K o L q) → (x : Row) × (x ∈ rows) × MeetsClashing site x K h o
+      → ((L q : ℕ) → Period L → MarkedAt (S site) L q slot → Meet (S site) K o L q) → (x : Row) × (x ∈ rows) × MeetsClashing site x K h o
   found end slot node low m c meets =
       let e = w .sets end slot low .only node m in
       let t = e .hop-takes in (
@@ -116,84 +120,88 @@ module _ {site : Site} {rows : List Row} {words : List ℕ} (w : IndexOf (site .
         },
       )
 
-  pub meets-row : MeetsIn (Clashes (site .hearing) h) (site .plan .slots) words K o → (x : Row) × (x ∈ rows) × MeetsClashing site x K h o
+  pub meets-row : MeetsIn (Clashes (site .hearing) h) (S site) words K o → (x : Row) × (x ∈ rows) × MeetsClashing site x K h o
   meets-row m = go (m .looked .looks)
     where
-      go : Looks (K * (site .plan .slots)) (shortTiles / K) (quickTiles / K) (quickTiles * (site .plan .slots)) o (m .slot) → (x : Row) × (x ∈ rows) × MeetsClashing site x K h o
-      go (in-ten low a) = found (m .busy .end) (m .slot) (m .busy .node) low (m .busy .there) (m .busy .sought) (λ L q k n. both-ten (site .plan .slots) K o L q a n low)
+      go : Looks (K * S site) (shortTiles / K) (quickTiles / K) (quickTiles * S site) o (m .slot) → (x : Row) × (x ∈ rows) × MeetsClashing site x K h o
+      go (in-ten low a) = found (m .busy .end) (m .slot) (m .busy .node) low (m .busy .there) (m .busy .sought) (λ L q k n. both-ten (S site) K o L q a n low)
       go (in-fold a) = by-class (class-of K p)
         where
           by-class : Class K → (x : Row) × (x ∈ rows) × MeetsClashing site x K h o
           by-class (inr c) = absurd (omega (arith, a .within, c .0))
           by-class (inl c) =
-              let f : ℕ = o + a .turn * (K * (site .plan .slots)) in
-              let low : f < quickTiles * (site .plan .slots) = inside (site .plan .slots) K o quickTiles (a .turn) l (a .within) in
+              let f : ℕ = o + a .turn * (K * S site) in
+              let low : f < quickTiles * S site = inside (S site) K o quickTiles (a .turn) l (a .within) in
               let k = w .folded .only (m .busy .end) f (m .busy .node) low (subst (λ (s : ℕ). AtWork words (m .busy .end) s (m .busy .node)) (omega (arith, a .at)) (m .busy .there)) in
-              let slot : ℕ = f + k .ten * (quickTiles * (site .plan .slots)) in
-              let below : slot < quickPlace = omega (arith, low, most, mul-le-mul-right (quickTiles * (site .plan .slots)) (k .few)) in
-              let takes : Takes (site .plan .slots) K o slot =
-              short-takes (site .plan .slots) K o (record { turn = a .turn + k .ten * (quickTiles / K); within = ten-turn K (c .0) (a .within) (k .few); at = tens-on (site .plan .slots) K o (c .0) (c .1) (a .turn) (k .ten) }) in
-              found (m .busy .end) slot (m .busy .node) (omega (arith, below)) (k .there) (m .busy .sought) (λ L q j n. both-hundred (site .plan .slots) K o L q takes n below)
+              let slot : ℕ = f + k .ten * (quickTiles * S site) in
+              let below : slot < quickPlace = omega (arith, low, most, mul-le-mul-right (quickTiles * S site) (k .few)) in
+              let takes : Takes (S site) K o slot =
+              short-takes (S site) K o
+              (record { turn = a .turn + k .ten * (quickTiles / K); within = ten-turn K (c .0) (a .within) (k .few); at = tens-on (S site) K o (c .0) (c .1) (a .turn) (k .ten) }) in
+              found (m .busy .end) slot (m .busy .node) (omega (arith, below)) (k .there) (m .busy .sought) (λ L q j n. both-hundred (S site) K o L q takes n below)
       go (in-hundred z low a) =
-          found (m .busy .end) (m .slot) (m .busy .node) (omega (arith, low)) (m .busy .there) (m .busy .sought) (λ L q k n. both-hundred (site .plan .slots) K o L q (short-takes (site .plan .slots) K o a) n low)
+          found (m .busy .end) (m .slot) (m .busy .node) (omega (arith, low)) (m .busy .there) (m .busy .sought) (λ L q k n. both-hundred (S site) K o L q (short-takes (S site) K o a) n low)
       go (once-in-ten z some low e) =
-          let few : o < shortTiles * (site .plan .slots) = omega (arith, l, inside (site .plan .slots) K o shortTiles 0 l some) in
-          found (m .busy .end) (m .slot) (m .busy .node) low (m .busy .there) (m .busy .sought) (λ L q k n. once-ten (site .plan .slots) K o L q k few some e low n)
+          let few : o < shortTiles * S site = omega (arith, l, inside (S site) K o shortTiles 0 l some) in
+          found (m .busy .end) (m .slot) (m .busy .node) low (m .busy .there) (m .busy .sought) (λ L q k n. once-ten (S site) K o L q k few some e low n)
 
   -- of two periods up to 100, what meets in the cycle is met where it is looked for
-  pub row-meets : 1 ≤ (site .plan .slots) → K ≤ shortTiles → (x : Row) → x ∈ rows → LawfulRow site x → x .period ≤ shortTiles → MeetsClashing site x K h o → MeetsIn (Clashes (site .hearing) h) (site .plan .slots) words K o
+  pub row-meets : 1 ≤ S site → K ≤ shortTiles → (x : Row) → x ∈ rows → LawfulRow site x → x .period ≤ shortTiles → MeetsClashing site x K h o → MeetsIn (Clashes (site .hearing) h) (S site) words K o
   row-meets some few x there lawful small m = by-class (class-of K p) (class-of (x .period) (lawful .period))
     where
-      within : rowOffset x (m .hop) < x .period * (site .plan .slots)
+      within : rowOffset x (m .hop) < x .period * S site
       within = lawful .offsets .within (rowOffset x (m .hop)) (at-in (x .offsets) (m .hop) (omega (arith, m .there, lawful .offsets .count)))
 
-      q : (a c : ℕ) × (a < shortTiles / K) × (c < shortTiles / x .period) × (o + a * (K * (site .plan .slots)) ≡ rowOffset x (m .hop) + c * (x .period * (site .plan .slots))) × (o + a * (K * (site .plan .slots)) < shortTiles * (site .plan .slots))
-      q = meet-short (site .plan .slots) K o (x .period) (rowOffset x (m .hop)) some (short-period K p few) (short-period (x .period) (lawful .period) small) l within (m .meet)
+      q : (a c : ℕ) × (a < shortTiles / K) × (c < shortTiles / x .period) × (o + a * (K * S site) ≡ rowOffset x (m .hop) + c * (x .period * S site))
+          × (o + a * (K * S site) < shortTiles * S site)
+      q = meet-short (S site) K o (x .period) (rowOffset x (m .hop)) some (short-period K p few) (short-period (x .period) (lawful .period) small) l within (m .meet)
 
       c : (end : End) × Clashes (site .hearing) h end (nodeAt end (rowHop x (m .hop)))
       c = clash-end (site .hearing) h (rowHop x (m .hop)) (m .clash)
 
       -- where the row is marked before the fold, it is at work
-      marked : (slot : ℕ) → slot < foldPlace → Places (x .period * (site .plan .slots)) (shortTiles / x .period) (quickTiles / x .period) (quickTiles * (site .plan .slots)) (rowOffset x (m .hop)) slot
+      marked : (slot : ℕ) → slot < foldPlace → Places (x .period * S site) (shortTiles / x .period) (quickTiles / x .period) (quickTiles * S site) (rowOffset x (m .hop)) slot
           → AtWork words (c .0) slot (nodeAt (c .0) (rowHop x (m .hop)))
       marked slot low e =
           w .sets (c .0) slot low .all (nodeAt (c .0) (rowHop x (m .hop)))
           (record { row = x; there = there; period = lawful .period; hop-takes = record { hop = m .hop; there = m .there; takes = record { places = e }; is-end = refl } })
 
-      met : (slot : ℕ) → Looks (K * (site .plan .slots)) (shortTiles / K) (quickTiles / K) (quickTiles * (site .plan .slots)) o slot → AtWork words (c .0) slot (nodeAt (c .0) (rowHop x (m .hop)))
-          → MeetsIn (Clashes (site .hearing) h) (site .plan .slots) words K o
+      met : (slot : ℕ) → Looks (K * S site) (shortTiles / K) (quickTiles / K) (quickTiles * S site) o slot → AtWork words (c .0) slot (nodeAt (c .0) (rowHop x (m .hop)))
+          → MeetsIn (Clashes (site .hearing) h) (S site) words K o
       met slot look at = record { slot = slot; looked = record { looks = look }; busy = record { end = c .0; node = nodeAt (c .0) (rowHop x (m .hop)); sought = c .1; there = at } }
 
-      by-class : Class K → Class (x .period) → MeetsIn (Clashes (site .hearing) h) (site .plan .slots) words K o
+      by-class : Class K → Class (x .period) → MeetsIn (Clashes (site .hearing) h) (S site) words K o
       by-class (inl k) (inl r) =
           let t : ℕ = q .0 % (quickTiles / K) in
           let u : ℕ = q .1 % (quickTiles / x .period) in
-          let e : o + t * (K * (site .plan .slots)) ≡ rowOffset x (m .hop) + u * (x .period * (site .plan .slots)) =
-          sym (fold-quick (site .plan .slots) K o (k .0) (k .1) (q .0) l) ∙ ap (λ (s : ℕ). s % (quickTiles * (site .plan .slots))) (q .4) ∙ fold-quick (site .plan .slots) (x .period) (rowOffset x (m .hop)) (r .0) (r .1) (q .1) within in
-          let low = inside (site .plan .slots) K o quickTiles t l (mod-lt (q .0) (k .1)) in
-          let below : quickPlace + o + t * (K * (site .plan .slots)) < foldPlace = omega (arith, low, most) in
-          met (quickPlace + o + t * (K * (site .plan .slots))) (in-ten below (record { turn = t; within = mod-lt (q .0) (k .1); at = refl }))
-          (marked (quickPlace + o + t * (K * (site .plan .slots))) below (quick below (record { turn = u; within = mod-lt (q .1) (r .1); at = omega (arith, e) })))
+          let e : o + t * (K * S site) ≡ rowOffset x (m .hop) + u * (x .period * S site) =
+          sym (fold-quick (S site) K o (k .0) (k .1) (q .0) l) ∙ ap (λ (s : ℕ). s % (quickTiles * S site)) (q .4)
+          ∙ fold-quick (S site) (x .period) (rowOffset x (m .hop)) (r .0) (r .1) (q .1) within in
+          let low = inside (S site) K o quickTiles t l (mod-lt (q .0) (k .1)) in
+          let below : quickPlace + o + t * (K * S site) < foldPlace = omega (arith, low, most) in
+          met (quickPlace + o + t * (K * S site)) (in-ten below (record { turn = t; within = mod-lt (q .0) (k .1); at = refl }))
+          (marked (quickPlace + o + t * (K * S site)) below (quick below (record { turn = u; within = mod-lt (q .1) (r .1); at = omega (arith, e) })))
       by-class (inl k) (inr r) =
-          let slot : ℕ = o + q .0 * (K * (site .plan .slots)) in
+          let slot : ℕ = o + q .0 * (K * S site) in
           let low : slot < quickPlace = omega (arith, q .5, most) in
           let t : ℕ = q .0 % (quickTiles / K) in
-          let f : slot % (quickTiles * (site .plan .slots)) ≡ o + t * (K * (site .plan .slots)) = fold-quick (site .plan .slots) K o (k .0) (k .1) (q .0) l in
+          let f : slot % (quickTiles * S site) ≡ o + t * (K * S site) = fold-quick (S site) K o (k .0) (k .1) (q .0) l in
           let here = marked slot (omega (arith, low)) (short (r .0) low (record { turn = q .1; within = q .3; at = q .4 })) in
-          let parts : slot ≡ slot % (quickTiles * (site .plan .slots)) + slot / (quickTiles * (site .plan .slots)) * (quickTiles * (site .plan .slots)) = omega (arith, slot-parts (site .plan .slots) slot (q .5)) in
-          let there = w .folded .all (c .0) (slot % (quickTiles * (site .plan .slots))) (nodeAt (c .0) (rowHop x (m .hop))) (slot-rest (site .plan .slots) slot (q .5))
-          (record { ten = slot / (quickTiles * (site .plan .slots)); few = slot-ten (site .plan .slots) slot (q .5); there = subst (λ (s : ℕ). AtWork words (c .0) s (nodeAt (c .0) (rowHop x (m .hop)))) parts here }) in
-          met (foldPlace + slot % (quickTiles * (site .plan .slots))) (in-fold (record { turn = t; within = mod-lt (q .0) (k .1); at = omega (arith, f) })) there
+          let parts : slot ≡ slot % (quickTiles * S site) + slot / (quickTiles * S site) * (quickTiles * S site) = omega (arith, slot-parts (S site) slot (q .5)) in
+          let there = w .folded .all (c .0) (slot % (quickTiles * S site)) (nodeAt (c .0) (rowHop x (m .hop))) (slot-rest (S site) slot (q .5))
+          (record { ten = slot / (quickTiles * S site); few = slot-ten (S site) slot (q .5); there = subst (λ (s : ℕ). AtWork words (c .0) s (nodeAt (c .0) (rowHop x (m .hop)))) parts here }) in
+          met (foldPlace + slot % (quickTiles * S site)) (in-fold (record { turn = t; within = mod-lt (q .0) (k .1); at = omega (arith, f) })) there
       by-class (inr k) (inl r) =
           let u : ℕ = q .1 % (quickTiles / x .period) in
-          let e : o % (quickTiles * (site .plan .slots)) ≡ rowOffset x (m .hop) + u * (x .period * (site .plan .slots)) =
-          sym (fold-short (site .plan .slots) K o (k .1 .0) (k .1 .1) (q .0)) ∙ ap (λ (s : ℕ). s % (quickTiles * (site .plan .slots))) (q .4) ∙ fold-quick (site .plan .slots) (x .period) (rowOffset x (m .hop)) (r .0) (r .1) (q .1) within in
-          let low = inside (site .plan .slots) (x .period) (rowOffset x (m .hop)) quickTiles u within (mod-lt (q .1) (r .1)) in
-          let below : quickPlace + o % (quickTiles * (site .plan .slots)) < foldPlace = omega (arith, e, low, most) in
-          met (quickPlace + o % (quickTiles * (site .plan .slots))) (once-in-ten (k .0) (omega (arith, q .2)) below refl)
-          (marked (quickPlace + o % (quickTiles * (site .plan .slots))) below (quick below (record { turn = u; within = mod-lt (q .1) (r .1); at = omega (arith, e) })))
+          let e : o % (quickTiles * S site) ≡ rowOffset x (m .hop) + u * (x .period * S site) =
+          sym (fold-short (S site) K o (k .1 .0) (k .1 .1) (q .0)) ∙ ap (λ (s : ℕ). s % (quickTiles * S site)) (q .4)
+          ∙ fold-quick (S site) (x .period) (rowOffset x (m .hop)) (r .0) (r .1) (q .1) within in
+          let low = inside (S site) (x .period) (rowOffset x (m .hop)) quickTiles u within (mod-lt (q .1) (r .1)) in
+          let below : quickPlace + o % (quickTiles * S site) < foldPlace = omega (arith, e, low, most) in
+          met (quickPlace + o % (quickTiles * S site)) (once-in-ten (k .0) (omega (arith, q .2)) below refl)
+          (marked (quickPlace + o % (quickTiles * S site)) below (quick below (record { turn = u; within = mod-lt (q .1) (r .1); at = omega (arith, e) })))
       by-class (inr k) (inr r) =
-          let slot : ℕ = o + q .0 * (K * (site .plan .slots)) in
+          let slot : ℕ = o + q .0 * (K * S site) in
           let low : slot < quickPlace = omega (arith, q .5, most) in
           met slot (in-hundred (k .0) low (record { turn = q .0; within = q .2; at = refl })) (marked slot (omega (arith, low)) (short (r .0) low (record { turn = q .1; within = q .3; at = q .4 })))
 

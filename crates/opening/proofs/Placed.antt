@@ -8,7 +8,7 @@ use lib.ListN.{length, getD, take, drop}
 use Rattle.rules.specs.Words.{_∈_}
 use Rattle.rules.specs.Tiles.{Plan, shortTiles}
 use Rattle.rules.specs.Topology.{Topology}
-use Rattle.rules.specs.Periods.{thePlan}
+use Rattle.rules.specs.Records.{thePlan}
 use Rattle.rules.specs.Book.{Row, LawfulBook}
 use Rattle.rules.specs.Placing.{Asked, beside}
 use Rattle.rules.specs.Image.{planOf, hearingOf, streamsOf, rowsPlace}

@@ -1,5 +1,5 @@
 // Opens a stream on the image of a lawful book in the newest version.
-ghost use Rattle.rules.specs.Periods.{theAsked};
+ghost use Rattle.rules.specs.Records.{theAsked};
 ghost use Rattle.rules.specs.Calls.Request.{Open};
 ghost use Rattle.index.specs.Beside.{ImageBeside, Works};
 ghost use Rattle.finding.specs.Spot.{SpotOf, placeIn};

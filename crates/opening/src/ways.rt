@@ -4,7 +4,7 @@ ghost use mathlib.Core.Logic.{_⊎_};
 ghost use Prim.Native.Nat.{ℕ, _+_, _-_, _<_, _≤_};
 ghost use lib.ListN.{length};
 ghost use Rattle.rules.specs.Words.{_∈_, Tests, TwoBytes};
-ghost use Rattle.rules.specs.Periods.{theAsked};
+ghost use Rattle.rules.specs.Records.{theAsked};
 ghost use Rattle.rules.specs.Book.{mostStreams, mostHops};
 ghost use Rattle.opening.specs.Open.{Routed, OpensNew};
 ghost use Rattle.rules.proofs.Reading.{bookIn};

@@ -2,7 +2,7 @@
 ghost use Prim.Native.Nat.{_*_, _<_};
 ghost use Rattle.rules.specs.Words.{Tests};
 ghost use Rattle.rules.specs.Tiles.{PlanInRange, Period};
-ghost use Rattle.rules.specs.Periods.{thePlan};
+ghost use Rattle.rules.specs.Records.{thePlan};
 ghost use Rattle.bitset.specs.Rows.{topology};
 ghost use Rattle.clash.specs.Reach.{hop, Clashes, Between};
 ghost use Rattle.index.specs.Turns.{RepeatsOf};

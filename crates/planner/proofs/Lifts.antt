@@ -9,7 +9,7 @@ use lib.ListN.{length}
 use Rattle.rules.specs.Says.{Refusal, Says}
 use Rattle.rules.specs.Tiles.{Plan, PlanInRange}
 use Rattle.rules.specs.Topology.{nodes}
-use Rattle.rules.specs.Periods.{thePlan}
+use Rattle.rules.specs.Records.{thePlan}
 use Rattle.rules.specs.Book.{Book}
 use Rattle.rules.specs.Image.{newest, imageRefusals, encode, linksPlace, versionOf, planOf, nodesOf, linksOf}
 use Rattle.rules.specs.Table.{tableLength, TablePart, BalanceOf}

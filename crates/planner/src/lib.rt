@@ -1,7 +1,7 @@
 // The public calls: each takes a book as its stored image, and says back a number.
 ghost use mathlib.Core.Path.{_≡_};
 ghost use Prim.Native.Nat.{_<_};
-ghost use Rattle.rules.specs.Periods.{thePlan, theAsked};
+ghost use Rattle.rules.specs.Records.{thePlan, theAsked};
 ghost use Rattle.rules.specs.Calls.{New, Check, Rewrite, Serve, Purchase, Expand, LinksOf, Links, Routes, Keeps};
 ghost use Rattle.rules.specs.Calls.Request.{Open, Close};
 ghost use Rattle.rules.specs.Image.{nodesOf};

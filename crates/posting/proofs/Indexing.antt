@@ -54,7 +54,11 @@ module _ {b : Book} (l : LawfulBook b) where
 
     -- and behind it the buffer is as it was
     pub indexed : Indexed b before after
-    indexed = record { words = take (indexLength (b .site .plan)) after; index = index-lent; buffer = sym (take-append-drop (indexLength (b .site .plan)) after) ∙ ap (λ (x : List ℕ). take (indexLength (b .site .plan)) after ++ x) behind }
+    indexed = record {
+      words = take (indexLength (b .site .plan)) after;
+      index = index-lent;
+      buffer = sym (take-append-drop (indexLength (b .site .plan)) after) ∙ ap (λ (x : List ℕ). take (indexLength (b .site .plan)) after ++ x) behind;
+    }
       where
         behind : drop (indexLength (b .site .plan)) after ≡ drop (length (take (indexLength (b .site .plan)) after)) before
         behind = lent .behind ∙ ap (λ (k : ℕ). drop k before) (sym (length-take-le (indexLength (b .site .plan)) after long))

@@ -12,7 +12,7 @@ use Rattle.rules.specs.Words.{Tests}
 use Rattle.rules.specs.Tiles.{Plan, PlanInRange}
 use Rattle.rules.specs.Topology.{Topology, nodes, Path}
 use Rattle.rules.specs.Book.{Account, Site, Row, hops, key, KnownAccount, Offsets, OnData, LawfulRow}
-use Rattle.rules.specs.Periods.{thePlan}
+use Rattle.rules.specs.Records.{thePlan}
 use Rattle.rules.specs.Image.{linksPlace, setsAt, versionOf, planOf, nodesOf, streamsOf, accountsOf, linksOf, siteOf, rowsPlace, FieldsInRange}
 use Rattle.rules.proofs.Tests.{alike, tests-eq}
 use Rattle.rules.proofs.Written.{length-sets-at}

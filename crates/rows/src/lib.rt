@@ -5,7 +5,7 @@ ghost use lib.ListN.{length};
 ghost use Rattle.rules.specs.Words.{Tests};
 ghost use Rattle.rules.specs.Tiles.{Period, PlanInRange};
 ghost use Rattle.rules.specs.Book.{key, Paid};
-ghost use Rattle.rules.specs.Periods.{thePlan};
+ghost use Rattle.rules.specs.Records.{thePlan};
 ghost use Rattle.rules.specs.Image.{versionOf, streamsOf, FieldsInRange, accountsOf, siteOf, rowsPlace, RowsOf};
 ghost use Rattle.rules.proofs.Reading.{rowsIn};
 ghost use Rattle.image.specs.Places.{rowAt, rowsFrom, Whole};

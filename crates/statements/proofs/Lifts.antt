@@ -8,7 +8,7 @@ use lib.ListN.{length, getD}
 use Rattle.rules.specs.Says.{Says}
 use Rattle.rules.specs.Tiles.{PlanInRange}
 use Rattle.rules.specs.Topology.{nodes}
-use Rattle.rules.specs.Periods.{thePlan}
+use Rattle.rules.specs.Records.{thePlan}
 use Rattle.rules.specs.Image.{headerLength, imageRefusals, linksPlace, versionOf, nodesOf, linksOf}
 use Rattle.rules.specs.Table.{sumBelow, used}
 use Rattle.rules.proofs.Lists.{count-unique}

@@ -4,7 +4,7 @@ ghost use Prim.Native.Nat.{ℕ, _+_, _*_, _%_, _≤_, _<_};
 ghost use lib.ListN.{length};
 ghost use Rattle.rules.specs.Words.{Tests};
 ghost use Rattle.rules.specs.Tiles.{PlanInRange, cycleTiles, slotsOf};
-ghost use Rattle.rules.specs.Periods.{thePlan};
+ghost use Rattle.rules.specs.Records.{thePlan};
 ghost use Rattle.rules.specs.Book.{hops};
 ghost use Rattle.rules.specs.Image.{planOf};
 ghost use Rattle.rules.specs.Table.{tableLength};

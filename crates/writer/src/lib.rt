@@ -5,7 +5,7 @@ ghost use Prim.Native.Nat.{_+_, _-_, _*_, _/_, _<_, _≤_};
 ghost use lib.ListN.{length, drop};
 ghost use Rattle.rules.specs.Tiles.{PlanInRange};
 ghost use Rattle.rules.specs.Book.{mostAccounts};
-ghost use Rattle.rules.specs.Periods.{thePlan};
+ghost use Rattle.rules.specs.Records.{thePlan};
 ghost use Rattle.rules.specs.Image.{newest, rowLength, headerLength, word, inTurn, encodeHeader, encodeRow};
 ghost use Rattle.writer.specs.Over.{over, headed};
 use rules::Plan;

@@ -2,7 +2,7 @@
 use mathlib.Core.Path.{sym}
 use borrow.Author.Tests.{not-true, not-false}
 use lib.Seq.{length-take-le}
-use Rattle.rules.specs.Periods.{thePlan}
+use Rattle.rules.specs.Records.{thePlan}
 use Rattle.rules.proofs.Tests.{fails}
 use Rattle.adopting.proofs.Meaning.{draft-size, part-fits, no-draft, not-these, too-short, adopted}
 use borrow.Author.Needs.{needs}

@@ -2,7 +2,7 @@
 use borrow.Author.Tests.{not-true, not-false}
 use Rattle.rules.specs.Tiles.{PlanInRange}
 use Rattle.rules.specs.Topology.{NodesInRange}
-use Rattle.rules.specs.Periods.{thePlan}
+use Rattle.rules.specs.Records.{thePlan}
 use Rattle.rules.proofs.Tests.{fails}
 use Rattle.adopting.proofs.Meaning.{out-of-range, unsound, no-entries, too-many, answered}
 use borrow.Author.Needs.{needs}

@@ -1,7 +1,7 @@
 -- The keys found are over 64.
 use mathlib.Core.Path.{refl}
 use native.Mathlib.Omega.{arith}
-use Rattle.rules.specs.Periods.{thePlan}
+use Rattle.rules.specs.Records.{thePlan}
 use Rattle.drafting.proofs.Image.{count-fits}
 use Rattle.adopting.proofs.Counting.{tests-many}
 use borrow.Author.Needs.{needs}

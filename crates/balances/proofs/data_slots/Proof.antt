@@ -5,7 +5,7 @@ use native.Mathlib.Omega.{arith}
 use native.Mathlib.Nat.{le-antisymm, mul-le-mul}
 use borrow.Author.Needs.{needs}
 use Rattle.rules.specs.Table.{sumBelow}
-use Rattle.rules.specs.Periods.{thePlan}
+use Rattle.rules.specs.Records.{thePlan}
 use Rattle.rules.proofs.Plans.{tiles-some}
 use Rattle.rules.proofs.Bytes.{tiles-small}
 use Rattle.balances.specs.Counts.{DataSlots}

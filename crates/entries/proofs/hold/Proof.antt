@@ -1,7 +1,7 @@
 -- The length is compared, and then every tile is looked at.
 use native.Mathlib.Omega.{arith}
 use borrow.Author.Needs.{needs}
-use Rattle.rules.specs.Periods.{thePlan}
+use Rattle.rules.specs.Records.{thePlan}
 use Rattle.rules.proofs.Tests.{said-no}
 use Rattle.entries.proofs.Holding.{size-fits, size-is, size-not, tests-entries}
 use Rattle.entries.proofs.hold.Statement.{statement}

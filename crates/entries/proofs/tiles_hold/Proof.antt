@@ -6,7 +6,7 @@ use borrow.Author.Count.{below-none, below-more}
 use borrow.Author.Needs.{needs}
 use borrow.Author.Tests.{not-true, not-false}
 use Rattle.rules.specs.Tiles.{controlSlots}
-use Rattle.rules.specs.Periods.{thePlan}
+use Rattle.rules.specs.Records.{thePlan}
 use Rattle.rules.proofs.Tests.{said-yes, said-no, fails}
 use Rattle.entries.specs.Entries.{EntriesIn}
 use Rattle.entries.proofs.Holding.{tile-read, tile-inside}

@@ -1,7 +1,7 @@
 -- Each field is tested.
 use native.Mathlib.Omega.{arith}
 use borrow.Author.Needs.{needs}
-use Rattle.rules.specs.Periods.{thePlan}
+use Rattle.rules.specs.Records.{thePlan}
 use Rattle.rules.specs.Tiles.{PlanInRange}
 use Rattle.rules.proofs.Tests.{said-no}
 use Rattle.rules.proofs.Tests.{part-failed}

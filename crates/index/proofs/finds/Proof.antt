@@ -21,7 +21,8 @@ finds-requires-2 c κs = fold-turns (c .before .before .before .before .before .
 
 returns-2 : tie.Need-returns-2
 returns-2 c =
-    tests-quick (c .before .before .before .before .before .before .pre) (c .before .before .before .if1 .taken) (fails (c .before .before .finds .ensures) (c .before .if2 .left)) (c .finds2 .ensures)
+    tests-quick (c .before .before .before .before .before .before .pre) (c .before .before .before .if1 .taken) (fails (c .before .before .finds .ensures) (c .before .if2 .left))
+    (c .finds2 .ensures)
 
 returns-3 : tie.Need-returns-3
 returns-3 c = said-no (tests-none (c .before .before .before .before .before .pre) (omega (arith, c .before .before .if1 .left)) (c .if3 .taken))
@@ -31,7 +32,8 @@ finds-requires-3 c κs = short-turns (c .before .before .before .before .before 
 
 returns-4 : tie.Need-returns-4
 returns-4 c =
-    said-yes (found-short (c .before .before .before .before .before .before .before .pre) (omega (arith, c .before .before .before .before .if1 .left)) (c .before .finds3 .ensures .yes (c .if4 .taken)))
+    said-yes (found-short (c .before .before .before .before .before .before .before .pre) (omega (arith, c .before .before .before .before .if1 .left))
+    (c .before .finds3 .ensures .yes (c .if4 .taken)))
 
 rem-quick : tie.Need-rem-quick
 rem-quick c = omega (arith, c .before .before .before .before .before .before .before .before .before .pre .some)

@@ -1,7 +1,7 @@
 -- The refusals of a request by itself are tried in their order.
 use borrow.Author.Needs.{needs}
 use borrow.Author.Tests.{not-true, not-false}
-use Rattle.rules.specs.Periods.{theAsked}
+use Rattle.rules.specs.Records.{theAsked}
 use Rattle.rules.proofs.Tests.{fails}
 use Rattle.opening.proofs.Judging.{no-id, no-source, no-destination, one-node, no-period, in-order}
 use Rattle.opening.proofs.judge.Statement.{statement}

@@ -7,7 +7,7 @@ use borrow.Author.Needs.{needs}
 use borrow.Author.Tests.{not-true, not-false}
 use Rattle.rules.specs.Book.{KnownAccount}
 use Rattle.rules.specs.Image.{accountsOf}
-use Rattle.rules.specs.Periods.{theAsked}
+use Rattle.rules.specs.Records.{theAsked}
 use Rattle.rules.proofs.Tests.{fails}
 use Rattle.accounts.proofs.Sums.{stored-list}
 use Rattle.finding.specs.declared.Spot.{Spot}

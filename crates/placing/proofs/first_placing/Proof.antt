@@ -3,7 +3,7 @@ use Prim.Native.Nat.{_*_, _-_}
 use native.Mathlib.Omega.{arith}
 use borrow.Author.Needs.{needs}
 use Rattle.rules.specs.Topology.{hopCount}
-use Rattle.rules.specs.Periods.{thePlan}
+use Rattle.rules.specs.Records.{thePlan}
 use Rattle.rules.proofs.Greedy.{Least}
 use Rattle.bitset.specs.Rows.{topology}
 use Rattle.placing.specs.Answers.{around, FreeAt}

@@ -4,7 +4,7 @@ use native.Mathlib.Nat.{le-refl}
 use native.Mathlib.Omega.{arith}
 use borrow.Author.Count.{below-more}
 use borrow.Author.Needs.{needs}
-use Rattle.rules.specs.Periods.{thePlan}
+use Rattle.rules.specs.Records.{thePlan}
 use Rattle.rules.proofs.Tests.{fails}
 use Rattle.index.specs.Marks.{InReach}
 use Rattle.placing.specs.Answers.{around, FreeBy}

@@ -1,6 +1,6 @@
 -- The hop's reach is found once.
 use borrow.Author.Needs.{needs}
-use Rattle.rules.specs.Periods.{thePlan}
+use Rattle.rules.specs.Records.{thePlan}
 use Rattle.bitset.specs.Rows.{topology}
 use Rattle.clash.specs.Reach.{hop}
 use Rattle.placing.specs.Answers.{around}

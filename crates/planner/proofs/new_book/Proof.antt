@@ -2,7 +2,7 @@
 use native.Mathlib.Omega.{arith}
 use borrow.Author.Needs.{needs}
 use borrow.Author.Tests.{not-true, not-false}
-use Rattle.rules.specs.Periods.{thePlan}
+use Rattle.rules.specs.Records.{thePlan}
 use Rattle.rules.specs.Calls.{TopologiesGiven}
 use Rattle.rules.proofs.Tests.{fails}
 use Rattle.planner.proofs.Making.{Given, InRange, accounts-few, new-range, new-topology, new-short, new-done}

@@ -5,7 +5,7 @@ use native.Mathlib.Omega.{arith}
 use borrow.Author.Needs.{needs}
 use borrow.Author.Tests.{not-true, not-false}
 use Rattle.rules.specs.Book.{OnData}
-use Rattle.rules.specs.Periods.{thePlan}
+use Rattle.rules.specs.Records.{thePlan}
 use Rattle.rules.proofs.Tests.{fails, said-yes, said-no}
 use Rattle.image.specs.Places.{rowAt}
 use Rattle.image.proofs.Places.{whole-sized}

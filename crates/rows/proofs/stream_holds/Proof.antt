@@ -2,7 +2,7 @@
 use borrow.Author.Needs.{needs}
 use borrow.Author.Tests.{not-true, not-false}
 use Rattle.rules.specs.Image.{versionOf}
-use Rattle.rules.specs.Periods.{thePlan}
+use Rattle.rules.specs.Records.{thePlan}
 use Rattle.rules.proofs.Tests.{fails, said-no, part-failed}
 use Rattle.bitset.specs.Rows.{topology}
 use Rattle.image.specs.Places.{rowAt}

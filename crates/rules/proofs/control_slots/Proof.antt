@@ -1,5 +1,5 @@
 -- A tile's control slots are those of its kind.
-use Rattle.rules.specs.Periods.{thePlan}
+use Rattle.rules.specs.Records.{thePlan}
 use Rattle.rules.proofs.Plans.{tiles-some, tile-place, control-down, control-up}
 use Rattle.rules.proofs.control_slots.Statement.{statement}
 use Rattle.rules.proofs.control_slots.Tie as tie

@@ -1,6 +1,6 @@
 -- A data slot is none of its tile's control slots.
 use borrow.Author.Needs.{needs}
-use Rattle.rules.specs.Periods.{thePlan}
+use Rattle.rules.specs.Records.{thePlan}
 use Rattle.rules.proofs.Plans.{tests-data-slot}
 use Rattle.rules.proofs.is_data.Statement.{statement}
 use Rattle.rules.proofs.is_data.Tie as tie

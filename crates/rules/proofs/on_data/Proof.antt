@@ -1,6 +1,6 @@
 -- Offsets behind the control slots of both kinds of tile are on data slots; the others are tested turn by turn.
 use borrow.Author.Needs.{needs}
-use Rattle.rules.specs.Periods.{thePlan}
+use Rattle.rules.specs.Records.{thePlan}
 use Rattle.rules.proofs.Tests.{said-yes}
 use Rattle.rules.proofs.Plans.{behind-control}
 use Rattle.rules.proofs.on_data.Statement.{statement}

@@ -6,7 +6,7 @@ use borrow.Author.Tests.{not-true, not-false}
 use borrow.Author.Needs.{needs}
 use borrow.Author.Count.{below-more}
 use Rattle.rules.specs.Tiles.{Data}
-use Rattle.rules.specs.Periods.{thePlan}
+use Rattle.rules.specs.Records.{thePlan}
 use Rattle.rules.proofs.Tests.{fails, said-yes, said-no}
 use Rattle.rules.proofs.Periods.{turn-within}
 use Rattle.rules.proofs.Plans.{on-data-tests, not-on-data}

@@ -6,7 +6,7 @@ use native.Mathlib.Nat.{mul-le-mul}
 use lib.ListN.{length}
 use borrow.Author.Needs.{needs}
 use Rattle.rules.specs.Tiles.{slotsOf}
-use Rattle.rules.specs.Periods.{thePlan}
+use Rattle.rules.specs.Records.{thePlan}
 use Rattle.tables.specs.Entries.{Over, ControlBelow}
 use Rattle.tables.proofs.Writing.{turn-room}
 use Rattle.tables.proofs.NoStreams.{control-none, control-more, blank-done}

@@ -1,6 +1,6 @@
 -- The image of a book without streams is written part by part.
 use native.Mathlib.Omega.{arith}
-use Rattle.rules.specs.Periods.{thePlan}
+use Rattle.rules.specs.Records.{thePlan}
 use Rattle.writer.proofs.Laws.{new-written}
 use borrow.Author.Needs.{needs}
 use Rattle.writer.proofs.put_new.Statement.{statement}

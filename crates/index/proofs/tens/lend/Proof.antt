@@ -20,7 +20,8 @@ loop-holds : tie.Need-loop-holds Inv-loop μ-loop
 loop-holds c = (omega arith, omega arith, tens-start _ _ _)
 
 -- the next ten is one of 100 tiles
-room : (c : tie.In-loop Inv-loop μ-loop) → c .before .loop .at + 2 * (quickTiles * c .before .before .before .before .before .args .slots .0) ≤ 2 * (shortTiles * c .before .before .before .before .before .args .slots .0)
+room : (c : tie.In-loop Inv-loop μ-loop)
+    → c .before .loop .at + 2 * (quickTiles * c .before .before .before .before .before .args .slots .0) ≤ 2 * (shortTiles * c .before .before .before .before .before .args .slots .0)
 room c =
     let more = mul-le-mul-right (2 * (quickTiles * c .before .before .before .before .before .args .slots .0)) (c .loop-test .taken) in
     omega (arith, c .before .loop .inv .1, more)

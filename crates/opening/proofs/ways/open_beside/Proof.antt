@@ -5,7 +5,7 @@ use native.Mathlib.Omega.{arith}
 use lib.ListN.{length}
 use lib.Seq.{length-take-le}
 use borrow.Author.Tests.{not-true, not-false}
-use Rattle.rules.specs.Periods.{theAsked}
+use Rattle.rules.specs.Records.{theAsked}
 use Rattle.opening.proofs.Routed.{routed-new, second-refused}
 use Rattle.opening.proofs.Planned.{nodes-most}
 use Rattle.opening.proofs.Seconds.{second-asked, second-few, second-missing, second-planned, second-routes}

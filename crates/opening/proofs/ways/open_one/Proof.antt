@@ -7,7 +7,7 @@ use native.Mathlib.Omega.{arith}
 use lib.ListN.{length}
 use lib.Seq.{length-take-le}
 use Rattle.rules.specs.Words.{Tests}
-use Rattle.rules.specs.Periods.{theAsked}
+use Rattle.rules.specs.Records.{theAsked}
 use Rattle.rules.specs.Placing.{Full}
 use Rattle.rules.proofs.Tests.{fails}
 use Rattle.rules.proofs.Reading.{bookIn}

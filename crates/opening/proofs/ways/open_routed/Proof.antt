@@ -1,5 +1,5 @@
 -- A second route is asked for, or it is not.
-use Rattle.rules.specs.Periods.{theAsked}
+use Rattle.rules.specs.Records.{theAsked}
 use Rattle.rules.specs.Placing.Planned.{one}
 use Rattle.opening.proofs.Routed.{routed-new}
 use Rattle.opening.proofs.ways.open_routed.Statement.{statement}

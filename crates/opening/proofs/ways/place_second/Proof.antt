@@ -6,7 +6,7 @@ use Prim.Native.Nat.{ℕ, _-_}
 use native.Mathlib.Omega.{arith}
 use lib.ListN.{length}
 use lib.Seq.{length-take-le}
-use Rattle.rules.specs.Periods.{theAsked}
+use Rattle.rules.specs.Records.{theAsked}
 use Rattle.adding.specs.Puts.{rowOn}
 use Rattle.opening.proofs.Outcomes.{out-refused, out-next}
 use Rattle.opening.proofs.Placed.{covers-first, beside-asked}
