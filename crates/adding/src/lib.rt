@@ -4,13 +4,14 @@ ghost use mathlib.Core.List.{[], _∷_};
 ghost use Prim.Native.Nat.{_+_, _*_, _≤_};
 ghost use lib.ListN.{length};
 ghost use Rattle.rules.specs.Topology.{mostRouteHops};
-ghost use Rattle.rules.specs.Records.{theAsked};
+ghost use Rattle.rules.specs.Records.{theAsked, theRoute, theOffsets};
 ghost use Rattle.rules.specs.Book.{mostStreams, mostHops};
 ghost use Rattle.rules.specs.Image.{newest, rowLength, streamsOf, hopsOf};
 ghost use Rattle.rules.proofs.Reading.{NewestImage};
 ghost use Rattle.adding.specs.Puts.{SomeVacant, PutIn, PutsRows, rowOn, OnePut, TwoPut};
 use image::Book;
 use rules::Asked;
+use rules::Placed;
 
 // The bytes of the longest row,
 const LONGEST_ROW: usize = 54;
@@ -50,12 +51,12 @@ fn put_in(
     image.len() + size
 }
 
-// The bytes of a row of so many hops.
-fn row_size(hops: usize) -> usize
-    requires { ⌜ hops ≤ mostRouteHops ⌝ }
-    ensures { λ r. ⌜ (r ≡ rowLength newest + 3 * hops) × (r ≤ 54) ⌝ }
+// The bytes of the row of a placed route, which has as many offsets as hops.
+fn row_size(placed: Placed) -> usize
+    requires { ⌜ placed .route .hops ≤ mostRouteHops ⌝ }
+    ensures { λ r. ⌜ (r ≡ rowLength newest + 3 * placed .route .hops) × (r ≤ 54) × (length (theOffsets placed) ≡ placed .route .hops) ⌝ }
 {
-    image::row_length(image::NEWEST) + image::HOP * hops
+    image::row_length(image::NEWEST) + image::HOP * placed.route.hops
 }
 
 // Lays out the image with the row of a stream on one route.
@@ -63,27 +64,16 @@ pub fn put_one(
     image: &[u8],
     at: usize,
     q: Asked,
-    route: &[u8],
-    offsets: &[u16],
+    placed: Placed,
     out: &mut [u8; Book::LONGEST],
 ) -> usize
-    requires { ⌜ OnePut (now image) at (theAsked q) (now route) (now offsets) ⌝ }
-    ensures { λ r. ⌜ PutIn (now (image .entry)) at (rowOn (theAsked q) 1 (now (route .entry)) (now (offsets .entry)) ∷ []) r (now (out .exit)) ⌝ }
+    requires { ⌜ OnePut (now image) at (theAsked q) (theRoute (placed .route)) (theOffsets placed) × (placed .route .hops ≤ mostRouteHops) ⌝ }
+    ensures { λ r. ⌜ PutIn (now (image .entry)) at (rowOn (theAsked q) 1 (theRoute (placed .route)) (theOffsets placed) ∷ []) r (now (out .exit)) ⌝ }
 {
-    let hops = offsets.len();
-    let size = row_size(hops);
+    let size = row_size(placed);
     let mut new = [0u8; LONGEST_ROW];
-    writer::put_row(
-        &mut new,
-        0,
-        q.id,
-        FIRST,
-        q.period,
-        route,
-        offsets,
-        q.account,
-    );
-    put_in(image, at, &new[..size], 1, hops, out)
+    writer::put_row(&mut new, 0, q.id, FIRST, q.period, placed, q.account);
+    put_in(image, at, &new[..size], 1, placed.route.hops, out)
 }
 
 // Lays out the image with the rows of a stream on two routes.
@@ -91,38 +81,20 @@ pub fn put_two(
     image: &[u8],
     at: usize,
     q: Asked,
-    first: &[u8],
-    offsets: &[u16],
-    second: &[u8],
-    others: &[u16],
+    first: Placed,
+    second: Placed,
     out: &mut [u8; Book::LONGEST],
 ) -> usize
-    requires { ⌜ TwoPut (now image) at (theAsked q) (now first) (now offsets) (now second) (now others) ⌝ }
-    ensures { λ r. ⌜ PutIn (now (image .entry)) at (rowOn (theAsked q) 1 (now (first .entry)) (now (offsets .entry)) ∷ rowOn (theAsked q) 2 (now (second .entry)) (now (others .entry)) ∷ []) r
-        (now (out .exit)) ⌝ }
+    requires { ⌜ TwoPut (now image) at (theAsked q) (theRoute (first .route)) (theOffsets first) (theRoute (second .route)) (theOffsets second) ⌝ }
+    requires { ⌜ (first .route .hops ≤ mostRouteHops) × (second .route .hops ≤ mostRouteHops) ⌝ }
+    ensures { λ r. ⌜ PutIn (now (image .entry)) at
+        (rowOn (theAsked q) 1 (theRoute (first .route)) (theOffsets first) ∷ rowOn (theAsked q) 2 (theRoute (second .route)) (theOffsets second) ∷ []) r (now (out .exit)) ⌝ }
 {
-    let size = row_size(offsets.len());
-    let all = size + row_size(others.len());
+    let size = row_size(first);
+    let all = size + row_size(second);
     let mut new = [0u8; LONGEST_ROWS];
-    writer::put_row(
-        &mut new,
-        0,
-        q.id,
-        FIRST,
-        q.period,
-        first,
-        offsets,
-        q.account,
-    );
-    writer::put_row(
-        &mut new,
-        size,
-        q.id,
-        SECOND,
-        q.period,
-        second,
-        others,
-        q.account,
-    );
-    put_in(image, at, &new[..all], 2, offsets.len() + others.len(), out)
+    writer::put_row(&mut new, 0, q.id, FIRST, q.period, first, q.account);
+    writer::put_row(&mut new, size, q.id, SECOND, q.period, second, q.account);
+    let hops = first.route.hops + second.route.hops;
+    put_in(image, at, &new[..all], 2, hops, out)
 }

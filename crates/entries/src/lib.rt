@@ -11,7 +11,9 @@ ghost use Rattle.rules.specs.Records.{thePlan};
 ghost use Rattle.rules.specs.Tables.{operationAt, idAt, TablesOfEntries};
 ghost use Rattle.rules.proofs.Seen.{Has, Next};
 ghost use Rattle.entries.specs.Entries.{WayOf, EntryIn, EntriesIn, Receives, Receiver};
+use rules::Node;
 use rules::Plan;
+use rules::Slot;
 use rules::Tile;
 
 // The bytes of an entry: an operation and an id.
@@ -146,18 +148,18 @@ fn receives(tables: &[u8], i: usize, way: u8, id: u16) -> bool
 }
 
 // The first of so many nodes that in a slot of its table, which has so many slots, receives on the way for the id; their number where none does.
-pub fn receiver(tables: &[u8], nodes: usize, slots: usize, slot: usize, way: u8, id: u16) -> usize
-    requires { ⌜ (3 * (nodes * slots) ≤ length (now tables)) × (slot < slots) ⌝ }
-    ensures { λ r. ⌜ Receiver (now (tables .entry)) nodes slots slot way id r ⌝ }
+pub fn receiver(tables: &[u8], nodes: usize, slots: Slot, slot: Slot, way: u8, id: u16) -> Node
+    requires { ⌜ (nodes ≤ 64) × (3 * (nodes * slots .0) ≤ length (now tables)) × (slot .0 < slots .0) ⌝ }
+    ensures { λ r. ⌜ Receiver (now (tables .entry)) nodes (slots .0) (slot .0) way id (r .0) ⌝ }
 {
-    let mut node: usize = 0;
-    let mut i = slot;
-    while node < nodes {
+    let mut node: u8 = 0;
+    let mut i = slot.0 as usize;
+    while (node as usize) < nodes {
         if receives(tables, i, way, id) {
-            return node;
+            return Node(node);
         }
         node += 1;
-        i += slots;
+        i += slots.0 as usize;
     }
-    node
+    Node(node)
 }

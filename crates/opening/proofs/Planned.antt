@@ -1,15 +1,17 @@
 -- The links and the hearing behind the index are the book's, and the planner's answer over the links is that of the book.
 use mathlib.Core.Path.{_≡_, sym, ap, _∙_, subst, subst₂}
 use mathlib.Core.List.{List}
-use Prim.Native.Nat.{ℕ, _+_, _≤_}
+use Prim.Native.Nat.{ℕ, _≤_}
 use native.Mathlib.Omega.{arith}
 use lib.ListN.{take, drop}
-use Rattle.rules.specs.Topology.{Topology, nodes, Route}
+use Rattle.rules.specs.Topology.{Topology, nodes, hopCount, Route}
 use Rattle.rules.specs.Topology as topologies
 use Rattle.rules.specs.Image.{linksPlace, nodesOf, linksOf, hearingOf}
+use Rattle.rules.specs.Records.{theRoute}
 use Rattle.rules.specs.Placing as placing
 use Rattle.rules.proofs.Written.{length-sets-at}
 use Rattle.rules.proofs.Reading.{LawfulImage}
+use Rattle.rules.proofs.Records.{route-length}
 use Rattle.image.specs.declared.Book as head
 use Rattle.image.proofs.Topologies.{hearing-nodes}
 use Rattle.index.specs.Index.{linksBehind, hearingBehind}
@@ -21,15 +23,6 @@ use Rattle.routes.specs.declared.second.Sought.{Sought}
 use Rattle.routes.specs.declared.Reach.{Reach}
 use Rattle.routes.specs.declared.Reach.the-variants.{Found, TooFar, NoRoute}
 use Rattle.opening.specs.Beside.{AskedBeside}
-
--- a route has at most 15 hops, and no route none
-pub hops-most : (T : Topology) (middle source destination : ℕ) (r : Planned) → PlannerSays T middle source destination r → r .hops ≤ 15
-hops-most T middle source destination r w = go (r .reach) w
-  where
-    go : (reach : Reach) → Says T middle source destination reach (r .hops) (r .nodes) → r .hops ≤ 15
-    go Found w = w .most
-    go TooFar w = omega (arith, w .1 .no-hops)
-    go NoRoute w = omega (arith, w .1 .no-hops)
 
 module _ {s : List ℕ} (h : LawfulImage s) where
   pub known : nodes (linksOf s) ≡ nodesOf s
@@ -69,11 +62,16 @@ module _ {s words : List ℕ} {book : head.Book} {q : placing.Asked} (w : AskedB
     asked = subst (λ (T : Topology). Asked T (q .source) (q .destination)) (sym same-topology) asked-book
 
     says : (mains : ℕ) (r : Planned) (reach : Reach) → PlannerSays (topology links) mains (q .source) (q .destination) r → r .reach ≡ reach
-        → Says (linksOf s) mains (q .source) (q .destination) reach (r .hops) (r .nodes)
-    says mains r reach p e = subst₂ (λ (T : Topology) (reach : Reach). Says T mains (q .source) (q .destination) reach (r .hops) (r .nodes)) same-topology e p
+        → Says (linksOf s) mains (q .source) (q .destination) reach (r .route)
+    says mains r reach p e = subst₂ (λ (T : Topology) (reach : Reach). Says T mains (q .source) (q .destination) reach (r .route)) same-topology e p
+
+    pub planned-hops : (mains : ℕ) (r : Planned) → PlannerSays (topology links) mains (q .source) (q .destination) r → r .reach ≡ Found → hopCount (theRoute (r .route)) ≡ r .route .hops
+    planned-hops mains r p e =
+        let w = says mains r Found p e in
+        omega (arith, route-length (r .route) (w .most) (w .size))
 
     module _ {mains : ℕ} (r : Planned) (p : PlannerSays (topology links) mains (q .source) (q .destination) r) where
-      pub planned-route : r .reach ≡ Found → Route (linksOf s) mains (q .source) (q .destination) (take (r .hops + 1) (r .nodes))
+      pub planned-route : r .reach ≡ Found → Route (linksOf s) mains (q .source) (q .destination) (theRoute (r .route))
       planned-route e = says mains r Found p e .route
 
       pub planned-none : r .reach ≡ NoRoute → topologies.NoRoute (linksOf s) mains (q .source) (q .destination)

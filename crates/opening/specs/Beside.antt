@@ -3,10 +3,11 @@ use mathlib.Core.Path.{_≡_}
 use mathlib.Core.Bool.{true}
 use mathlib.Core.List.{List, [], _∷_}
 use Prim.Native.Nat.{ℕ, _<_, _≤_}
-use lib.ListN.{take}
 use Rattle.rules.specs.Book as rules
 use Rattle.rules.specs.Tiles.{Period}
 use Rattle.rules.specs.Topology.{Path, hopCount, mostRouteHops, Route}
+use Rattle.rules.specs.Records.{theRoute, theOffsets}
+use Rattle.rules.specs.declared.Route as held
 use Rattle.rules.specs.Placing as placing
 use Rattle.rules.specs.Placing.{Asked, FirstPlacing, Full}
 use Rattle.rules.specs.Image.{nodesOf, accountsOf, linksOf}
@@ -41,12 +42,12 @@ pub record RouteAsked (s words : List ℕ) (book : Book) (q : Asked) (route : Li
   pub few : hopCount route ≤ mostRouteHops
 
 -- the route's first placing in the book is found, or it has none
-pub record PlacedIn (c : rules.Book) (q : Asked) (route : List ℕ) (r : Placing) : Type 0 where
-  pub placed : r .found ≡ Placed → FirstPlacing c (q .period) route (take (hopCount route) (r .offsets))
-  pub none : r .found ≡ NoPlacing → placing.NoPlacing c (q .period) route
+pub record PlacedIn (c : rules.Book) (q : Asked) (route : held.Route) (r : Placing) : Type 0 where
+  pub placed : r .found ≡ Placed → FirstPlacing c (q .period) (theRoute route) (theOffsets (record { route = route; offsets = r .offsets }))
+  pub none : r .found ≡ NoPlacing → placing.NoPlacing c (q .period) (theRoute route)
 
 -- in each book that has the rows of the image, and beside them only one on the first route, with the offsets that it has taken
-abbrev pub PlacedOn : List ℕ → Asked → List ℕ → List ℕ → List ℕ → Placing → Type 0
+abbrev pub PlacedOn : List ℕ → Asked → held.Route → List ℕ → List ℕ → Placing → Type 0
 PlacedOn s q route first taken r = (c : rules.Book) → Covers s (rowsIn s) (q .period) first taken c → PlacedIn c q route r
 
 -- and with a route

@@ -36,12 +36,11 @@ fn open_new(
     let links = index::links(index, book.nodes);
     let planned = routes::plan(links, mains, q.source, q.destination);
     let reach = planned.reach;
-    let end = planned.hops + 1;
-    let nodes = planned.nodes;
+    let route = planned.route;
     match reach {
         Reach::NoRoute => answers::refused(7),
         Reach::TooFar => answers::refused(17),
-        Reach::Found => ways::open_routed(image, index, mains, book, q, at, &nodes[..end], out),
+        Reach::Found => ways::open_routed(image, index, mains, book, q, at, route, out),
     }
 }
 

@@ -1,10 +1,12 @@
 // Opens a stream on the planner's route, and on a second one where it is asked for.
+ghost use mathlib.Core.Path.{_≡_};
 ghost use mathlib.Core.List.{[], _∷_};
 ghost use mathlib.Core.Logic.{_⊎_};
 ghost use Prim.Native.Nat.{ℕ, _+_, _-_, _<_, _≤_};
 ghost use lib.ListN.{length};
 ghost use Rattle.rules.specs.Words.{_∈_, Tests, TwoBytes};
-ghost use Rattle.rules.specs.Records.{theAsked};
+ghost use Rattle.rules.specs.Topology.{hopCount, mostRouteHops};
+ghost use Rattle.rules.specs.Records.{theAsked, theRoute, theOffsets};
 ghost use Rattle.rules.specs.Book.{mostStreams, mostHops};
 ghost use Rattle.opening.specs.Open.{Routed, OpensNew};
 ghost use Rattle.rules.proofs.Reading.{bookIn};
@@ -17,6 +19,11 @@ use image::Book;
 use placing::Found;
 use placing::Placing;
 use rules::Asked;
+use rules::Node;
+use rules::Placed;
+use rules::ROUTE_HOPS;
+use rules::Route;
+use rules::Slot;
 
 // Whether the book has no room for so many rows of so many hops.
 fn is_full(book: Book, rows: usize, hops: usize) -> bool
@@ -29,19 +36,18 @@ fn is_full(book: Book, rows: usize, hops: usize) -> bool
     Book::HOPS < book.hops + hops
 }
 
-// The first placing of a route beside the rows of the image, and beside another that has taken these offsets.
+// The first placing of a route beside the rows of the image, and beside another that is placed.
 fn place_beside(
     image: &[u8],
     index: &[u64; index::WORDS],
     book: Book,
     q: Asked,
-    route: &[u8],
-    first: &[u8],
-    taken: &[u16],
+    route: Route,
+    first: Placed,
 ) -> Placing
-    requires { ⌜ RouteAsked (now image) (now index) book (theAsked q) (now route) × (length (now taken) ≤ length (now first) - 1)
-        × ((a : ℕ) → a ∈ now first → a < 64) ⌝ }
-    ensures { λ r. ⌜ PlacedOn (now (image .entry)) (theAsked q) (now (route .entry)) (now (first .entry)) (now (taken .entry)) r ⌝ }
+    requires { ⌜ RouteAsked (now image) (now index) book (theAsked q) (theRoute route) × (hopCount (theRoute route) ≡ route .hops) ⌝ }
+    requires { ⌜ (length (theOffsets first) ≤ length (theRoute (first .route)) - 1) × ((a : ℕ) → a ∈ theRoute (first .route) → a < 64) × (first .route .hops ≤ mostRouteHops) ⌝ }
+    ensures { λ r. ⌜ PlacedOn (now (image .entry)) (theAsked q) route (theRoute (first .route)) (theOffsets first) r ⌝ }
 {
     let plan = book.plan;
     let start = book.rows_start();
@@ -68,7 +74,6 @@ fn place_beside(
         rows,
         &moduli,
         first,
-        taken,
     )
 }
 
@@ -78,13 +83,20 @@ fn place_alone(
     index: &[u64; index::WORDS],
     book: Book,
     q: Asked,
-    route: &[u8],
+    route: Route,
 ) -> Placing
-    requires { ⌜ RouteAsked (now image) (now index) book (theAsked q) (now route) ⌝ }
-    ensures { λ r. ⌜ PlacedIn (bookIn (now (image .entry))) (theAsked q) (now (route .entry)) r ⌝ }
+    requires { ⌜ RouteAsked (now image) (now index) book (theAsked q) (theRoute route) × (hopCount (theRoute route) ≡ route .hops) ⌝ }
+    ensures { λ r. ⌜ PlacedIn (bookIn (now (image .entry))) (theAsked q) route r ⌝ }
 {
-    let none = [0u16; 1];
-    place_beside(image, index, book, q, route, &route[..0], &none[..0])
+    let nowhere = Route {
+        hops: 0,
+        nodes: [Node(0); ROUTE_HOPS + 1],
+    };
+    let none = Placed {
+        route: nowhere,
+        offsets: [Slot(0); ROUTE_HOPS],
+    };
+    place_beside(image, index, book, q, route, none)
 }
 
 // Writes the image with the row of a placed route, and marks it in the index, where the account pays for it.
@@ -94,19 +106,18 @@ fn keep_one(
     book: Book,
     q: Asked,
     at: usize,
-    route: &[u8],
-    offsets: &[u16],
+    placed: Placed,
     out: &mut [u8; Book::LONGEST],
 ) -> Answer
-    requires { ⌜ OneKept (now image) (now index) book (theAsked q) at (now route) (now offsets) ⌝ }
-    ensures { λ r. ⌜ Keeps (now (image .entry)) (theAsked q) (now (route .entry) ∷ []) (rowOn (theAsked q) 1 (now (route .entry)) (now (offsets .entry)) ∷ []) at (r .number) (r .length)
-        (now (out .exit)) (now (index .exit)) ⌝ }
+    requires { ⌜ OneKept (now image) (now index) book (theAsked q) at (theRoute (placed .route)) (theOffsets placed) × (hopCount (theRoute (placed .route)) ≡ placed .route .hops) ⌝ }
+    ensures { λ r. ⌜ Keeps (now (image .entry)) (theAsked q) (theRoute (placed .route) ∷ []) (rowOn (theAsked q) 1 (theRoute (placed .route)) (theOffsets placed) ∷ []) at (r .number)
+        (r .length) (now (out .exit)) (now (index .exit)) ⌝ }
 {
-    if !paying::is_paid(image, book, q.account, q.period, offsets.len()) {
+    if !paying::is_paid(image, book, q.account, q.period, placed.route.hops) {
         return answers::refused(23);
     }
-    let length = adding::put_one(image, at, q, route, offsets, out);
-    placing::marking::mark(book.plan.slots, q.period, route, offsets, index);
+    let length = adding::put_one(image, at, q, placed, out);
+    placing::marking::mark(book.plan.slots, q.period, placed, index);
     answers::done(length)
 }
 
@@ -117,14 +128,13 @@ fn open_one(
     book: Book,
     q: Asked,
     at: usize,
-    route: &[u8],
+    route: Route,
     out: &mut [u8; Book::LONGEST],
 ) -> Answer
-    requires { ⌜ RouteBeside (now image) (now index) book (theAsked q) at (now route) ⌝ }
-    ensures { λ r. ⌜ Routed (now (image .entry)) (theAsked q) (now (route .entry) ∷ []) at (r .number) (r .length) (now (out .exit)) (now (index .exit)) ⌝ }
+    requires { ⌜ RouteBeside (now image) (now index) book (theAsked q) at (theRoute route) × (hopCount (theRoute route) ≡ route .hops) ⌝ }
+    ensures { λ r. ⌜ Routed (now (image .entry)) (theAsked q) (theRoute route ∷ []) at (r .number) (r .length) (now (out .exit)) (now (index .exit)) ⌝ }
 {
-    let hops = route.len() - 1;
-    if is_full(book, 1, hops) {
+    if is_full(book, 1, route.hops) {
         return answers::refused(8);
     }
     let placing = place_alone(image, index, book, q, route);
@@ -132,7 +142,7 @@ fn open_one(
     let offsets = placing.offsets;
     match found {
         Found::NoPlacing => answers::refused(9),
-        Found::Placed => keep_one(image, index, book, q, at, route, &offsets[..hops], out),
+        Found::Placed => keep_one(image, index, book, q, at, Placed { route, offsets }, out),
     }
 }
 
@@ -143,24 +153,23 @@ fn keep_two(
     book: Book,
     q: Asked,
     at: usize,
-    first: &[u8],
-    offsets: &[u16],
-    second: &[u8],
-    others: &[u16],
+    first: Placed,
+    second: Placed,
     out: &mut [u8; Book::LONGEST],
 ) -> Answer
-    requires { ⌜ TwoKept (now image) (now index) book (theAsked q) at (now first) (now offsets) (now second) (now others) ⌝ }
-    ensures { λ r. ⌜ Keeps (now (image .entry)) (theAsked q) (now (first .entry) ∷ now (second .entry) ∷ [])
-        (rowOn (theAsked q) 1 (now (first .entry)) (now (offsets .entry)) ∷ rowOn (theAsked q) 2 (now (second .entry)) (now (others .entry)) ∷ []) at (r .number) (r .length) (now (out .exit))
-        (now (index .exit)) ⌝ }
+    requires { ⌜ TwoKept (now image) (now index) book (theAsked q) at (theRoute (first .route)) (theOffsets first) (theRoute (second .route)) (theOffsets second) ⌝ }
+    requires { ⌜ (hopCount (theRoute (first .route)) ≡ first .route .hops) × (hopCount (theRoute (second .route)) ≡ second .route .hops) ⌝ }
+    ensures { λ r. ⌜ Keeps (now (image .entry)) (theAsked q) (theRoute (first .route) ∷ theRoute (second .route) ∷ [])
+        (rowOn (theAsked q) 1 (theRoute (first .route)) (theOffsets first) ∷ rowOn (theAsked q) 2 (theRoute (second .route)) (theOffsets second) ∷ []) at (r .number) (r .length)
+        (now (out .exit)) (now (index .exit)) ⌝ }
 {
-    let hops = offsets.len() + others.len();
+    let hops = first.route.hops + second.route.hops;
     if !paying::is_paid(image, book, q.account, q.period, hops) {
         return answers::refused(23);
     }
-    let length = adding::put_two(image, at, q, first, offsets, second, others, out);
-    placing::marking::mark(book.plan.slots, q.period, first, offsets, index);
-    placing::marking::mark(book.plan.slots, q.period, second, others, index);
+    let length = adding::put_two(image, at, q, first, second, out);
+    placing::marking::mark(book.plan.slots, q.period, first, index);
+    placing::marking::mark(book.plan.slots, q.period, second, index);
     answers::done(length)
 }
 
@@ -171,32 +180,23 @@ fn place_second(
     book: Book,
     q: Asked,
     at: usize,
-    first: &[u8],
-    offsets: &[u16],
-    second: &[u8],
+    first: Placed,
+    route: Route,
     out: &mut [u8; Book::LONGEST],
 ) -> Answer
-    requires { ⌜ PlacedBeside (now image) (now index) book (theAsked q) at (now first) (now offsets) (now second) ⌝ }
-    ensures { λ r. ⌜ Routed (now (image .entry)) (theAsked q) (now (first .entry) ∷ now (second .entry) ∷ []) at (r .number) (r .length) (now (out .exit)) (now (index .exit)) ⌝ }
+    requires { ⌜ PlacedBeside (now image) (now index) book (theAsked q) at (theRoute (first .route)) (theOffsets first) (theRoute route) ⌝ }
+    requires { ⌜ (hopCount (theRoute (first .route)) ≡ first .route .hops) × (hopCount (theRoute route) ≡ route .hops) ⌝ }
+    ensures { λ r. ⌜ Routed (now (image .entry)) (theAsked q) (theRoute (first .route) ∷ theRoute route ∷ []) at (r .number) (r .length) (now (out .exit)) (now (index .exit)) ⌝ }
 {
-    let hops = second.len() - 1;
-    let placing = place_beside(image, index, book, q, second, first, offsets);
+    let placing = place_beside(image, index, book, q, route, first);
     let found = placing.found;
-    let others = placing.offsets;
+    let offsets = placing.offsets;
     match found {
         Found::NoPlacing => answers::refused(9),
-        Found::Placed => keep_two(
-            image,
-            index,
-            book,
-            q,
-            at,
-            first,
-            offsets,
-            second,
-            &others[..hops],
-            out,
-        ),
+        Found::Placed => {
+            let second = Placed { route, offsets };
+            keep_two(image, index, book, q, at, first, second, out)
+        }
     }
 }
 
@@ -207,33 +207,26 @@ fn open_both(
     book: Book,
     q: Asked,
     at: usize,
-    first: &[u8],
-    second: &[u8],
+    route: Route,
+    second: Route,
     out: &mut [u8; Book::LONGEST],
 ) -> Answer
-    requires { ⌜ RoutesBeside (now image) (now index) book (theAsked q) at (now first) (now second) ⌝ }
-    ensures { λ r. ⌜ Routed (now (image .entry)) (theAsked q) (now (first .entry) ∷ now (second .entry) ∷ []) at (r .number) (r .length) (now (out .exit)) (now (index .exit)) ⌝ }
+    requires { ⌜ RoutesBeside (now image) (now index) book (theAsked q) at (theRoute route) (theRoute second) ⌝ }
+    requires { ⌜ (hopCount (theRoute route) ≡ route .hops) × (hopCount (theRoute second) ≡ second .hops) ⌝ }
+    ensures { λ r. ⌜ Routed (now (image .entry)) (theAsked q) (theRoute route ∷ theRoute second ∷ []) at (r .number) (r .length) (now (out .exit)) (now (index .exit)) ⌝ }
 {
-    let hops = first.len() - 1;
-    if is_full(book, 2, hops + (second.len() - 1)) {
+    if is_full(book, 2, route.hops + second.hops) {
         return answers::refused(8);
     }
-    let placing = place_alone(image, index, book, q, first);
+    let placing = place_alone(image, index, book, q, route);
     let found = placing.found;
     let offsets = placing.offsets;
     match found {
         Found::NoPlacing => answers::refused(9),
-        Found::Placed => place_second(
-            image,
-            index,
-            book,
-            q,
-            at,
-            first,
-            &offsets[..hops],
-            second,
-            out,
-        ),
+        Found::Placed => {
+            let first = Placed { route, offsets };
+            place_second(image, index, book, q, at, first, second, out)
+        }
     }
 }
 
@@ -245,21 +238,19 @@ fn open_beside(
     book: Book,
     q: Asked,
     at: usize,
-    first: &[u8],
+    first: Route,
     out: &mut [u8; Book::LONGEST],
 ) -> Answer
-    requires { ⌜ SecondBeside (now image) (now index) mains book (theAsked q) at (now first) ⌝ }
+    requires { ⌜ SecondBeside (now image) (now index) mains book (theAsked q) at (theRoute first) × (hopCount (theRoute first) ≡ first .hops) ⌝ }
     ensures { λ r. ⌜ OpensNew (now (image .entry)) mains (theAsked q) at (r .number) (r .length) (now (out .exit)) (now (index .exit)) ⌝ }
 {
     let links = index::links(index, book.nodes);
     let sought = routes::second::second(links, mains, q.source, q.destination, first);
     let found = sought.found;
-    let end = sought.hops + 1;
-    let nodes = sought.nodes;
     if !found {
         return answers::refused(18);
     }
-    open_both(image, index, book, q, at, first, &nodes[..end], out)
+    open_both(image, index, book, q, at, first, sought.route, out)
 }
 
 // Opens the stream on the planner's route, and on a second one where it is asked for.
@@ -270,10 +261,10 @@ pub fn open_routed(
     book: Book,
     q: Asked,
     at: usize,
-    first: &[u8],
+    first: Route,
     out: &mut [u8; Book::LONGEST],
 ) -> Answer
-    requires { ⌜ PlannedBeside (now image) (now index) mains book (theAsked q) at (now first) ⌝ }
+    requires { ⌜ PlannedBeside (now image) (now index) mains book (theAsked q) at (theRoute first) × (hopCount (theRoute first) ≡ first .hops) ⌝ }
     ensures { λ r. ⌜ OpensNew (now (image .entry)) mains (theAsked q) at (r .number) (r .length) (now (out .exit)) (now (index .exit)) ⌝ }
 {
     if q.second {

@@ -8,6 +8,9 @@ use native.Mathlib.Omega.{arith}
 use lib.ListN.{length, take, drop, set, replicate, length-set}
 use lib.Seq.{take-suc-set, drop-set-lt, drop-drop}
 use Rattle.rules.specs.Topology.{mostRouteHops}
+use Rattle.rules.specs.Records.{slotNumbers}
+use Rattle.rules.specs.declared.Slot.{Slot}
+use Rattle.rules.proofs.Records.{map-set}
 use Rattle.rules.proofs.Greedy.{Least, FirstPlaces, NoPlaces, none-from, none-behind, first-behind}
 use Rattle.placing.specs.Answers.{Answers}
 use Rattle.placing.specs.declared.Found.the-variants.{Placed, NoPlacing}
@@ -49,18 +52,20 @@ module _ (F : ℕ → ℕ → Type 0) (B n : ℕ) where
       ap (λ (k : ℕ). drop {A = ℕ} 1 (replicate k 0)) e
 
   -- the search for the hop h found its offset
-  pub chosen-more : (h lo o : ℕ) (offsets : List ℕ) → h < n → Chosen F B n h lo offsets → Least (F h) lo B o → Chosen F B n (h + 1) (o + 1) (set offsets h o)
+  pub chosen-more : (h lo o : ℕ) (offsets : List Slot) → h < n → Chosen F B n h lo (slotNumbers offsets) → Least (F h) lo B o
+      → Chosen F B n (h + 1) (o + 1) (slotNumbers (set offsets h (record { 0 = o })))
   chosen-more h lo o offsets l w s =
-      let inside : h < length offsets = omega (arith, w .size, w .few) in
+      let xs = slotNumbers offsets in
+      let inside : h < length xs = omega (arith, w .size, w .few) in
       let after : h < h + 1 = omega arith in
-      record {
+      subst (Chosen F B n (h + 1) (o + 1)) (sym (map-set (λ (x : Slot). x .0) offsets h (record { 0 = o }))) (record {
         few = w .few;
         most = omega arith;
-        size = length-set offsets h o ∙ w .size;
-        zeros = drop-set-lt (h + 1) offsets h o after ∙ sym (drop-drop 1 h offsets) ∙ ap (drop 1) (w .zeros) ∙ less h (omega (arith, w .few));
-        rest = subst (Rest F B n (h + 1) (o + 1)) (sym (ap (λ (k : ℕ). take k (set offsets h o)) (add-one h) ∙ take-suc-set offsets h o inside))
-            (rest-more F B n h lo o (take h offsets) s (w .rest));
-      }
+        size = length-set xs h o ∙ w .size;
+        zeros = drop-set-lt (h + 1) xs h o after ∙ sym (drop-drop 1 h xs) ∙ ap (drop 1) (w .zeros) ∙ less h (omega (arith, w .few));
+        rest = subst (Rest F B n (h + 1) (o + 1)) (sym (ap (λ (k : ℕ). take k (set xs h o)) (add-one h) ∙ take-suc-set xs h o inside))
+            (rest-more F B n h lo o (take h xs) s (w .rest));
+      })
 
   -- every hop has its offset
   pub chosen-all : (h lo : ℕ) (offsets : List ℕ) → n ≤ h → Chosen F B n h lo offsets → Answers F B n Placed offsets

@@ -1,17 +1,18 @@
 -- The search for an offset that is free for a hop.
-use mathlib.Core.Path.{_≡_, subst}
-use mathlib.Core.List.{List}
+use mathlib.Core.Path.{_≡_, sym, ap, _∙_, subst, subst₂}
 use Prim.Native.Nat.{ℕ, _+_, _*_, _<_, _≤_}
 use native.Mathlib.Omega.{arith}
 use native.Mathlib.Nat.{mul-le-mul}
 use native.Mathlib.Numerals.{add-one}
-use lib.ListN.{getD}
+use lib.ListN.{length, getD}
 use Rattle.rules.specs.Tiles.{Plan, PlanInRange, Period, cycleTiles}
-use Rattle.rules.specs.Topology.{Topology, Hop, hopCount}
+use Rattle.rules.specs.Topology.{Topology, nodes, Hop, mostRouteHops}
+use Rattle.rules.specs.Records.{theRoute}
+use Rattle.rules.specs.declared.Route.{Route}
 use Rattle.rules.proofs.Bytes.{period-small}
 use Rattle.rules.proofs.Greedy.{Least}
-use Rattle.rules.proofs.Lists.{at-in}
-use Rattle.clash.specs.Reach.{End, Clashes, Between, ReachOf}
+use Rattle.rules.proofs.Records.{node-at, nodeOf, node-holds}
+use Rattle.clash.specs.Reach.{End, hop, Clashes, Between, ReachOf}
 use Rattle.clash.specs.declared.Reach.{Reach}
 use Rattle.index.specs.Marks.{InReach}
 use Rattle.index.proofs.Meets.{reach-meets, meets-reach}
@@ -54,27 +55,26 @@ search-law hearing h reach plan a K lo end r w =
     clashing e x m = w e .only x m
 
 -- THE HOPS OF THE ROUTE
-module _ (plan : Plan) (hearing : Topology) (a : Around) (K : ℕ) (route : List ℕ) where
+module _ (plan : Plan) (hearing : Topology) (a : Around) (K : ℕ) (route : Route) where
   -- hop h, by the nodes that were read
   abbrev pub FreeHop : ℕ → ℕ → Type 0
-  FreeHop h = FreeBy (Clashes hearing (record { from = getD route h 0; to = getD route (h + 1) 0 })) plan a K
+  FreeHop h = FreeBy (Clashes hearing (hop (nodeOf route h) (nodeOf route (h + 1)))) plan a K
 
-  hop-searched : (h lo end : ℕ) (r : Next) → Searched (FreeHop h) lo end r → Searched (FreeAt plan hearing a K route h) lo end r
-  hop-searched h lo end r s =
-      subst (λ (i : ℕ). Searched (FreeBy (Clashes hearing (record { from = getD route h 0; to = getD route i 0 })) plan a K) lo end r) (add-one h) s
+  hop-searched : (h lo end : ℕ) (r : Next) → h < route .hops → Searched (FreeHop h) lo end r → Searched (FreeAt plan hearing a K (theRoute route) h) lo end r
+  hop-searched h lo end r l s =
+      subst₂ (λ (x y : ℕ). Searched (FreeBy (Clashes hearing (record { from = x; to = y })) plan a K) lo end r) (sym (node-at route h (omega arith)))
+      (sym (node-at route (h + 1) (omega arith)) ∙ ap (λ (i : ℕ). getD (theRoute route) i 0) (add-one h)) s
 
-  pub search-found : (h lo end o : ℕ) {r : Next} → r ≡ At o → Searched (FreeHop h) lo end r → Least (FreeAt plan hearing a K route h) lo end o
-  search-found h lo end o {r} e s = subst (Searched (FreeAt plan hearing a K route h) lo end) e (hop-searched h lo end r s)
+  pub search-found : (h lo end o : ℕ) {r : Next} → h < route .hops → r ≡ At o → Searched (FreeHop h) lo end r → Least (FreeAt plan hearing a K (theRoute route) h) lo end o
+  search-found h lo end o {r} l e s = subst (Searched (FreeAt plan hearing a K (theRoute route) h) lo end) e (hop-searched h lo end r l s)
 
-  pub search-failed : (h lo end : ℕ) {r : Next} → r ≡ Nowhere → Searched (FreeHop h) lo end r → (k : ℕ) → lo ≤ k → k < end → FreeAt plan hearing a K route h k → ⊥
-  search-failed h lo end {r} e s = subst (Searched (FreeAt plan hearing a K route h) lo end) e (hop-searched h lo end r s)
+  pub search-failed : (h lo end : ℕ) {r : Next} → h < route .hops → r ≡ Nowhere → Searched (FreeHop h) lo end r
+      → (k : ℕ) → lo ≤ k → k < end → FreeAt plan hearing a K (theRoute route) h k → ⊥
+  search-failed h lo end {r} l e s = subst (Searched (FreeAt plan hearing a K (theRoute route) h) lo end) e (hop-searched h lo end r l s)
 
 -- each is one between nodes of the topology
-pub asked-hop : {plan : Plan} {hearing : Topology} {route : List ℕ} {K : ℕ} → Asked plan hearing route K → (i : ℕ) → i < hopCount route
-    → Between hearing (record { from = getD route i 0; to = getD route (i + 1) 0 })
-asked-hop {route = route} w i l = record {
-  sound = w .sound;
-  most = w .most;
-  from = w .known _ (at-in route i (omega arith));
-  to = w .known _ (at-in route (i + 1) (omega arith));
-}
+pub asked-hop : {plan : Plan} {hearing : Topology} {K : ℕ} (route : Route) → Asked plan hearing (theRoute route) K → route .hops ≤ mostRouteHops
+    → length (route .nodes) ≡ mostRouteHops + 1 → (i : ℕ) → i < route .hops → Between hearing (hop (nodeOf route i) (nodeOf route (i + 1)))
+asked-hop {hearing = hearing} route w few n i l =
+    let known = node-holds (λ (a : ℕ). a < nodes hearing) route few n (w .known) in
+    record { sound = w .sound; most = w .most; from = known i (omega arith); to = known (i + 1) (omega arith) }

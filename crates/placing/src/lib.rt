@@ -1,8 +1,9 @@
 // The first placing of a route's hops beside the rows of an index, rows that it leaves out, and another route.
-ghost use Prim.Native.Nat.{_*_, _<_};
+ghost use Prim.Native.Nat.{_*_, _<_, _≤_};
 ghost use Rattle.rules.specs.Words.{Tests};
 ghost use Rattle.rules.specs.Tiles.{PlanInRange, Period};
-ghost use Rattle.rules.specs.Records.{thePlan};
+ghost use Rattle.rules.specs.Topology.{mostRouteHops};
+ghost use Rattle.rules.specs.Records.{thePlan, slotNumbers, theRoute, theOffsets};
 ghost use Rattle.bitset.specs.Rows.{topology};
 ghost use Rattle.clash.specs.Reach.{hop, Clashes, Between};
 ghost use Rattle.index.specs.Turns.{RepeatsOf};
@@ -14,7 +15,9 @@ pub mod marking;
 use clash::Reach;
 use index::Repeats;
 use rules::Node;
+use rules::Placed;
 use rules::Plan;
+use rules::Route;
 use rules::Slot;
 use rules::Tile;
 
@@ -27,7 +30,7 @@ pub enum Found {
 // The first placing: an offset for each hop, and zeros after them.
 pub struct Placing {
     pub found: Found,
-    pub offsets: [u16; 15],
+    pub offsets: [Slot; rules::ROUTE_HOPS],
 }
 
 // Where a search for an offset ends.
@@ -36,8 +39,7 @@ enum Next {
     Nowhere,
 }
 
-// Whether the offset takes only data slots, and meets no hop in reach: by the index, by the moduli of rows, and of the route
-// that has taken these offsets.
+// Whether the offset takes only data slots, and meets no hop in reach: by the index, by moduli of rows, or of the route beside.
 fn is_free(
     plan: Plan,
     period: Tile,
@@ -47,15 +49,14 @@ fn is_free(
     start: usize,
     rows: usize,
     moduli: &[u16; plain::ROWS],
-    first: &[u8],
-    taken: &[u16],
+    beside: Placed,
     reach: Reach,
     o: u16,
 ) -> bool
     requires { ⌜ PlanInRange (thePlan plan) × Period (period .0) × RepeatsOf (plan .slots .0) (period .0) repeats × (o < period .0 * plan .slots .0)
-        × Standing (around (now index) (now image) start rows (now moduli) (now first) (now taken)) ⌝ }
-    ensures { λ r. ⌜ Tests r (FreeBy (InReach reach) (thePlan plan) (around (now (index .entry)) (now (image .entry)) start rows (now (moduli .entry)) (now (first .entry)) (now (taken .entry)))
-        (period .0) o) ⌝ }
+        × Standing (around (now index) (now image) start rows (now moduli) (theRoute (beside .route)) (theOffsets beside)) × (beside .route .hops ≤ mostRouteHops) ⌝ }
+    ensures { λ r. ⌜ Tests r (FreeBy (InReach reach) (thePlan plan)
+        (around (now (index .entry)) (now (image .entry)) start rows (now (moduli .entry)) (theRoute (beside .route)) (theOffsets beside)) (period .0) o) ⌝ }
 {
     if index::finds(index, repeats, Slot(o), reach) {
         return false;
@@ -66,7 +67,7 @@ fn is_free(
     if plain::agrees(image, start, rows, moduli, reach, Slot(o)) {
         return false;
     }
-    !plain::route_meets(first, taken, reach, Slot(o))
+    !plain::route_meets(beside, reach, Slot(o))
 }
 
 // The least of those offsets from lo on.
@@ -79,15 +80,14 @@ fn next_free(
     start: usize,
     rows: usize,
     moduli: &[u16; plain::ROWS],
-    first: &[u8],
-    taken: &[u16],
+    beside: Placed,
     reach: Reach,
     lo: u16,
 ) -> Next
     requires { ⌜ PlanInRange (thePlan plan) × Period (period .0) × RepeatsOf (plan .slots .0) (period .0) repeats
-        × Standing (around (now index) (now image) start rows (now moduli) (now first) (now taken)) ⌝ }
-    ensures { λ r. ⌜ Searched (FreeBy (InReach reach) (thePlan plan) (around (now (index .entry)) (now (image .entry)) start rows (now (moduli .entry)) (now (first .entry)) (now (taken .entry)))
-        (period .0)) lo (period .0 * plan .slots .0) r ⌝ }
+        × Standing (around (now index) (now image) start rows (now moduli) (theRoute (beside .route)) (theOffsets beside)) × (beside .route .hops ≤ mostRouteHops) ⌝ }
+    ensures { λ r. ⌜ Searched (FreeBy (InReach reach) (thePlan plan)
+        (around (now (index .entry)) (now (image .entry)) start rows (now (moduli .entry)) (theRoute (beside .route)) (theOffsets beside)) (period .0)) lo (period .0 * plan .slots .0) r ⌝ }
 {
     let mut o = lo;
     while o < repeats.span.0 {
@@ -100,8 +100,7 @@ fn next_free(
             start,
             rows,
             moduli,
-            first,
-            taken,
+            beside,
             reach,
             o,
         ) {
@@ -125,14 +124,13 @@ fn next_offset(
     start: usize,
     rows: usize,
     moduli: &[u16; plain::ROWS],
-    first: &[u8],
-    taken: &[u16],
+    beside: Placed,
     lo: u16,
 ) -> Next
     requires { ⌜ PlanInRange (thePlan plan) × Period (period .0) × RepeatsOf (plan .slots .0) (period .0) repeats × Between (topology (now hearing)) (hop from to)
-        × Standing (around (now index) (now image) start rows (now moduli) (now first) (now taken)) ⌝ }
+        × Standing (around (now index) (now image) start rows (now moduli) (theRoute (beside .route)) (theOffsets beside)) × (beside .route .hops ≤ mostRouteHops) ⌝ }
     ensures { λ r. ⌜ Searched (FreeBy (Clashes (topology (now (hearing .entry))) (hop from to)) (thePlan plan)
-        (around (now (index .entry)) (now (image .entry)) start rows (now (moduli .entry)) (now (first .entry)) (now (taken .entry))) (period .0)) lo
+        (around (now (index .entry)) (now (image .entry)) start rows (now (moduli .entry)) (theRoute (beside .route)) (theOffsets beside)) (period .0)) lo
         (period .0 * plan .slots .0) r ⌝ }
 {
     let reach = clash::reach_of(hearing, from, to);
@@ -145,8 +143,7 @@ fn next_offset(
         start,
         rows,
         moduli,
-        first,
-        taken,
+        beside,
         reach,
         lo,
     )
@@ -156,28 +153,30 @@ fn next_offset(
 pub fn first_placing(
     plan: Plan,
     hearing: &[u64],
-    route: &[u8],
+    route: Route,
     period: Tile,
     index: &[u64; index::WORDS],
     image: &[u8],
     start: usize,
     rows: usize,
     moduli: &[u16; plain::ROWS],
-    first: &[u8],
-    taken: &[u16],
+    beside: Placed,
 ) -> Placing
-    requires { ⌜ Asked (thePlan plan) (topology (now hearing)) (now route) (period .0) × Standing (around (now index) (now image) start rows (now moduli) (now first) (now taken)) ⌝ }
+    requires { ⌜ Asked (thePlan plan) (topology (now hearing)) (theRoute route) (period .0) × (route .hops ≤ mostRouteHops)
+        × Standing (around (now index) (now image) start rows (now moduli) (theRoute (beside .route)) (theOffsets beside)) × (beside .route .hops ≤ mostRouteHops) ⌝ }
     ensures { λ r. ⌜ AnswersBy (thePlan plan) (topology (now (hearing .entry)))
-        (around (now (index .entry)) (now (image .entry)) start rows (now (moduli .entry)) (now (first .entry)) (now (taken .entry))) (period .0) (now (route .entry)) (r .found) (r .offsets) ⌝ }
+        (around (now (index .entry)) (now (image .entry)) start rows (now (moduli .entry)) (theRoute (beside .route)) (theOffsets beside))
+        (period .0) (theRoute route) (r .found) (slotNumbers (r .offsets)) ⌝ }
 {
-    let hops = route.len() - 1;
+    let hops = route.hops;
     let repeats = index::repeats_of(plan.slots, period);
-    let mut offsets = [0u16; 15];
+    let mut offsets = [Slot(0); rules::ROUTE_HOPS];
     let mut lo: u16 = 0;
     let mut h = 0;
     while h < hops {
-        let from = Node(route[h]);
-        let to = Node(route[h + 1]);
+        let nodes = route.nodes;
+        let from = nodes[h];
+        let to = nodes[h + 1];
         match next_offset(
             plan,
             hearing,
@@ -190,16 +189,15 @@ pub fn first_placing(
             start,
             rows,
             moduli,
-            first,
-            taken,
+            beside,
             lo,
         ) {
             Next::At(o) => {
-                offsets[h] = o;
+                offsets[h] = Slot(o);
                 lo = o + 1;
             }
             Next::Nowhere => {
-                let none = [0u16; 15];
+                let none = [Slot(0); rules::ROUTE_HOPS];
                 return Placing {
                     found: Found::NoPlacing,
                     offsets: none,

@@ -14,7 +14,9 @@ use Rattle.rules.specs.Tiles.{PlanInRange, Period, Meet}
 use Rattle.rules.specs.Topology.{hopAt}
 use Rattle.rules.specs.Book.{Site, Row, hops, rowHop, rowOffset, LawfulRow}
 use Rattle.rules.specs.Image.{planOf}
-use Rattle.rules.specs.declared.Node.{Node}
+use Rattle.rules.specs.Records.{theRoute}
+use Rattle.rules.specs.declared.{Node.Node, Placed.Placed}
+use Rattle.rules.proofs.Records.{node-at, nodeOf}
 use Rattle.rules.proofs.Tests.{alike, fails, said-no, tests-eq}
 use Rattle.rules.proofs.Meeting.{meet-rule}
 use Rattle.clash.specs.Reach.{End, nodeAt, hop}
@@ -35,13 +37,19 @@ by-receiver reach from to a e b = alike b (λ m. record { end = receiver; sought
     go receiver m = m
 
 -- a hop of a route, and one that was read of it
-pub route-reach : (reach : Reach) (route : List ℕ) (i : ℕ) {s : Bool} → Tests s (HasEnd (InReach reach) (record { from = getD route i 0; to = getD route (i + 1) 0 }))
+route-reach : (reach : Reach) (route : List ℕ) (i : ℕ) {s : Bool} → Tests s (HasEnd (InReach reach) (record { from = getD route i 0; to = getD route (i + 1) 0 }))
     → Tests s (HasEnd (InReach reach) (hopAt route i))
 route-reach reach route i {s} r = subst (λ (j : ℕ). Tests s (HasEnd (InReach reach) (record { from = getD route i 0; to = getD route j 0 }))) (add-one i) r
 
 pub reach-is : (reach : Reach) (from to : Node) (route : List ℕ) (i : ℕ) {s : Bool} → from .0 ≡ getD route i 0 → to .0 ≡ getD route (i + 1) 0
     → Tests s (HasEnd (InReach reach) (hop from to)) → Tests s (HasEnd (InReach reach) (hopAt route i))
 reach-is reach from to route i {s} a b r = route-reach reach route i (subst₂ (λ (x y : ℕ). Tests s (HasEnd (InReach reach) (record { from = x; to = y }))) a b r)
+
+pub placed-reach : (reach : Reach) (p : Placed) (i : ℕ) {s : Bool} → i < p .route .hops → Tests s (HasEnd (InReach reach) (hop (nodeOf (p .route) i) (nodeOf (p .route) (i + 1))))
+    → Tests s (HasEnd (InReach reach) (hopAt (theRoute (p .route)) i))
+placed-reach reach p i l r =
+    let route = p .route in
+    reach-is reach (nodeOf route i) (nodeOf route (i + 1)) (theRoute route) i (sym (node-at route i (omega arith))) (sym (node-at route (i + 1) (omega arith))) r
 
 -- ITS OFFSET
 module _ {C : End → ℕ → Type 0} where

@@ -2,18 +2,21 @@
 ghost use mathlib.Core.Path.{_≡_};
 ghost use mathlib.Core.Bool.{false};
 ghost use mathlib.Core.Logic.{_⊎_};
-ghost use Prim.Native.Nat.{ℕ, _-_, _<_, _≤_};
+ghost use Prim.Native.Nat.{ℕ, _<_, _≤_};
 ghost use lib.ListN.{length};
 ghost use Rattle.rules.specs.Words.{_∈_, Tests};
 ghost use Rattle.rules.specs.Tiles.{PlanInRange, Period, Gcd, shortTiles};
+ghost use Rattle.rules.specs.Topology.{mostRouteHops};
 ghost use Rattle.rules.specs.Book.{hops};
 ghost use Rattle.rules.specs.Image.{planOf};
+ghost use Rattle.rules.specs.Records.{theRoute, theOffsets};
 ghost use Rattle.clash.specs.Reach.{hop};
 ghost use Rattle.index.specs.Marks.{InReach};
 ghost use Rattle.image.specs.Places.{rowAt};
 ghost use Rattle.plain.specs.Plain.{LeftOut, Weighed, nthRow, RowThere, RowsThere, Weighs, HasEnd, AgreesHop, AgreesRow, Agrees, MeetsRouteHop, MeetsRoute};
 use clash::Reach;
 use rules::Node;
+use rules::Placed;
 use rules::Slot;
 use rules::Tile;
 
@@ -21,17 +24,17 @@ use rules::Tile;
 pub const ROWS: usize = 64;
 
 // The greatest common divisor, by Euclid's steps.
-pub fn divisor(a: u16, b: u16) -> u16
-    ensures { λ r. ⌜ Gcd a b r ⌝ }
+pub fn divisor(a: Tile, b: Tile) -> Tile
+    ensures { λ r. ⌜ Gcd (a .0) (b .0) (r .0) ⌝ }
 {
-    let mut x = a;
-    let mut y = b;
+    let mut x = a.0;
+    let mut y = b.0;
     while 0 < y {
         let rest = x % y;
         x = y;
         y = rest;
     }
-    x
+    Tile(x)
 }
 
 // Whether the index leaves one of two periods out.
@@ -52,7 +55,7 @@ pub fn modulus(slots: Slot, period: Tile, row: Tile) -> u16
     if !left_out(period, row) {
         return 0;
     }
-    divisor(period.0, row.0) * slots.0
+    divisor(period, row).0 * slots.0
 }
 
 // How many rows have to be looked at: up to this one where it has a modulus.
@@ -178,25 +181,29 @@ pub fn agrees(
     false
 }
 
-// Whether hop i of a route that has these offsets is in reach, and has this one.
-fn route_hop_meets(route: &[u8], offsets: &[u16], i: usize, reach: Reach, o: Slot) -> bool
-    requires { ⌜ (length (now offsets) ≤ length (now route) - 1) × ((a : ℕ) → a ∈ now route → a < 64) × (i < length (now offsets)) ⌝ }
-    ensures { λ r. ⌜ Tests r (MeetsRouteHop (InReach reach) (now (route .entry)) (now (offsets .entry)) (o .0) i) ⌝ }
+// Whether hop i of the route is in reach, and has this offset.
+fn route_hop_meets(beside: Placed, i: usize, reach: Reach, o: Slot) -> bool
+    requires { ⌜ (beside .route .hops ≤ mostRouteHops) × ((a : ℕ) → a ∈ theRoute (beside .route) → a < 64) × (i < beside .route .hops) ⌝ }
+    ensures { λ r. ⌜ Tests r (MeetsRouteHop (InReach reach) (theRoute (beside .route)) (theOffsets beside) (o .0) i) ⌝ }
 {
-    if offsets[i] != o.0 {
+    let offsets = beside.offsets;
+    if offsets[i].0 != o.0 {
         return false;
     }
-    in_reach(reach, Node(route[i]), Node(route[i + 1]))
+    let route = beside.route;
+    let nodes = route.nodes;
+    in_reach(reach, nodes[i], nodes[i + 1])
 }
 
 // Whether some hop of the route is: with one period for both, hops meet exactly where they have one offset.
-pub fn route_meets(route: &[u8], offsets: &[u16], reach: Reach, o: Slot) -> bool
-    requires { ⌜ (length (now offsets) ≤ length (now route) - 1) × ((a : ℕ) → a ∈ now route → a < 64) ⌝ }
-    ensures { λ r. ⌜ Tests r (MeetsRoute (InReach reach) (now (route .entry)) (now (offsets .entry)) (o .0)) ⌝ }
+pub fn route_meets(beside: Placed, reach: Reach, o: Slot) -> bool
+    requires { ⌜ (beside .route .hops ≤ mostRouteHops) × ((a : ℕ) → a ∈ theRoute (beside .route) → a < 64) ⌝ }
+    ensures { λ r. ⌜ Tests r (MeetsRoute (InReach reach) (theRoute (beside .route)) (theOffsets beside) (o .0)) ⌝ }
 {
+    let hops = beside.route.hops;
     let mut i = 0;
-    while i < offsets.len() {
-        if route_hop_meets(route, offsets, i, reach, o) {
+    while i < hops {
+        if route_hop_meets(beside, i, reach, o) {
             return true;
         }
         i += 1;

@@ -112,9 +112,9 @@ removing-none all route h = record {
   out = record { fits = h; only = λ k m. (m, λ n. n); all = λ k p. p .0 };
 }
 
-pub removing-more : {all : ℕ} {route : List ℕ} {i left less : ℕ} → i + 1 < length route → Removing all route i left
-    → SetOf (λ (k : ℕ). Has left k × (k ≡ getD route i 0 → ⊥)) less → Removing all route (i + 1) less
-removing-more {all} {route} {i} {left} {less} l g s = record {
+pub removing-more : {all : ℕ} {route : List ℕ} {i node left less : ℕ} → i + 1 < length route → getD route i 0 ≡ node → Removing all route i left
+    → SetOf (λ (k : ℕ). Has left k × (k ≡ node → ⊥)) less → Removing all route (i + 1) less
+removing-more {all} {route} {i} {node} {left} {less} l at g s = record {
   begun = omega arith;
   place = omega arith;
   out = rw e record {
@@ -124,9 +124,6 @@ removing-more {all} {route} {i} {left} {less} l g s = record {
   };
 }
   where
-    node : ℕ
-    node = getD route i 0
-
     front : List ℕ
     front = take (i - 1) (drop 1 route)
 
@@ -135,7 +132,7 @@ removing-more {all} {route} {i} {left} {less} l g s = record {
         let n : i + 1 - 1 ≡ suc (i - 1) = omega (arith, g .begun) in
         let m : 1 + (i - 1) ≡ i = omega (arith, g .begun) in
         ap (λ (n : ℕ). take n (drop 1 route)) n ∙ take-suc (drop 1 route) (i - 1) 0 (omega (arith, length-drop 1 route, g .begun))
-        ∙ ap (λ (x : ℕ). front ++ (x ∷ [])) (getD-drop 1 route (i - 1) 0 ∙ ap (λ (n : ℕ). getD route n 0) m)
+        ∙ ap (λ (x : ℕ). front ++ (x ∷ [])) (getD-drop 1 route (i - 1) 0 ∙ ap (λ (n : ℕ). getD route n 0) m ∙ at)
 
     last : (k : ℕ) → (k ≡ node → ⊥) → k ∈ (node ∷ []) → ⊥
     last k f (inl o) = f o

@@ -3,13 +3,15 @@ use mathlib.Core.Path.{_≡_, sym, _∙_, subst}
 use mathlib.Core.Logic.{_⊎_, inl, inr}
 use mathlib.Core.Bool.{true, false}
 use mathlib.Core.List.{List}
-use Prim.Native.Nat.{ℕ, _+_, _<_, _≤_}
+use Prim.Native.Nat.{ℕ, _<_, _≤_}
 use native.Mathlib.Omega.{arith}
 use lib.ListN.{length, take}
-use lib.Seq.{length-take-le}
 use Rattle.rules.specs.Words.{_∈_}
 use Rattle.rules.specs.Topology.{mostShortHops, Route, SecondPath}
+use Rattle.rules.specs.Records.{theRoute}
+use Rattle.rules.specs.declared.Route as held
 use Rattle.rules.proofs.Tests.{never}
+use Rattle.rules.proofs.Records.{route-length}
 use Rattle.rules.proofs.Seconds.{Without, without-sound, second-found, second-far, second-too-far, second-none}
 use Rattle.bitset.specs.Rows.{topology}
 use Rattle.routes.specs.declared.Reach.{Reach}
@@ -54,34 +56,34 @@ none-short hops (inr e) = subst (λ (c : Reach). NoShort c hops) (sym e) tt
 
 module _ {links rows first : List ℕ} {middle rest source destination : ℕ} (route : Route (topology links) middle source destination first)
     (cut : LinkCut links source destination rows) (w : Without middle first rest) where
-  no-second : (c : Reach) (hops : ℕ) (chosen : List ℕ) → Says (topology (take (length links) rows)) rest source destination c hops chosen → NoShort c hops
+  no-second : (c : Reach) (r : held.Route) → Says (topology (take (length links) rows)) rest source destination c r → NoShort c (r .hops)
       → (q : List ℕ) → SecondPath (topology links) middle source destination first q → ⊥
-  no-second Found hops chosen s l =
-      second-far route (cut .cut) w (take (hops + 1) chosen) (s .route) (omega (arith, length-take-le (hops + 1) chosen (omega (arith, s .size, s .most))))
-  no-second TooFar hops chosen s l = second-too-far route (cut .cut) w (s .0)
-  no-second NoRoute hops chosen s l = second-none route (cut .cut) w (s .0)
+  no-second Found r s l = second-far route (cut .cut) w (theRoute r) (s .route) (omega (arith, route-length r (s .most) (s .size)))
+  no-second TooFar r s l = second-too-far route (cut .cut) w (s .0)
+  no-second NoRoute r s l = second-none route (cut .cut) w (s .0)
 
-  pub says-no-second : (p : Planned) {r : Sought} → PlannerSays (topology (take (length links) rows)) rest source destination p → NoShort (p .reach) (p .hops)
-      → (r .found ≡ false) × Empty (r .hops) (r .nodes) → SecondSays (topology links) middle source destination first r
+  pub says-no-second : (p : Planned) {r : Sought} → PlannerSays (topology (take (length links) rows)) rest source destination p
+      → NoShort (p .reach) (p .route .hops)
+      → (r .found ≡ false) × Empty (r .route) → SecondSays (topology links) middle source destination first r
   says-no-second p s l z = record {
     found = λ e. never (sym (z .0) ∙ e);
-    not-found = λ e. record { none = no-second (p .reach) (p .hops) (p .nodes) s l; zeros = z .1 };
+    not-found = λ e. record { none = no-second (p .reach) (p .route) s l; zeros = z .1 };
   }
 
-  pub says-second : (p : Planned) → PlannerSays (topology (take (length links) rows)) rest source destination p → p .reach ≡ Found → p .hops ≤ mostShortHops
-      → SecondSays (topology links) middle source destination first (record { found = true; hops = p .hops; nodes = p .nodes })
+  pub says-second : (p : Planned) → PlannerSays (topology (take (length links) rows)) rest source destination p → p .reach ≡ Found
+      → p .route .hops ≤ mostShortHops
+      → SecondSays (topology links) middle source destination first (record { found = true; route = p .route })
   says-second p s e l = record {
     found = λ f.
         record {
           some = t .some;
           most = l;
           size = t .size;
-          route = second-found route (cut .cut) w (take (p .hops + 1) (p .nodes)) (t .route)
-              (omega (arith, length-take-le (p .hops + 1) (p .nodes) (omega (arith, t .size, t .most))));
+          route = second-found route (cut .cut) w (theRoute (p .route)) (t .route) (omega (arith, route-length (p .route) (t .most) (t .size)));
           after = t .after;
         };
     not-found = λ f. never (sym f);
   }
     where
-      t : SaysRoute (topology (take (length links) rows)) rest source destination (p .hops) (p .nodes)
-      t = subst (λ (c : Reach). Says (topology (take (length links) rows)) rest source destination c (p .hops) (p .nodes)) e s
+      t : SaysRoute (topology (take (length links) rows)) rest source destination (p .route)
+      t = subst (λ (c : Reach). Says (topology (take (length links) rows)) rest source destination c (p .route)) e s

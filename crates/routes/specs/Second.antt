@@ -2,9 +2,11 @@
 use mathlib.Core.Path.{_≡_}
 use mathlib.Core.Bool.{true, false}
 use mathlib.Core.List.{List}
-use Prim.Native.Nat.{ℕ, _+_, _<_, _≤_}
+use Prim.Native.Nat.{ℕ, _<_, _≤_}
 use lib.ListN.{length, getD, take}
 use Rattle.rules.specs.Topology.{Topology, mostShortHops, SecondPath, SecondRoute}
+use Rattle.rules.specs.Records.{nodeNumbers, theRoute}
+use Rattle.rules.specs.declared.Route.{Route}
 use Rattle.rules.proofs.Seconds.{WithoutLink}
 use Rattle.bitset.specs.Rows.{topology}
 use Rattle.routes.specs.declared.second.Sought.{Sought}
@@ -24,20 +26,20 @@ pub record LinkCut (links : List ℕ) (a b : ℕ) (rows : List ℕ) : Type 0 whe
   pub size : length rows ≡ mostNodes
   pub cut : WithoutLink (topology links) a b (topology (take (length links) rows))
 
--- the first hops + 1 nodes are the second route, and 0 stands after them
-pub record SaysSecond (T : Topology) (middle source destination : ℕ) (first : List ℕ) (hops : ℕ) (chosen : List ℕ) : Type 0 where
-  pub some : 1 ≤ hops
-  pub most : hops ≤ mostShortHops
-  pub size : length chosen ≡ routePlaces
-  pub route : SecondRoute T middle source destination first (take (hops + 1) chosen)
-  pub after : (i : ℕ) → hops < i → getD chosen i 0 ≡ 0
+-- it is the second route, and node 0 stands after it
+pub record SaysSecond (T : Topology) (middle source destination : ℕ) (first : List ℕ) (r : Route) : Type 0 where
+  pub some : 1 ≤ r .hops
+  pub most : r .hops ≤ mostShortHops
+  pub size : length (r .nodes) ≡ routePlaces
+  pub route : SecondRoute T middle source destination first (theRoute r)
+  pub after : (i : ℕ) → r .hops < i → getD (nodeNumbers (r .nodes)) i 0 ≡ 0
 
 -- there is no second route: all is 0
-pub record SaysNone (T : Topology) (middle source destination : ℕ) (first : List ℕ) (hops : ℕ) (chosen : List ℕ) : Type 0 where
+pub record SaysNone (T : Topology) (middle source destination : ℕ) (first : List ℕ) (r : Route) : Type 0 where
   pub none : (p : List ℕ) → SecondPath T middle source destination first p → ⊥
-  pub zeros : Empty hops chosen
+  pub zeros : Empty r
 
 -- the answer
 pub record SecondSays (T : Topology) (middle source destination : ℕ) (first : List ℕ) (r : Sought) : Type 0 where
-  pub found : r .found ≡ true → SaysSecond T middle source destination first (r .hops) (r .nodes)
-  pub not-found : r .found ≡ false → SaysNone T middle source destination first (r .hops) (r .nodes)
+  pub found : r .found ≡ true → SaysSecond T middle source destination first (r .route)
+  pub not-found : r .found ≡ false → SaysNone T middle source destination first (r .route)

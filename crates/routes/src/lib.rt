@@ -4,12 +4,14 @@ ghost use Prim.Native.Nat.{ℕ, _<_};
 ghost use lib.ListN.{length};
 ghost use Rattle.rules.specs.Words.{Has};
 ghost use Rattle.rules.specs.Topology.{mostRouteHops};
+ghost use Rattle.rules.specs.Records.{nodeNumbers};
 ghost use Rattle.bitset.specs.Sets.{SetOf};
 ghost use Rattle.bitset.specs.Rows.{topology};
 ghost use Rattle.routes.specs.Planner.{Asked, Empty, PlannerSays};
 ghost use Rattle.routes.specs.Levels.{Neighbour, Searched, SomeFront, Meets, ReachedBySome, Descends};
 use rules::Node;
 use rules::ROUTE_HOPS;
+use rules::Route;
 
 pub mod second;
 
@@ -20,11 +22,10 @@ pub enum Reach {
     NoRoute,
 }
 
-// The planner's answer: the route is the first hops + 1 nodes, and 0 stands after them.
+// The planner's answer: with no route of at most 15 hops, the route has no hops and only node 0.
 pub struct Planned {
     pub reach: Reach,
-    pub hops: usize,
-    pub nodes: [u8; ROUTE_HOPS + 1],
+    pub route: Route,
 }
 
 // Where the search met the source: at so many hops, at more than 15, or nowhere.
@@ -108,30 +109,32 @@ fn descend(
     source: usize,
     destination: usize,
     hops: usize,
-) -> [u8; ROUTE_HOPS + 1]
+) -> [Node; ROUTE_HOPS + 1]
     requires { ⌜ Asked (topology (now links)) source destination × ReachedBySome (topology (now links)) source destination hops (now sets) ⌝ }
-    ensures { λ r. ⌜ Descends (topology (now (links .entry))) source destination hops (now (sets .entry)) r ⌝ }
+    ensures { λ r. ⌜ Descends (topology (now (links .entry))) source destination hops (now (sets .entry)) (nodeNumbers r) ⌝ }
 {
-    let mut nodes = [0u8; ROUTE_HOPS + 1];
-    nodes[0] = source as u8;
+    let mut nodes = [Node(0); ROUTE_HOPS + 1];
+    nodes[0] = Node(source as u8);
     let mut node = source;
     let mut left = hops;
     while node != destination {
         left -= 1;
         node = bitset::lowest(bitset::intersection(links[node], sets[left]));
-        nodes[hops - left] = node as u8;
+        nodes[hops - left] = Node(node as u8);
     }
     nodes
 }
 
 // No route, for this reason.
 fn no_route(reach: Reach) -> Planned
-    ensures { λ r. ⌜ (r .reach ≡ reach) × Empty (r .hops) (r .nodes) ⌝ }
+    ensures { λ r. ⌜ (r .reach ≡ reach) × Empty (r .route) ⌝ }
 {
     Planned {
         reach,
-        hops: 0,
-        nodes: [0u8; ROUTE_HOPS + 1],
+        route: Route {
+            hops: 0,
+            nodes: [Node(0); ROUTE_HOPS + 1],
+        },
     }
 }
 
@@ -149,8 +152,7 @@ pub fn plan(links: &[u64], middle: u64, source: Node, destination: Node) -> Plan
             let nodes = descend(links, &sets, from, to, hops);
             Planned {
                 reach: Reach::Found,
-                hops,
-                nodes,
+                route: Route { hops, nodes },
             }
         }
         Outcome::Farther => no_route(Reach::TooFar),

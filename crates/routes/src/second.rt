@@ -4,7 +4,9 @@ ghost use mathlib.Core.Bool.{false};
 ghost use Prim.Native.Nat.{ℕ, _<_, _≤_};
 ghost use lib.ListN.{length};
 ghost use Rattle.rules.specs.Words.{_∈_};
-ghost use Rattle.rules.specs.Topology.{Route};
+ghost use Rattle.rules.specs.Topology.{mostRouteHops};
+ghost use Rattle.rules.specs.Topology as topologies;
+ghost use Rattle.rules.specs.Records.{theRoute};
 ghost use Rattle.rules.proofs.Seconds.{Without};
 ghost use Rattle.bitset.specs.Rows.{topology};
 ghost use Rattle.routes.specs.Planner.{Asked, Empty};
@@ -12,16 +14,16 @@ ghost use Rattle.routes.specs.Second.{mostNodes, Copied, LinkCut, Second
 use crate::Reach;
 use rules::Node;
 use rules::ROUTE_HOPS;
+use rules::Route;
 use rules::SHORT_HOPS;
 
 // The most nodes that a site has.
 const NODES: usize = 64;
 
-// The answer: the second route is the first hops + 1 nodes, and 0 stands after them; or none was found, and all is 0.
+// The answer: the second route; or none was found, and the route has no hops and only node 0.
 pub struct Sought {
     pub found: bool,
-    pub hops: usize,
-    pub nodes: [u8; ROUTE_HOPS + 1],
+    pub route: Route,
 }
 
 // The rows of a site, and zeros after them.
@@ -50,14 +52,15 @@ fn without_link(links: &[u64], a: usize, b: usize) -> [u64; NODES]
 }
 
 // The set without the middle nodes of a route.
-fn without_middles(set: u64, route: &[u8]) -> u64
-    requires { ⌜ ((a : ℕ) → a ∈ now route → a < mostNodes) ⌝ }
-    ensures { λ r. ⌜ Without set (now (route .entry)) r ⌝ }
+fn without_middles(set: u64, route: Route) -> u64
+    requires { ⌜ (route .hops ≤ mostRouteHops) × ((a : ℕ) → a ∈ theRoute route → a < mostNodes) ⌝ }
+    ensures { λ r. ⌜ Without set (theRoute route) r ⌝ }
 {
+    let nodes = route.nodes;
     let mut left = set;
     let mut i = 1;
-    while i + 1 < route.len() {
-        left = bitset::remove(left, route[i] as usize);
+    while i < route.hops {
+        left = bitset::remove(left, nodes[i].0 as usize);
         i += 1;
     }
     left
@@ -65,35 +68,33 @@ fn without_middles(set: u64, route: &[u8]) -> u64
 
 // None was found.
 fn none() -> Sought
-    ensures { λ r. ⌜ (r .found ≡ false) × Empty (r .hops) (r .nodes) ⌝ }
+    ensures { λ r. ⌜ (r .found ≡ false) × Empty (r .route) ⌝ }
 {
     Sought {
         found: false,
-        hops: 0,
-        nodes: [0u8; ROUTE_HOPS + 1],
+        route: Route {
+            hops: 0,
+            nodes: [Node(0); ROUTE_HOPS + 1],
+        },
     }
 }
 
 // The second route beside the first, the planner's, with only members of the set in the middle.
-pub fn second(links: &[u64], middle: u64, source: Node, destination: Node, first: &[u8]) -> Sought
-    requires { ⌜ Asked (topology (now links)) (source .0) (destination .0) × Route (topology (now links)) middle (source .0) (destination .0) (now first) ⌝ }
-    ensures { λ r. ⌜ SecondSays (topology (now (links .entry))) middle (source .0) (destination .0) (now (first .entry)) r ⌝ }
+pub fn second(links: &[u64], middle: u64, source: Node, destination: Node, first: Route) -> Sought
+    requires { ⌜ Asked (topology (now links)) (source .0) (destination .0)
+        × topologies.Route (topology (now links)) middle (source .0) (destination .0) (theRoute first) × (first .hops ≤ mostRouteHops) ⌝ }
+    ensures { λ r. ⌜ SecondSays (topology (now (links .entry))) middle (source .0) (destination .0) (theRoute first) r ⌝ }
 {
     let rows = without_link(links, source.0 as usize, destination.0 as usize);
     let rest = without_middles(middle, first);
     let planned = crate::plan(&rows[..links.len()], rest, source, destination);
     let reach = planned.reach;
-    let hops = planned.hops;
-    let nodes = planned.nodes;
-    if SHORT_HOPS < hops {
+    let route = planned.route;
+    if SHORT_HOPS < route.hops {
         return none();
     }
     match reach {
-        Reach::Found => Sought {
-            found: true,
-            hops,
-            nodes,
-        },
+        Reach::Found => Sought { found: true, route },
         Reach::TooFar => none(),
         Reach::NoRoute => none(),
     }

@@ -1,5 +1,6 @@
 pub mod Tests
 pub mod Lists
+pub mod Records
 pub mod Sets
 pub mod Index
 pub mod Middles

@@ -1,21 +1,24 @@
 -- Hop by hop, what is read of a row is its front.
 use mathlib.Core.Path.{_≡_, refl, sym, ap, ap₂, _∙_, subst, subst₂}
 use mathlib.Core.Logic.{_⊎_, ⊎-elim}
-use mathlib.Core.List.{List, [], _∷_, _++_}
+use mathlib.Core.List.{List, [], _∷_, _++_, map}
 use Prim.Native.Nat.{ℕ, suc, _+_, _*_, _/_, _%_, _-_, _<_, _≤_}
 use native.Mathlib.Nat.{add-mul-div-right, add-mul-mod-self-right, div-eq-of-lt, mod-eq-of-lt, div-add-mod', mod-lt, div-lt-iff-lt-mul, mul-le-mul, le-refl}
 use native.Mathlib.Numerals.{add-one}
 use native.Mathlib.Omega.{arith}
-use lib.ListN.{length, getD, set, take}
+use lib.ListN.{length, getD, set, take, length-map}
 use lib.Seq.{take-suc, take-suc-set, take-all}
 use Rattle.rules.specs.Tiles.{shortTiles}
 use Rattle.rules.specs.Book.{Row, hops, rowOffset}
 use Rattle.rules.specs.Table.{onWay}
 use Rattle.rules.specs.Tables.{operationAt}
+use Rattle.rules.specs.Records.{nodeNumbers, slotNumbers, theRoute, theOffsets}
+use Rattle.rules.specs.declared.{Node.Node, Slot.Slot, Placed.Placed}
+use Rattle.rules.proofs.Records.{map-set}
 use Rattle.rules.proofs.Seen.{Has, Next, lawful, wide, period-read, offset-inside, node-known, receives-there, receiver-is, forward-read}
 use Rattle.rules.proofs.Alike.{way-and-operation}
 use Rattle.entries.specs.Entries.{Receives, Receiver}
-use Rattle.tracing.specs.Rows.{RowFrom, PeriodRead, RouteRead}
+use Rattle.tracing.specs.Rows.{RowFrom, PeriodRead, RouteRead, Traced}
 
 -- the node and the slot of an entry
 pub node-of : (L v o : ℕ) → o < L → (v * L + o) / L ≡ v
@@ -29,17 +32,19 @@ slot-of L v o l =
     ap (λ (x : ℕ). x % L) e ∙ add-mul-mod-self-right o v L ∙ mod-eq-of-lt l
 
 -- one more behind the same front
-front-more : (l m : List ℕ) (h v : ℕ) → h < length l → h < length m → take h l ≡ take h m → v ≡ getD m h 0 → take (h + 1) (set l h v) ≡ take (h + 1) m
-front-more l m h v j k e f =
-    ap (λ (n : ℕ). take n (set l h v)) (add-one h) ∙ take-suc-set l h v j ∙ ap₂ (λ (xs : List ℕ) (x : ℕ). xs ++ (x ∷ [])) e f ∙ sym (take-suc m h 0 k)
-    ∙ ap (λ (n : ℕ). take n m) (sym (add-one h))
+front-more : {A : Type 0} (number : A → ℕ) (l : List A) (m : List ℕ) (h : ℕ) (v : A) → h < length l → h < length m → take h (map number l) ≡ take h m → number v ≡ getD m h 0
+    → take (h + 1) (map number (set l h v)) ≡ take (h + 1) m
+front-more number l m h v j k e f =
+    let long = length-map l number in
+    ap (take (h + 1)) (map-set number l h v) ∙ ap (λ (n : ℕ). take n (set (map number l) h (number v))) (add-one h) ∙ take-suc-set (map number l) h (number v) (omega arith)
+    ∙ ap₂ (λ (xs : List ℕ) (x : ℕ). xs ++ (x ∷ [])) e f ∙ sym (take-suc m h 0 k) ∙ ap (λ (n : ℕ). take n m) (sym (add-one h))
 
 -- so far the front of the row was read, and its next hop starts in the entry
-pub record Along (h at L : ℕ) (route offsets : List ℕ) (r : Row) : Type 0 where
+pub record Along (h at L : ℕ) (nodes : List Node) (offsets : List Slot) (r : Row) : Type 0 where
   pub more : h < hops r
   pub at-is : at ≡ getD (r .route) h 0 * L + rowOffset r h
-  pub route-is : take (h + 1) route ≡ take (h + 1) (r .route)
-  pub offsets-are : take h offsets ≡ take h (r .offsets)
+  pub route-is : take (h + 1) (nodeNumbers nodes) ≡ take (h + 1) (r .route)
+  pub offsets-are : take h (slotNumbers offsets) ≡ take h (r .offsets)
 
 -- and of the node that receives in the hop: it is the row's next, and what it receives for tells whether it is the last
 pub record Heard (tables : List ℕ) (h at node L way : ℕ) (r : Row) : Type 0 where
@@ -52,18 +57,18 @@ module _ {tables : List ℕ} {n L start way id : ℕ} {r : Row} (f : RowFrom tab
   nodes-long : length (r .route) ≡ hops r + 1
   nodes-long = omega (arith, lawful (f .seen) .route .some)
 
-  pub along-first : (route offsets : List ℕ) → 0 < length route → Along 0 start L (set route 0 (start / L)) offsets r
-  along-first route offsets l =
+  pub along-first : (rest : List Node) (offsets : List Slot) → Along 0 start L (record { 0 = start / L } ∷ rest) offsets r
+  along-first rest offsets =
       let some = lawful (f .seen) .route .some in
       record {
         more = some;
         at-is = f .start-is;
-        route-is = front-more route (r .route) 0 (start / L) l (omega (arith, nodes-long)) refl
+        route-is = front-more (λ (n : Node). n .0) (record { 0 = 0 } ∷ rest) (r .route) 0 (record { 0 = start / L }) (omega arith) (omega (arith, nodes-long)) refl
             (ap (λ (x : ℕ). x / L) (f .start-is) ∙ node-of L (getD (r .route) 0 0) (rowOffset r 0) (offset-inside (f .seen) 0 some));
         offsets-are = refl;
       }
 
-  module _ {h at : ℕ} {route offsets : List ℕ} (a : Along h at L route offsets r) where
+  module _ {h at : ℕ} {nodes : List Node} {offsets : List Slot} (a : Along h at L nodes offsets r) where
     slot : at % L ≡ rowOffset r h
     slot = ap (λ (x : ℕ). x % L) (a .at-is) ∙ slot-of L (getD (r .route) h 0) (rowOffset r h) (offset-inside (f .seen) h (a .more))
 
@@ -102,22 +107,25 @@ module _ {tables : List ℕ} {n L start way id : ℕ} {r : Row} (f : RowFrom tab
     pub out-of-hops : 15 ≤ h → ⊥
     out-of-hops l = omega (arith, a .more, lawful (f .seen) .route-most)
 
-    module _ {node : ℕ} (d : Heard tables h at node L way r) (long : length route ≡ 16) (wide : length offsets ≡ 15) where
+    module _ {node : ℕ} (d : Heard tables h at node L way r) (long : length nodes ≡ 16) (wide : length offsets ≡ 15) where
       hops-few : hops r ≤ 15
       hops-few = lawful (f .seen) .route-most
 
-      route-more : take (h + 1 + 1) (set route (h + 1) node) ≡ take (h + 1 + 1) (r .route)
+      route-more : take (h + 1 + 1) (nodeNumbers (set nodes (h + 1) (record { 0 = node }))) ≡ take (h + 1 + 1) (r .route)
       route-more =
           let l = a .more in
-          front-more route (r .route) (h + 1) node (omega (arith, hops-few)) (omega (arith, nodes-long)) (a .route-is) (d .node-is ∙ ap (λ (i : ℕ). getD (r .route) i 0) (sym (add-one h)))
+          front-more (λ (n : Node). n .0) nodes (r .route) (h + 1) (record { 0 = node }) (omega (arith, hops-few)) (omega (arith, nodes-long)) (a .route-is)
+          (d .node-is ∙ ap (λ (i : ℕ). getD (r .route) i 0) (sym (add-one h)))
 
-      offsets-more : take (h + 1) (set offsets h (at % L)) ≡ take (h + 1) (r .offsets)
+      offsets-more : take (h + 1) (slotNumbers (set offsets h (record { 0 = at % L }))) ≡ take (h + 1) (r .offsets)
       offsets-more =
           let l = a .more in
-          front-more offsets (r .offsets) h (at % L) (omega (arith, hops-few)) (omega (arith, lawful (f .seen) .offsets .count)) (a .offsets-are) (d .slot-is)
+          front-more (λ (s : Slot). s .0) offsets (r .offsets) h (record { 0 = at % L }) (omega (arith, hops-few)) (omega (arith, lawful (f .seen) .offsets .count)) (a .offsets-are) (d .slot-is)
 
       -- the last hop
-      pub read-last : operationAt tables (node * L + at % L) ≡ onWay way 4 → RouteRead (set route (h + 1) node) (set offsets h (at % L)) (h + 1) r
+      pub read-last : operationAt tables (node * L + at % L) ≡ onWay way 4
+          → RouteRead (record { route = record { hops = h + 1; nodes = set nodes (h + 1) (record { 0 = node }) }; offsets = set offsets h (record { 0 = at % L }) }) r
+      unfolding theRoute theOffsets
       read-last e =
           let z = d .last e in
           record {
@@ -143,13 +151,18 @@ module _ {tables : List ℕ} {n L start way id : ℕ} {r : Row} (f : RowFrom tab
           omega (arith, forwards-next z e g t, offset-inside (f .seen) (suc h) (d .on z))
 
       pub along-more : {next end forward : ℕ} → (operationAt tables (node * L + at % L) ≡ onWay way 4 → ⊥) → end ≡ (node + 1) * L → forward ≡ onWay way 3
-          → Next tables (node * L + at % L + 1) end forward id next → Along (h + 1) next L (set route (h + 1) node) (set offsets h (at % L)) r
+          → Next tables (node * L + at % L + 1) end forward id next → Along (h + 1) next L (set nodes (h + 1) (record { 0 = node })) (set offsets h (record { 0 = at % L })) r
       along-more z e g t = record {
         more = omega (arith, d .on z);
         at-is = forwards-next z e g t ∙ ap₂ (λ (v i : ℕ). v * L + rowOffset r i) (d .node-is) (sym (add-one h)) ∙ ap (λ (i : ℕ). getD (r .route) i 0 * L + rowOffset r (h + 1)) (sym (add-one h));
         route-is = route-more;
         offsets-are = offsets-more;
       }
+
+-- it leads nowhere, and there is no such row
+pub traced-none : {tables : List ℕ} {n L start way id : ℕ} {p : Placed} → (p .route .hops ≡ 0) × (length (p .route .nodes) ≡ 16) × (length (p .offsets) ≡ 15)
+    → ((r : Row) → RowFrom tables n L start way id r → ⊥) → Traced tables n L start way id p
+traced-none e f = record { short = omega (arith, e .0); nodes-hold = e .1; hops-hold = e .2; read = λ r g. absurd (f r g) }
 
 -- a node's entry in a slot is in its table, and that is inside the tables
 pub record Within (n L node slot : ℕ) : Type 0 where

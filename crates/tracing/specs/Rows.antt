@@ -2,10 +2,12 @@
 use mathlib.Core.Path.{_≡_}
 use mathlib.Core.List.{List}
 use Prim.Native.Nat.{ℕ, _+_, _*_, _≤_}
-use lib.ListN.{length, getD, take}
+use lib.ListN.{length, getD}
 use Rattle.rules.specs.Tiles.{shortTiles}
 use Rattle.rules.specs.Topology.{mostRouteHops}
 use Rattle.rules.specs.Book.{Row, hops, rowOffset}
+use Rattle.rules.specs.Records.{theRoute, theOffsets}
+use Rattle.rules.specs.declared.{Placed.Placed}
 use Rattle.rules.proofs.Seen.{Seen}
 
 -- a row of the id and the way of a book that the tables, of n nodes with so many slots each, show; its source sends first in the entry
@@ -21,13 +23,13 @@ pub record PeriodRead (tables : List ℕ) (slots start way id period : ℕ) : Ty
   pub read : (n : ℕ) (r : Row) → RowFrom tables n slots start way id r → period ≡ r .period
 
 -- its hops, its route and its offsets
-pub record RouteRead (route offsets : List ℕ) (h : ℕ) (r : Row) : Type 0 where
-  pub hops-are : h ≡ hops r
-  pub route-is : take (h + 1) route ≡ r .route
-  pub offsets-are : take h offsets ≡ r .offsets
+pub record RouteRead (p : Placed) (r : Row) : Type 0 where
+  pub hops-are : p .route .hops ≡ hops r
+  pub route-is : theRoute (p .route) ≡ r .route
+  pub offsets-are : theOffsets p ≡ r .offsets
 
-pub record Traced (tables : List ℕ) (n slots start way id : ℕ) (route offsets : List ℕ) (h : ℕ) : Type 0 where
-  pub short : h ≤ mostRouteHops
-  pub nodes-hold : length route ≡ 16
-  pub hops-hold : length offsets ≡ 15
-  pub read : (r : Row) → RowFrom tables n slots start way id r → RouteRead route offsets h r
+pub record Traced (tables : List ℕ) (n slots start way id : ℕ) (p : Placed) : Type 0 where
+  pub short : p .route .hops ≤ mostRouteHops
+  pub nodes-hold : length (p .route .nodes) ≡ mostRouteHops + 1
+  pub hops-hold : length (p .offsets) ≡ mostRouteHops
+  pub read : (r : Row) → RowFrom tables n slots start way id r → RouteRead p r

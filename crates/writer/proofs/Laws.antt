@@ -7,9 +7,13 @@ use native.Mathlib.Nat.{zero-add}
 use native.Mathlib.Numerals.{add-one}
 use lib.ListN.{length, getD, set, take, drop, length-append, length-drop}
 use lib.Seq.{take-at, drop-at, take-suc, take-add, take-take, take-append-le, drop-append-add, drop-drop, length-take-le, append-snoc, paste-zero, set-split}
+use Rattle.rules.specs.Topology.{mostRouteHops}
 use Rattle.rules.specs.Tiles.{Plan}
+use Rattle.rules.specs.Records.{theRoute, theOffsets}
+use Rattle.rules.specs.declared.{Route.Route, Placed.Placed}
 use Rattle.rules.specs.Image.{newest, headerLength, mark, word, inTurn, encodeHeader, encodeRow}
 use Rattle.rules.proofs.Encoding.{length-words}
+use Rattle.rules.proofs.Records.{node-at, route-length, offset-at, offsets-length}
 use Rattle.image.specs.Places.{Laid}
 use Rattle.writer.specs.Over.{over, headed}
 
@@ -46,35 +50,50 @@ copy-turn d s o at i h l e n =
     let k : at + i ≡ at + length (take i s) = rw (length-take-le i s (omega arith)) in
     rw (over-one o (at + i) (getD s i 0) (omega arith), e, over-over d (take i s) (getD s i 0 ∷ []) at (at + i) (omega arith) k, add-one, take-suc s i 0 h)
 
+-- a turn of a route
+pub nodes-turn : (d o : List ℕ) (r : Route) (at i : ℕ) → length (r .nodes) ≡ mostRouteHops + 1 → r .hops ≤ mostRouteHops → i ≤ r .hops → at + (r .hops + 1) ≤ length d
+    → o ≡ over d at (take i (theRoute r)) → length o ≡ length d → set o (at + i) ((getD (r .nodes) i (record { 0 = 0 })) .0) ≡ over d at (take (i + 1) (theRoute r))
+nodes-turn d o r at i size few h l e n =
+    let long = route-length r few size in
+    ap (set o (at + i)) (sym (node-at r i h)) ∙ copy-turn d (theRoute r) o at i (omega arith) (omega arith) e n
+
 words-append : (x y : List ℕ) → inTurn word (x ++ y) ≡ inTurn word x ++ inTurn word y
 words-append [] y = refl
 words-append (a ∷ x) y = rw (words-append x y)
 
 -- a turn of a copy of words
-pub words-turn : (d s o o′ : List ℕ) (at i : ℕ) → i < length s → at + 2 * length s ≤ length d → o ≡ over d at (inTurn word (take i s))
+words-turn : (d s o o′ : List ℕ) (at i : ℕ) → i < length s → at + 2 * length s ≤ length d → o ≡ over d at (inTurn word (take i s))
     → o′ ≡ over o (at + 2 * i) (word (getD s i 0)) → o′ ≡ over d at (inTurn word (take (i + 1) s))
 words-turn d s o o′ at i h l e f =
     let n : at + 2 * i ≡ at + length (inTurn word (take i s)) = rw (length-words, length-take-le i s (omega arith)) in
     rw (f, e, over-over d (inTurn word (take i s)) (word (getD s i 0)) at (at + 2 * i) (omega arith) n, add-one, take-suc s i 0 h, words-append)
 
+-- a turn of offsets
+pub offsets-turn : (d o o′ : List ℕ) (p : Placed) (at i : ℕ) → length (p .offsets) ≡ mostRouteHops → p .route .hops ≤ mostRouteHops → i < p .route .hops
+    → at + 2 * p .route .hops ≤ length d → o ≡ over d at (inTurn word (take i (theOffsets p)))
+    → o′ ≡ over o (at + 2 * i) (word ((getD (p .offsets) i (record { 0 = 0 })) .0)) → o′ ≡ over d at (inTurn word (take (i + 1) (theOffsets p)))
+offsets-turn d o o′ p at i size few h l e f =
+    let long = offsets-length p few size in
+    words-turn d (theOffsets p) o o′ at i (omega arith) (omega arith) e (f ∙ ap (λ (x : ℕ). over o (at + 2 * i) (word x)) (sym (offset-at p i h)))
+
 -- a row, part by part
-pub row-written : (d o₁ o₂ o₃ o₄ o₅ o₆ o₇ : List ℕ) (at id way k account : ℕ) (route offsets : List ℕ) → at ≤ length d → length route ≡ length offsets + 1
-    → o₁ ≡ over d at (word id) → o₂ ≡ over o₁ (at + 2) (way ∷ []) → o₃ ≡ over o₂ (at + 2 + 1) (word k) → o₄ ≡ over o₃ (at + 2 + 1 + 2) (length offsets ∷ [])
-    → o₅ ≡ over o₄ (at + 2 + 1 + 2 + 1) route → o₆ ≡ over o₅ (at + 2 + 1 + 2 + 1 + length route) (inTurn word offsets)
-    → o₇ ≡ over o₆ (at + 2 + 1 + 2 + 1 + length route + 2 * length offsets) (word account)
+pub row-written : (d o₁ o₂ o₃ o₄ o₅ o₆ o₇ : List ℕ) (at id way k n account : ℕ) (route offsets : List ℕ) → at ≤ length d → length route ≡ n + 1 → length offsets ≡ n
+    → o₁ ≡ over d at (word id) → o₂ ≡ over o₁ (at + 2) (way ∷ []) → o₃ ≡ over o₂ (at + 2 + 1) (word k) → o₄ ≡ over o₃ (at + 2 + 1 + 2) (n ∷ [])
+    → o₅ ≡ over o₄ (at + 2 + 1 + 2 + 1) route → o₆ ≡ over o₅ (at + 2 + 1 + 2 + 1 + n + 1) (inTurn word offsets)
+    → o₇ ≡ over o₆ (at + 2 + 1 + 2 + 1 + n + 1 + 2 * n) (word account)
     → o₇ ≡ over d at (encodeRow newest (record { id = id; way = way; period = k; route = route; offsets = offsets; account = account }))
-row-written d o₁ o₂ o₃ o₄ o₅ o₆ o₇ at id way k account route offsets h n p₁ p₂ p₃ p₄ p₅ p₆ p₇ =
+row-written d o₁ o₂ o₃ o₄ o₅ o₆ o₇ at id way k n account route offsets h l m p₁ p₂ p₃ p₄ p₅ p₆ p₇ =
     let named : List ℕ = word id ++ (way ∷ []) in
-    let head : List ℕ = named ++ word k ++ (length offsets ∷ []) in
+    let head : List ℕ = named ++ word k ++ (n ∷ []) in
     let q₂ = then d o₁ o₂ (word id) (way ∷ []) at (at + 2) h p₁ refl p₂ in
     let q₃ = then d o₂ o₃ named (word k) at (at + 2 + 1) h q₂ (omega arith) p₃ in
-    let q₄ = then d o₃ o₄ (named ++ word k) (length offsets ∷ []) at (at + 2 + 1 + 2) h q₃ (omega arith) p₄ in
+    let q₄ = then d o₃ o₄ (named ++ word k) (n ∷ []) at (at + 2 + 1 + 2) h q₃ (omega arith) p₄ in
     let q₅ = then d o₄ o₅ head route at (at + 2 + 1 + 2 + 1) h q₄ (omega arith) p₅ in
-    let q₆ = then d o₅ o₆ (head ++ route) (inTurn word offsets) at (at + 2 + 1 + 2 + 1 + length route) h q₅ (omega arith) p₆ in
+    let q₆ = then d o₅ o₆ (head ++ route) (inTurn word offsets) at (at + 2 + 1 + 2 + 1 + n + 1) h q₅ (omega (arith, l)) p₆ in
     let long = length-append (head ++ route) (inTurn word offsets) in
-    let q₇ = then d o₆ o₇ (head ++ route ++ inTurn word offsets) (word account) at (at + 2 + 1 + 2 + 1 + length route + 2 * length offsets) h q₆
-    (omega (arith, long, length-words offsets)) p₇ in
-    let e : length offsets ≡ length route - 1 = omega arith in
+    let q₇ = then d o₆ o₇ (head ++ route ++ inTurn word offsets) (word account) at (at + 2 + 1 + 2 + 1 + n + 1 + 2 * n) h q₆
+    (omega (arith, long, l, m, length-words offsets)) p₇ in
+    let e : n ≡ length route - 1 = omega arith in
     q₇ ∙ ap (λ (x : ℕ). over d at (named ++ word k ++ (x ∷ []) ++ route ++ inTurn word offsets ++ word account)) e
 
 -- the front of an image, part by part

@@ -3,12 +3,15 @@ ghost use mathlib.Core.Path.{_≡_};
 ghost use mathlib.Core.List.{[], _∷_, _++_};
 ghost use Prim.Native.Nat.{_+_, _-_, _*_, _/_, _<_, _≤_};
 ghost use lib.ListN.{length, drop};
+ghost use Rattle.rules.specs.Topology.{mostRouteHops};
 ghost use Rattle.rules.specs.Tiles.{PlanInRange};
 ghost use Rattle.rules.specs.Book.{mostAccounts};
-ghost use Rattle.rules.specs.Records.{thePlan};
+ghost use Rattle.rules.specs.Records.{thePlan, theRoute, theOffsets};
 ghost use Rattle.rules.specs.Image.{newest, rowLength, headerLength, word, inTurn, encodeHeader, encodeRow};
 ghost use Rattle.writer.specs.Over.{over, headed};
+use rules::Placed;
 use rules::Plan;
+use rules::Route;
 use rules::Tile;
 
 // The bytes of a part, from the place on.
@@ -40,14 +43,28 @@ pub fn put_word(out: &mut [u8], at: usize, x: u16)
     put(out, at + 1, (x % 256) as u8);
 }
 
-// Numbers in 2 bytes each.
-pub fn put_words(numbers: &[u16], out: &mut [u8], at: usize)
-    requires { ⌜ at + 2 * length (now numbers) ≤ length (now out) ⌝ }
-    ensures { λ _. ⌜ now (out .exit) ≡ over (now (out .entry)) at (inTurn word (now (numbers .entry))) ⌝ }
+// The nodes of a route, in a byte each.
+fn put_route(route: Route, out: &mut [u8], at: usize)
+    requires { ⌜ (route .hops ≤ mostRouteHops) × (at + (route .hops + 1) ≤ length (now out)) ⌝ }
+    ensures { λ _. ⌜ now (out .exit) ≡ over (now (out .entry)) at (theRoute route) ⌝ }
 {
+    let nodes = route.nodes;
     let mut i: usize = 0;
-    while i < numbers.len() {
-        put_word(out, at + 2 * i, numbers[i]);
+    while i <= route.hops {
+        out[at + i] = nodes[i].0;
+        i += 1;
+    }
+}
+
+// The offsets of its hops, in 2 bytes each.
+fn put_offsets(placed: Placed, out: &mut [u8], at: usize)
+    requires { ⌜ (placed .route .hops ≤ mostRouteHops) × (at + 2 * placed .route .hops ≤ length (now out)) ⌝ }
+    ensures { λ _. ⌜ now (out .exit) ≡ over (now (out .entry)) at (inTurn word (theOffsets placed)) ⌝ }
+{
+    let offsets = placed.offsets;
+    let mut i: usize = 0;
+    while i < placed.route.hops {
+        put_word(out, at + 2 * i, offsets[i].0);
         i += 1;
     }
 }
@@ -59,14 +76,12 @@ pub fn put_row(
     id: u16,
     way: u8,
     period: Tile,
-    route: &[u8],
-    offsets: &[u16],
+    placed: Placed,
     account: u16,
 )
-    requires { ⌜ (length (now route) ≡ length (now offsets) + 1) × (length (now offsets) ≤ 15) ⌝ }
-    requires { ⌜ at + (rowLength newest + 3 * length (now offsets)) ≤ length (now out) ⌝ }
+    requires { ⌜ (placed .route .hops ≤ mostRouteHops) × (at + (rowLength newest + 3 * placed .route .hops) ≤ length (now out)) ⌝ }
     ensures { λ _. ⌜ now (out .exit) ≡ over (now (out .entry)) at
-        (encodeRow newest (record { id = id; way = way; period = period .0; route = now (route .entry); offsets = now (offsets .entry); account = account })) ⌝ }
+        (encodeRow newest (record { id = id; way = way; period = period .0; route = theRoute (placed .route); offsets = theOffsets placed; account = account })) ⌝ }
 {
     put_word(out, at, id);
     let way_at = at + 2;
@@ -74,12 +89,13 @@ pub fn put_row(
     let period_at = way_at + 1;
     put_word(out, period_at, period.0);
     let hops_at = period_at + 2;
-    put(out, hops_at, offsets.len() as u8);
+    let hops = placed.route.hops;
+    put(out, hops_at, hops as u8);
     let route_at = hops_at + 1;
-    put_part(route, out, route_at);
-    let offsets_at = route_at + route.len();
-    put_words(offsets, out, offsets_at);
-    put_word(out, offsets_at + 2 * offsets.len(), account);
+    put_route(placed.route, out, route_at);
+    let offsets_at = route_at + hops + 1;
+    put_offsets(placed, out, offsets_at);
+    put_word(out, offsets_at + 2 * hops, account);
 }
 
 // The header of an image, with these counts of streams and hops.

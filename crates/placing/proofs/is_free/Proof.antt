@@ -8,10 +8,10 @@ use Rattle.placing.proofs.is_free.Statement.{statement}
 use Rattle.placing.proofs.is_free.Tie as tie
 
 finds-requires : tie.Need-finds-requires
-finds-requires c κs = let p = c .before .before .before .pre in in-index (p .2) (p .0 .most) (p .1) (p .3)
+finds-requires c κs = let p = c .before .pre in in-index (p .2) (p .0 .most) (p .1) (p .3)
 
 returns : tie.Need-returns
-returns c = said-no (λ f. f .quiet (tests-in (c .before .before .before .before .before .pre .2) (c .before .finds .ensures) .yes (c .if1 .taken)))
+returns c = said-no (λ f. f .quiet (tests-in (c .before .before .before .pre .2) (c .before .finds .ensures) .yes (c .if1 .taken)))
 
 returns-2 : tie.Need-returns-2
 returns-2 c = said-no (λ f. fails (c .before .on-data .ensures) (not-true _ (c .if2 .taken)) (f .on-data))
@@ -21,7 +21,7 @@ returns-3 c = said-no (λ f. f .apart (c .before .agrees .ensures .yes (c .if3 .
 
 returns-4 : tie.Need-returns-4
 returns-4 c =
-    let p = c .before .before .before .before .before .before .before .before .before .before .pre in
+    let p = c .before .before .before .before .before .before .before .before .pre in
     let finds = c .before .before .before .before .before .before .finds .ensures in
     let quiet = fails (tests-in (p .2) finds) (c .before .before .before .before .before .if1 .left) in
     let data-slots = c .before .before .before .before .on-data .ensures .yes (not-false _ (c .before .before .before .if2 .left)) in
@@ -36,7 +36,7 @@ is-free-spec =
     returns
     (λ c κs. search needs)
     returns-2
-    (λ c κs. c .before .before .before .before .before .before .before .pre .4 .there)
+    (λ c κs. c .before .before .before .before .before .pre .4 .there)
     returns-3
-    (λ c κs. let w = c .before .before .before .before .before .before .before .before .before .pre .4 in (w .fits, w .small))
+    (λ c κs. let p = c .before .before .before .before .before .before .before .pre in (p .5, p .4 .small))
     returns-4)

@@ -5,10 +5,10 @@ use Rattle.plain.proofs.divisor.Statement.{statement}
 use Rattle.plain.proofs.divisor.Tie as tie
 
 abbrev Inv-loop : tie.InvT-loop
-Inv-loop a b x₀ y₀ x y = Stepping a b x y
+Inv-loop x₀ y₀ x y = Stepping x₀ y₀ x y
 
 abbrev μ-loop : tie.MeasureT-loop
-μ-loop a b x₀ y₀ x y = y
+μ-loop x₀ y₀ x y = y
 
 pub divisor-spec : {M : Type 1} → statement M
 divisor-spec =

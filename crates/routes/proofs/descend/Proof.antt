@@ -3,6 +3,8 @@ use Prim.Native.Nat.{ℕ, _-_, _≤_}
 use native.Mathlib.Omega.{arith}
 use borrow.Author.Needs.{needs}
 use Rattle.rules.specs.Topology.{mostRouteHops}
+use Rattle.rules.specs.Records.{nodeNumbers}
+use Rattle.rules.proofs.Records.{map-set}
 use Rattle.bitset.specs.Rows.{topology}
 use Rattle.routes.specs.Levels.{Reached}
 use Rattle.routes.proofs.Descending.{Descending, descend-start, left-some, descend-next, descend-more, descend-done}
@@ -12,7 +14,7 @@ use Rattle.routes.proofs.descend.Tie as tie
 abbrev Inv-loop : tie.InvT-loop
 Inv-loop links sets source destination hops nodes₀ node₀ left₀ nodes node left =
     (middle : ℕ) → Reached (topology links) middle source destination hops sets
-    → Descending (topology links) middle source destination hops nodes node left (hops - left)
+    → Descending (topology links) middle source destination hops (nodeNumbers nodes) node left (hops - left)
 
 abbrev μ-loop : tie.MeasureT-loop
 μ-loop links sets source destination hops nodes₀ node₀ left₀ nodes node left = left
@@ -44,8 +46,8 @@ lowest-requires c κs =
     let pre = d .before .before .before .pre in
     descend-next (pre .0) (pre .1 .1) (d .before .loop .left - 1) (omega (arith, some d)) (d .before .loop .inv (pre .1 .0) (pre .1 .1)) (c .intersection .ensures)
 
-cast-nodes-2 : tie.Need-cast-nodes-2 Inv-loop μ-loop
-cast-nodes-2 c = omega (arith, c .lowest .ensures .small)
+cast-t22 : tie.Need-cast-t22 Inv-loop μ-loop
+cast-t22 c = omega (arith, c .lowest .ensures .small)
 
 loop-less : tie.Need-loop-less Inv-loop μ-loop
 loop-less c = omega (arith, some (c .before .before .before .before))
@@ -54,8 +56,9 @@ loop-again : tie.Need-loop-again Inv-loop μ-loop
 loop-again c middle r =
     let d = c .before .before .before .before in
     let l : 1 ≤ d .before .loop .left = some d in
-    descend-more (d .before .before .before .pre .0) r (d .before .loop .left - 1) (omega arith) (d .before .loop .inv middle r) (c .before .intersection .ensures)
-    _ (omega (arith, d .before .loop .inv middle r .sum)) (c .lowest .ensures)
+    rw map-set
+    (descend-more (d .before .before .before .pre .0) r (d .before .loop .left - 1) (omega arith) (d .before .loop .inv middle r) (c .before .intersection .ensures)
+    _ (omega (arith, d .before .loop .inv middle r .sum)) (c .lowest .ensures))
 
 returns : tie.Need-returns Inv-loop μ-loop
 returns c middle r = descend-done (c .before .loop .inv middle r) (c .loop-test .left)
@@ -76,7 +79,7 @@ descend-spec =
     (λ c. omega (arith, some (c .before), within (c .before .before)))
     (λ c κs. search needs)
     lowest-requires
-    cast-nodes-2
+    cast-t22
     (λ c. omega (arith, within (c .before .before .before .before .before)))
     (λ c. omega (arith, within (c .before .before .before .before .before)))
     loop-less

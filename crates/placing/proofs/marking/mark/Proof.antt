@@ -1,7 +1,12 @@
 -- The hops are marked one after the other.
-use Prim.Native.Nat.{ℕ, _-_, _≤_}
+use mathlib.Core.Path.{_≡_}
+use Prim.Native.Nat.{ℕ, _+_, _-_, _≤_}
 use native.Mathlib.Omega.{arith}
 use lib.ListN.{length}
+use borrow.Author.Needs.{needs}
+use Rattle.rules.specs.Topology.{mostRouteHops}
+use Rattle.rules.specs.Records.{theRoute, theOffsets}
+use Rattle.rules.proofs.Records.{route-length, unmapped}
 use Rattle.index.specs.Turns.{RepeatsOf}
 use Rattle.index.specs.Marks.{Adds, HopsTake}
 use Rattle.index.proofs.Rows.{hops-none, hops-done}
@@ -11,58 +16,62 @@ use Rattle.placing.proofs.marking.mark.Statement.{statement}
 use Rattle.placing.proofs.marking.mark.Tie as tie
 
 abbrev Inv-loop : tie.InvT-loop
-Inv-loop period route offsets index₀ repeats i₀ index i =
-    (i ≤ length offsets)
-    × ((S : ℕ) → RepeatsOf S (period .0) repeats → (id way account : ℕ) → Adds (HopsTake S (rowOn id way account (period .0) route offsets) i) index₀ index)
+Inv-loop period placed index₀ repeats hops i₀ index i =
+    (i ≤ hops)
+    × ((S : ℕ) → RepeatsOf S (period .0) repeats → (id way account : ℕ)
+    → Adds (HopsTake S (rowOn id way account (period .0) (theRoute (placed .route)) (theOffsets placed)) i) index₀ index)
 
 abbrev μ-loop : tie.MeasureT-loop
-μ-loop period route offsets index₀ repeats i₀ index i = length offsets - i
+μ-loop period placed index₀ repeats hops i₀ index i = hops - i
 
 repeats-of-requires : tie.Need-repeats-of-requires Inv-loop μ-loop
-repeats-of-requires c κs = let w = c .before .before .pre .0 in (w .few, w .period)
+repeats-of-requires c κs = let w = c .pre .0 in (w .few, w .period)
 
-abbrev start : tie.After-repeats-of Inv-loop μ-loop → tie.Start Inv-loop μ-loop
-start c = c .before .before .before
+-- how many nodes and offsets the record holds
+nodes-are : (c : tie.Start Inv-loop μ-loop) → length (c .args .placed .route .nodes) ≡ mostRouteHops + 1
+nodes-are c = search (needs, unmapped)
+
+offsets-are : (c : tie.Start Inv-loop μ-loop) → length (c .args .placed .offsets) ≡ mostRouteHops
+offsets-are c = search (needs, unmapped)
 
 loop-holds : tie.Need-loop-holds Inv-loop μ-loop
 loop-holds c = (omega arith, λ S w id way account. hops-none _ _ _)
 
-shared-slice-read-t16 : tie.Need-shared-slice-read-t16 Inv-loop μ-loop
-shared-slice-read-t16 c = omega (arith, c .before .before .before .before .before .before .before .before .pre .0 .count, c .before .before .before .loop-test .taken)
-
-shared-slice-read-t20 : tie.Need-shared-slice-read-t20 Inv-loop μ-loop
-shared-slice-read-t20 c =
-    omega (arith, c .before .before .before .before .before .before .before .before .before .pre .0 .count, c .before .before .before .before .loop-test .taken)
-
 put-requires : tie.Need-put-requires Inv-loop μ-loop
 put-requires c κs =
-    let loop = c .before .before .before .before .before in
-    let p = start (loop .before) .pre in
-    let i = loop .loop .i in
-    let l = c .before .before .before .before .loop-test .taken in
-    let v = loop .before .repeats-of .ensures in
-    let kept = loop .loop .inv .1 _ v 0 0 0 .size in
-    (omega (arith, kept, p .1), hop-inside (p .0) v i l, node-small (p .0) v i (omega arith), node-small (p .0) v _ (omega arith))
+    let l = c .before .before .before .before .before .before .before in
+    let s = l .before .before .before in
+    let v = l .before .before .repeats-of .ensures in
+    let i = l .before .loop .i in
+    let t = l .loop-test .taken in
+    let small = node-small (s .args .placed) (s .pre .0) (s .pre .1) (nodes-are s) in (
+      omega (arith, l .before .loop .inv .1 _ v 0 0 0 .size, s .pre .2),
+      hop-inside (s .args .placed) (s .pre .0) (s .pre .1) v (offsets-are s) i t,
+      small i (omega (arith, t)),
+      small (i + 1) (omega (arith, t)),
+    )
 
 loop-again : tie.Need-loop-again Inv-loop μ-loop
 loop-again c =
-    let loop = c .before .before .before .before .before .before in (
-      omega (arith, c .before .before .before .before .before .loop-test .taken),
-      λ S w id way account. marked-more w (loop .loop .i) id way account (loop .loop .inv .1 S w id way account) (c .put .ensures),
+    let l = c .before .before .before .before .before .before .before .before in
+    let loop = l .before .loop in (
+      omega (arith, l .loop-test .taken),
+      λ S w id way account. marked-more (l .before .before .before .args .placed) w (loop .i) id way account (l .loop-test .taken) (loop .inv .1 S w id way account) (c .put .ensures),
     )
 
 note-requires : tie.Need-note-requires Inv-loop μ-loop
 note-requires c κs =
     let loop = c .before .before in
-    omega (arith, start (loop .before) .pre .1, loop .loop .inv .1 _ (loop .before .repeats-of .ensures) 0 0 0 .size)
+    omega (arith, loop .before .before .pre .2, loop .loop .inv .1 _ (loop .before .repeats-of .ensures) 0 0 0 .size)
 
 returns : tie.Need-returns Inv-loop μ-loop
 returns c =
     let loop = c .before .before .before in
-    let p = start (loop .before) .pre in
+    let s = loop .before .before in
+    let count = route-length (s .args .placed .route) (s .pre .1) (nodes-are s) in
     record {
       words = loop .loop .index;
-      adds = λ id way account. hops-done _ _ (omega (arith, loop .loop .inv .0, c .before .before .loop-test .left, p .0 .count))
+      adds = λ id way account. hops-done _ _ (omega (arith, loop .loop .inv .0, c .before .before .loop-test .left, count))
           (loop .loop .inv .1 _ (loop .before .repeats-of .ensures) id way account);
       notes = c .note .ensures;
     }
@@ -77,9 +86,9 @@ mark-spec =
     loop-holds
     (λ c. omega arith)
     (λ c. omega arith)
-    shared-slice-read-t16
     (λ c. omega arith)
-    shared-slice-read-t20
+    (λ c. omega arith)
+    (λ c. omega arith)
     put-requires
     (λ c. omega arith)
     (λ c. omega arith)

@@ -7,38 +7,38 @@ use Rattle.routes.proofs.second.second.Statement.{statement}
 use Rattle.routes.proofs.second.second.Tie as tie
 
 without-middles-requires : tie.Need-without-middles-requires
-without-middles-requires c κs = let pre = c .before .before .before .before .before .pre in route-known (pre .0) (pre .1)
+without-middles-requires c κs = let pre = c .before .before .before .before .pre in (pre .2, route-known (pre .0) (pre .1))
 
 plan-requires : tie.Need-plan-requires
-plan-requires c κs = asked-smaller (c .before .before .before .before .before .before .before .pre .0) (c .before .before .without-link .ensures)
+plan-requires c κs = asked-smaller (c .before .before .before .before .before .before .pre .0) (c .before .before .without-link .ensures)
 
 returns : tie.Need-returns
 returns c =
-    let d = c .before .before .before in
+    let d = c .before .before .before .before in
     let w = d .before .before in
-    says-no-second (w .before .before .before .before .before .before .pre .1) (w .before .without-link .ensures) (w .without-middles .ensures)
+    says-no-second (w .before .before .before .before .before .pre .1) (w .before .without-link .ensures) (w .without-middles .ensures)
     (d .plan .result) (d .plan .ensures) (no-short (d .plan .result .reach) (omega arith)) (c .none .ensures)
 
 returns-2 : tie.Need-returns-2
 returns-2 c =
-    let d = c .before .before .before .before in
+    let d = c .before .before .before .before .before in
     let w = d .before .before in
-    says-second (w .before .before .before .before .before .before .pre .1) (w .before .without-link .ensures) (w .without-middles .ensures)
+    says-second (w .before .before .before .before .before .pre .1) (w .before .without-link .ensures) (w .without-middles .ensures)
     (d .plan .result) (d .plan .ensures) (c .enum-told .given .1) (omega arith)
 
 returns-3 : tie.Need-returns-3
 returns-3 c =
-    let d = c .before .before .before .before .before in
+    let d = c .before .before .before .before .before .before in
     let w = d .before .before in
-    says-no-second (w .before .before .before .before .before .before .pre .1) (w .before .without-link .ensures) (w .without-middles .ensures)
-    (d .plan .result) (d .plan .ensures) (none-short (d .plan .result .hops) (inl (c .before .enum-told2 .given .1))) (c .none2 .ensures)
+    says-no-second (w .before .before .before .before .before .pre .1) (w .before .without-link .ensures) (w .without-middles .ensures)
+    (d .plan .result) (d .plan .ensures) (none-short (d .plan .result .route .hops) (inl (c .before .enum-told2 .given .1))) (c .none2 .ensures)
 
 returns-4 : tie.Need-returns-4
 returns-4 c =
-    let d = c .before .before .before .before .before in
+    let d = c .before .before .before .before .before .before in
     let w = d .before .before in
-    says-no-second (w .before .before .before .before .before .before .pre .1) (w .before .without-link .ensures) (w .without-middles .ensures)
-    (d .plan .result) (d .plan .ensures) (none-short (d .plan .result .hops) (inr (c .before .enum-told3 .given .1))) (c .none3 .ensures)
+    says-no-second (w .before .before .before .before .before .pre .1) (w .before .without-link .ensures) (w .without-middles .ensures)
+    (d .plan .result) (d .plan .ensures) (none-short (d .plan .result .route .hops) (inr (c .before .enum-told3 .given .1))) (c .none3 .ensures)
 
 pub second-spec : {M : Type 1} → statement M
 second-spec =
