@@ -3,6 +3,7 @@ pub mod Adding
 pub mod Turns
 pub mod Noting
 pub mod Seeing
+pub mod Passing
 pub mod Clearing
 pub mod Folding
 pub mod Hops

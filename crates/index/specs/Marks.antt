@@ -64,6 +64,12 @@ pub record Finds (C : End → ℕ → Type 0) (words : List ℕ) (r : Repeats) (
   pub looked : LooksIn r o slot
   pub busy : Busy C words slot
 
+-- from lo on the hop first finds none at this offset, or at none within the span, where it is behind that
+pub record FirstQuiet (C : End → ℕ → Type 0) (words : List ℕ) (r : Repeats) (lo o : ℕ) : Type 0 where
+  pub above : lo ≤ o
+  pub before : (k : ℕ) → k < o → lo ≤ k → Finds C words r k
+  pub quiet : o < r .span .0 → Finds C words r o → ⊥
+
 -- the node is in reach, as one of those that send or of those that receive
 pub data Common (senders receivers : ℕ) (reach : Reach) (node : ℕ) : Type 0 where
   sends : Has senders node → Has (reach .senders) node → Common senders receivers reach node

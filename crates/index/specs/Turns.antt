@@ -61,3 +61,7 @@ pub record InIndex (r : Repeats) (o : ℕ) : Type 0 where
   pub some : 0 < r .fold .0
   pub most : r .fold .0 ≤ quickTiles * 32
   pub whole : r .few ≡ 0 → (n : ℕ) × (r .span .0 ≡ n * r .fold .0)
+
+-- and so at every offset within the span
+abbrev pub SpanInIndex : Repeats → Type 0
+SpanInIndex r = (o : ℕ) → o < r .span .0 → InIndex r o

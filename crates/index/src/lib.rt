@@ -1,5 +1,6 @@
 // The index of slots: for each slot of the first 100 tiles the set of nodes that send there, and of those that receive, in
 // streams of periods up to 100. Those of periods up to ten tiles stand in ten tiles, the others in 100, and in a fold of their tens.
+pub mod quiet;
 pub mod slots;
 pub mod tens;
 
@@ -12,8 +13,8 @@ ghost use Rattle.rules.specs.Words.{Tests};
 ghost use Rattle.rules.specs.Tiles.{Period, shortTiles};
 ghost use Rattle.clash.specs.Reach.{End, nodeAt, hop};
 ghost use Rattle.index.specs.Areas.{slowPlace, linksBehind, hearingBehind, indexLength};
-ghost use Rattle.index.specs.Turns.{RepeatsOf, TakesIn, InIndex};
-ghost use Rattle.index.specs.Marks.{Adds, Notes, InReach, Finds};
+ghost use Rattle.index.specs.Turns.{RepeatsOf, TakesIn, InIndex, SpanInIndex};
+ghost use Rattle.index.specs.Marks.{Adds, Notes, InReach, Finds, FirstQuiet};
 ghost use Rattle.index.specs.Folding.{Removes};
 ghost use Rattle.index.specs.Index.{SitePut};
 use clash::Reach;
@@ -157,21 +158,21 @@ pub fn finds(index: &[u64; WORDS], repeats: Repeats, offset: Slot, reach: Reach)
     requires { ⌜ InIndex repeats (offset .0) ⌝ }
     ensures { λ r. ⌜ Tests r (Finds (InReach reach) (now (index .entry)) repeats (offset .0)) ⌝ }
 {
-    let o = offset.0 as usize;
     if 0 < repeats.few {
-        if slots::finds(index, repeats.span, repeats.few, QUICK + o, reach) {
-            return true;
-        }
-        return slots::finds(index, repeats.span, repeats.few, FOLD + o, reach);
+        return quiet::finds_quick(index, repeats, offset, reach);
     }
-    if repeats.turns == 0 {
-        return false;
+    quiet::finds_short(index, repeats, offset, reach)
+}
+
+// The first offset from lo on, within the period's span, at which none is; or one behind the span where there is none.
+pub fn next_quiet(index: &[u64; WORDS], repeats: Repeats, lo: Slot, reach: Reach) -> Slot
+    requires { ⌜ SpanInIndex repeats ⌝ }
+    ensures { λ r. ⌜ FirstQuiet (InReach reach) (now (index .entry)) repeats (lo .0) (r .0) ⌝ }
+{
+    if 0 < repeats.few {
+        return quiet::next_quick(index, repeats, lo, reach);
     }
-    if slots::finds(index, repeats.span, repeats.turns, o, reach) {
-        return true;
-    }
-    let quick = QUICK + (offset.0 % repeats.fold.0) as usize;
-    slots::finds(index, repeats.span, 1, quick, reach)
+    quiet::next_short(index, repeats, lo, reach)
 }
 
 // Takes the ends of a marked hop out of every slot where it is marked.

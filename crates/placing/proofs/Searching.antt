@@ -1,5 +1,5 @@
 -- The search for an offset that is free for a hop.
-use mathlib.Core.Path.{_≡_, sym, ap, _∙_, subst, subst₂}
+use mathlib.Core.Path.{_≡_, refl, sym, ap, _∙_, subst, subst₂}
 use Prim.Native.Nat.{ℕ, _+_, _*_, _<_, _≤_}
 use native.Mathlib.Omega.{arith}
 use native.Mathlib.Nat.{mul-le-mul}
@@ -12,10 +12,13 @@ use Rattle.rules.specs.declared.Route.{Route}
 use Rattle.rules.proofs.Bytes.{period-small}
 use Rattle.rules.proofs.Greedy.{Least}
 use Rattle.rules.proofs.Records.{node-at, nodeOf, node-holds}
+use Rattle.rules.proofs.Tests.{fails, said-yes, said-no}
 use Rattle.clash.specs.Reach.{End, hop, Clashes, Between, ReachOf}
 use Rattle.clash.specs.declared.Reach.{Reach}
-use Rattle.index.specs.Marks.{InReach}
-use Rattle.index.proofs.Meets.{reach-meets, meets-reach}
+use Rattle.index.specs.declared.Repeats.{Repeats}
+use Rattle.index.specs.Turns.{RepeatsOf}
+use Rattle.index.specs.Marks.{FirstQuiet, InReach, MeetsIn}
+use Rattle.index.proofs.Meets.{tests-in, reach-meets, meets-reach}
 use Rattle.plain.proofs.Alike.{agrees-for, route-for}
 use Rattle.placing.specs.Answers.{Around, FreeBy, FreeAt, Searched, Asked}
 use Rattle.placing.specs.declared.Next.{Next}
@@ -24,6 +27,17 @@ use Rattle.placing.specs.declared.Next.the-variants.{At, Nowhere}
 -- the offsets of a period fit two bytes
 pub span-most : {plan : Plan} {K : ℕ} → PlanInRange plan → Period K → K * plan .slots ≤ cycleTiles * 32
 span-most {K = K} w h = mul-le-mul (period-small K h) (w .most)
+
+-- FROM QUIET OFFSET TO QUIET OFFSET: none before from is free, and o is the first from there on at which the index is quiet
+module _ {C : End → ℕ → Type 0} {plan : Plan} {a : Around} {K : ℕ} {repeats : Repeats} {lo from o : ℕ} (w : RepeatsOf (plan .slots) K repeats)
+    (none : (k : ℕ) → k < from → lo ≤ k → FreeBy C plan a K k → ⊥) (q : FirstQuiet C (a .words) repeats from o) where
+  pub passed-busy : (k : ℕ) → k < o → lo ≤ k → FreeBy C plan a K k → ⊥
+  passed-busy k l m f =
+      let early : from ≤ k → ⊥ = λ h. f .quiet (tests-in w (said-yes (q .before k l h)) .yes refl) in
+      none k (omega (arith, early)) m f
+
+  pub passed-quiet : o < repeats .span .0 → MeetsIn C (plan .slots) (a .words) K o → ⊥
+  passed-quiet l = fails (tests-in w (said-no (q .quiet l))) refl
 
 -- a search for what holds alike finds the same
 pub searched-alike : {F G : ℕ → Type 0} (lo end : ℕ) (r : Next) → ((k : ℕ) → F k → G k) → ((k : ℕ) → G k → F k) → Searched F lo end r → Searched G lo end r

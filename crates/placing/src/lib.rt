@@ -1,13 +1,15 @@
 // The first placing of a route's hops beside the rows of an index, rows that it leaves out, and another route.
-ghost use Prim.Native.Nat.{_*_, _<_, _≤_};
-ghost use Rattle.rules.specs.Words.{Tests};
+ghost use mathlib.Core.List.{List};
+ghost use Prim.Native.Nat.{ℕ, _*_, _<_, _≤_};
+ghost use Rattle.rules.specs.Words.{_∈_, Tests};
 ghost use Rattle.rules.specs.Tiles.{PlanInRange, Period};
 ghost use Rattle.rules.specs.Topology.{mostRouteHops};
 ghost use Rattle.rules.specs.Records.{thePlan, slotNumbers, theRoute, theOffsets};
 ghost use Rattle.bitset.specs.Rows.{topology};
 ghost use Rattle.clash.specs.Reach.{hop, Clashes, Between};
 ghost use Rattle.index.specs.Turns.{RepeatsOf};
-ghost use Rattle.index.specs.Marks.{InReach};
+ghost use Rattle.index.specs.Marks.{InReach, MeetsIn};
+ghost use Rattle.plain.specs.Plain.{RowsThere};
 ghost use Rattle.placing.specs.Answers.{around, Standing, FreeBy, Searched, Asked, AnswersBy};
 
 pub mod marking;
@@ -39,12 +41,10 @@ enum Next {
     Nowhere,
 }
 
-// Whether the offset takes only data slots, and meets no hop in reach: by the index, by moduli of rows, or of the route beside.
+// Whether a quiet offset takes only data slots, and meets no hop in reach by moduli of rows, or of the route beside.
 fn is_free(
     plan: Plan,
     period: Tile,
-    repeats: Repeats,
-    index: &[u64; index::WORDS],
     image: &[u8],
     start: usize,
     rows: usize,
@@ -53,14 +53,11 @@ fn is_free(
     reach: Reach,
     o: u16,
 ) -> bool
-    requires { ⌜ PlanInRange (thePlan plan) × Period (period .0) × RepeatsOf (plan .slots .0) (period .0) repeats × (o < period .0 * plan .slots .0)
-        × Standing (around (now index) (now image) start rows (now moduli) (theRoute (beside .route)) (theOffsets beside)) × (beside .route .hops ≤ mostRouteHops) ⌝ }
-    ensures { λ r. ⌜ Tests r (FreeBy (InReach reach) (thePlan plan)
-        (around (now (index .entry)) (now (image .entry)) start rows (now (moduli .entry)) (theRoute (beside .route)) (theOffsets beside)) (period .0) o) ⌝ }
+    requires { ⌜ PlanInRange (thePlan plan) × Period (period .0) × (o < period .0 * plan .slots .0) × RowsThere (now image) start rows
+        × (beside .route .hops ≤ mostRouteHops) × ((a : ℕ) → a ∈ theRoute (beside .route) → a < 64) ⌝ }
+    ensures { λ r. ⌜ ((words : List ℕ) → (MeetsIn (InReach reach) (plan .slots .0) words (period .0) o → ⊥) → Tests r (FreeBy (InReach reach) (thePlan plan)
+        (around words (now (image .entry)) start rows (now (moduli .entry)) (theRoute (beside .route)) (theOffsets beside)) (period .0) o)) ⌝ }
 {
-    if index::finds(index, repeats, Slot(o), reach) {
-        return false;
-    }
     if !rules::on_data(plan, period, Slot(o)) {
         return false;
     }
@@ -89,26 +86,17 @@ fn next_free(
     ensures { λ r. ⌜ Searched (FreeBy (InReach reach) (thePlan plan)
         (around (now (index .entry)) (now (image .entry)) start rows (now (moduli .entry)) (theRoute (beside .route)) (theOffsets beside)) (period .0)) lo (period .0 * plan .slots .0) r ⌝ }
 {
-    let mut o = lo;
-    while o < repeats.span.0 {
-        if is_free(
-            plan,
-            period,
-            repeats,
-            index,
-            image,
-            start,
-            rows,
-            moduli,
-            beside,
-            reach,
-            o,
-        ) {
+    let mut from = lo;
+    loop {
+        let o = index::next_quiet(index, repeats, Slot(from), reach).0;
+        if repeats.span.0 <= o {
+            return Next::Nowhere;
+        }
+        if is_free(plan, period, image, start, rows, moduli, beside, reach, o) {
             return Next::At(o);
         }
-        o += 1;
+        from = o + 1;
     }
-    Next::Nowhere
 }
 
 // The least offset from lo on that is free for the hop.
