@@ -56,9 +56,9 @@ module _ {r : Repeats} {o : ℕ} (w : InIndex r o) (h : Hop) where
     in-short end slot node (short z l t, e) = inl (t, e)
     in-short end slot node (folded z m t, e) = inr (turn-first (r .span .0) (foldPlace + o % r .fold .0) t, e)
 
-    pub put-short : {s t u : List ℕ} → 0 < r .turns → Adds (InTurn (r .span .0) o (r .turns) h) s t → Adds (InTurn (r .span .0) (foldPlace + o % r .fold .0) 1 h) t u
-        → Adds (InAll r o h) s u
-    put-short some a b = adds-alike (short-in some) in-short (adds-both a b)
+    pub put-short : {s t u : List ℕ} {f : ℕ} → 0 < r .turns → f ≡ o % r .fold .0 → Adds (InTurn (r .span .0) o (r .turns) h) s t
+        → Adds (InTurn (r .span .0) (foldPlace + f) 1 h) t u → Adds (InAll r o h) s u
+    put-short {t = t} {u} some e a b = adds-alike (short-in some) in-short (adds-both a (subst (λ (x : ℕ). Adds (InTurn (r .span .0) (foldPlace + x) 1 h) t u) e b))
 
     -- or nowhere
     in-none : r .turns ≡ 0 → (end : End) (slot node : ℕ) → InAll r o h end slot node → ⊥
@@ -99,10 +99,10 @@ module _ {r : Repeats} {o : ℕ} (w : InIndex r o) {C : End → ℕ → Type 0} 
         go (once-in-ten z m l k) = omega (arith, m, e)
 
     -- it is not among 100: then what its one slot among ten says is so
-    pub tests-short : {b : Bool} → 0 < r .turns → (FindsFirst C words (r .span .0) o (r .turns) → ⊥)
-        → Tests b (FindsFirst C words (r .span .0) (quickPlace + o % r .fold .0) 1) → Tests b (Finds C words r o)
-    tests-short some miss t =
-        alike t
+    pub tests-short : {b : Bool} {f : ℕ} → 0 < r .turns → f ≡ o % r .fold .0 → (FindsFirst C words (r .span .0) o (r .turns) → ⊥)
+        → Tests b (FindsFirst C words (r .span .0) (quickPlace + f) 1) → Tests b (Finds C words r o)
+    tests-short {b} some place miss t =
+        alike (subst (λ (x : ℕ). Tests b (FindsFirst C words (r .span .0) (quickPlace + x) 1)) place t)
         (λ f.
         let e = first-turn (r .span .0) (quickPlace + o % r .fold .0) (f .takes) in
         let l = mod-lt o (w .some) in
@@ -143,12 +143,10 @@ module _ {r : Repeats} {o : ℕ} (w : InIndex r o) (h : Hop) where
   }
 
   -- or of 100, with the slot of the fold worked out again
-  module _ {s t u : List ℕ} (none : r .few ≡ 0) (some : 0 < r .turns) (a : Clears (InTurn (r .span .0) o (r .turns) h) s t) (b : Refolds (r .fold .0) (o % r .fold .0) t u) where
+  module _ {s t u : List ℕ} {f₀ : ℕ} (none : r .few ≡ 0) (some : 0 < r .turns) (place : f₀ ≡ o % r .fold .0)
+      (a : Clears (InTurn (r .span .0) o (r .turns) h) s t) (b : Refolds (r .fold .0) f₀ t u) where
     abbrev fold : ℕ
     fold = r .fold .0
-
-    abbrev f₀ : ℕ
-    f₀ = o % fold
 
     down : (end : End) (slot node : ℕ) → (slot ≡ foldPlace + f₀ → ⊥) → AtWork u end slot node → AtWork t end slot node
     down end slot node d m = subst (λ (x : ℕ). Has x node) (b .same end slot d) m
@@ -162,6 +160,7 @@ module _ {r : Repeats} {o : ℕ} (w : InIndex r o) (h : Hop) where
         let n = w .whole none in
         let on : k .turn * r .span .0 ≡ k .turn * n .0 * fold = ap (λ (x : ℕ). k .turn * x) (n .1) ∙ sym (mul-assoc (k .turn) (n .0) fold) in
         sym (mod-eq-of-lt l) ∙ sym (add-mul-mod-self-right f ten fold) ∙ ap (λ (x : ℕ). x % fold) (k .at ∙ ap (λ (x : ℕ). o + x) on) ∙ add-mul-mod-self-right o (k .turn * n .0) fold
+        ∙ sym place
 
     ten-other : (f ten : ℕ) → f < fold → ten < 10 → f + ten * fold ≡ foldPlace + f₀ → ⊥
     ten-other f ten l few e = omega (arith, e, ten-low fold f ten (w .most) l few)
@@ -194,7 +193,7 @@ module _ {r : Repeats} {o : ℕ} (w : InIndex r o) (h : Hop) where
       fits = λ end slot l n. subst (NoBitFrom 64) (sym (b .same end slot (λ q. omega arith))) (a .fits end slot n);
       only = λ end slot node l m.
           let k = a .only end slot node (down end slot node (λ q. omega arith) m) in
-          (k .0, λ p. ⊎-elim (k .1) (λ q. let e = first-turn (r .span .0) (foldPlace + f₀) (q .0) in omega arith) (in-short w h none end slot node p));
+          (k .0, λ p. ⊎-elim (k .1) (λ q. let e = first-turn (r .span .0) (foldPlace + o % fold) (q .0) in omega arith) (in-short w h none end slot node p));
       all = λ end slot node l m n. up end slot node (λ q. omega arith) (a .all end slot node m (λ p. n (short-in w h none some end slot node (inl p))));
       folded = refolded;
       behind = b .behind ∙ a .behind;

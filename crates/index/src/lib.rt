@@ -147,7 +147,7 @@ pub fn put(index: &mut [u64; WORDS], repeats: Repeats, offset: Slot, from: Node,
         return;
     }
     if 0 < repeats.turns {
-        let folded = FOLD + (offset.0 % repeats.fold.0) as usize;
+        let folded = FOLD + tens::place(offset, repeats.fold);
         slots::put(index, repeats.span, repeats.turns, o, from, to);
         slots::put(index, repeats.span, 1, folded, from, to);
     }
@@ -187,7 +187,7 @@ pub fn unmark(index: &mut [u64; WORDS], repeats: Repeats, offset: Slot, from: No
         return;
     }
     if 0 < repeats.turns {
-        let slot = (offset.0 % repeats.fold.0) as usize;
+        let slot = tens::place(offset, repeats.fold);
         slots::clear(index, repeats.span, repeats.turns, o, from, to);
         tens::refold(index, repeats.fold.0 as usize, slot);
     }

@@ -9,6 +9,7 @@ use crate::QUICK;
 use crate::Repeats;
 use crate::WORDS;
 use crate::slots;
+use crate::tens;
 use clash::Reach;
 use rules::Slot;
 
@@ -36,7 +37,7 @@ pub fn finds_short(index: &[u64; WORDS], repeats: Repeats, offset: Slot, reach: 
     if slots::finds(index, repeats.span, repeats.turns, o, reach) {
         return true;
     }
-    let quick = QUICK + (offset.0 % repeats.fold.0) as usize;
+    let quick = QUICK + tens::place(offset, repeats.fold);
     slots::finds(index, repeats.span, 1, quick, reach)
 }
 

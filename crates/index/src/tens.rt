@@ -1,6 +1,6 @@
 // The tens of 100 tiles laid over each other, and the whole index, as it is lent.
 ghost use mathlib.Core.Path.{_≡_};
-ghost use Prim.Native.Nat.{_+_, _*_, _<_, _≤_};
+ghost use Prim.Native.Nat.{_+_, _*_, _%_, _<_, _≤_};
 ghost use lib.ListN.{length};
 ghost use Rattle.rules.specs.Tiles.{shortTiles};
 ghost use Rattle.index.specs.Areas.{quickTiles, quickPlace, indexLength};
@@ -10,6 +10,17 @@ use crate::QUICK;
 use crate::QUICK_TILES;
 use crate::WORDS;
 use rules::Slot;
+
+// Where an offset stands when the tens are laid over each other: one in the first ten needs no division.
+pub fn place(offset: Slot, fold: Slot) -> usize
+    requires { ⌜ (0 < fold .0) × (fold .0 ≤ quickTiles * 32) ⌝ }
+    ensures { λ r. ⌜ (r ≡ offset .0 % fold .0) × (r < fold .0) × (r < quickTiles * 32) ⌝ }
+{
+    if offset.0 < fold.0 {
+        return offset.0 as usize;
+    }
+    (offset.0 % fold.0) as usize
+}
 
 // Works out a slot of the fold from the slots of the tens that are laid over it.
 pub fn refold(index: &mut [u64; WORDS], fold: usize, slot: usize)
