@@ -189,6 +189,6 @@ pub fn unmark(index: &mut [u64; WORDS], repeats: Repeats, offset: Slot, from: No
     if 0 < repeats.turns {
         let slot = tens::place(offset, repeats.fold);
         slots::clear(index, repeats.span, repeats.turns, o, from, to);
-        tens::refold(index, repeats.fold.0 as usize, slot);
+        tens::refold(index, repeats.fold, slot);
     }
 }

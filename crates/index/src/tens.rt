@@ -23,19 +23,20 @@ pub fn place(offset: Slot, fold: Slot) -> usize
 }
 
 // Works out a slot of the fold from the slots of the tens that are laid over it.
-pub fn refold(index: &mut [u64; WORDS], fold: usize, slot: usize)
-    requires { ⌜ (length (now index) ≡ indexLength) × (slot < fold) × (fold ≤ quickTiles * 32) ⌝ }
-    ensures { λ _. ⌜ Refolds fold slot (now (index .entry)) (now (index .exit)) ⌝ }
+pub fn refold(index: &mut [u64; WORDS], fold: Slot, slot: usize)
+    requires { ⌜ (length (now index) ≡ indexLength) × (slot < fold .0) × (fold .0 ≤ quickTiles * 32) ⌝ }
+    ensures { λ _. ⌜ Refolds (fold .0) slot (now (index .entry)) (now (index .exit)) ⌝ }
 {
     let mut senders: u64 = 0;
     let mut receivers: u64 = 0;
+    let step = fold.0 as usize;
     let mut other = slot;
     let mut ten = 0;
     while ten < QUICK_TILES {
         let at = 2 * other;
         senders = bitset::union(senders, index[at]);
         receivers = bitset::union(receivers, index[at + 1]);
-        other += fold;
+        other += step;
         ten += 1;
     }
     let to = 2 * (FOLD + slot);

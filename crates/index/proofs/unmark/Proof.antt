@@ -17,16 +17,16 @@ clear-requires-2 c κs = let p = c .before .before .before .before .before .befo
 
 refold-requires : tie.Need-refold-requires
 refold-requires c κs =
-    let place = c .before .before .before .before in
+    let place = c .before .before .before in
     let p = place .before .before .before .before .before .before .pre in
-    (omega (arith, p .0, c .before .before .clear2 .ensures .size), place .place .ensures .1, p .1 .most)
+    (omega (arith, p .0, c .before .clear2 .ensures .size), place .place .ensures .1, p .1 .most)
 
 returns-2 : tie.Need-returns-2
 returns-2 c =
-    let place = c .before .before .before .before .before in
+    let place = c .before .before .before .before in
     let if2 = place .before in
     out-short (if2 .before .before .before .before .before .pre .1) _ (omega (arith, if2 .before .before .if1 .left)) (if2 .if2 .taken) (place .place .ensures .0)
-    (c .before .before .before .clear2 .ensures) (c .refold .ensures)
+    (c .before .before .clear2 .ensures) (c .refold .ensures)
 
 returns-3 : tie.Need-returns-3
 returns-3 c = out-none (c .before .before .before .before .before .pre .1) _ _ (omega (arith, c .before .before .if1 .left)) (omega (arith, c .if2 .left))
@@ -41,7 +41,6 @@ unmark-spec =
     returns
     (λ c κs. let w = c .before .before .before .before .before .pre .1 in (w .some, w .most))
     clear-requires-2
-    (λ c. search needs)
     refold-requires
     returns-2
     returns-3)
