@@ -8,10 +8,11 @@ use native.Mathlib.Nat.{mod-lt, mul-assoc, add-mul-mod-self-right, add-mul-div-r
 use borrow.Author.Tests.{eq-eqb, ne-eqb}
 use lib.Dec.{eqb, leb}
 use Rattle.rules.specs.Words.{_∈_, bit, Tests}
-use Rattle.rules.specs.Tiles.{Plan, PlanInRange, tileCounts, controlSlots, Data, repeats}
+use Rattle.rules.specs.Tiles.{Plan, PlanInRange, tileCounts, controlSlots, Data, Period, repeats}
 use Rattle.rules.specs.Book.{OnData}
 use Rattle.rules.proofs.Tests.{alike, tests-le}
 use Rattle.rules.proofs.Bytes.{tiles-small}
+use Rattle.rules.proofs.Periods.{repeats-some}
 
 -- a plan has 1 to 10 tiles
 pub tiles-some : (C : ℕ) → C ∈ tileCounts → 0 < C
@@ -93,3 +94,12 @@ pub behind-control : (plan : Plan) → 0 < plan .slots → (K o : ℕ) → plan 
 behind-control plan some K o d u slot t =
     let e = turn-place plan some K o (t .turn) in
     subst (Data plan) (sym (t .at)) (control-most plan _ _ (omega (arith, e, d)) (omega (arith, e, u)))
+
+-- and one that is a control slot of both kinds does not
+pub before-control : (plan : Plan) {K o : ℕ} → Period K → o % plan .slots < plan .down → o % plan .slots < plan .up → OnData plan K o → ⊥
+before-control plan {K} {o} p d u f =
+    either (eqb (bit (plan .kinds) (o / plan .slots % plan .tiles)) 1) (f o (record { turn = 0; within = repeats-some K p; at = omega arith }))
+  where
+    either : (b : Bool) → cond b (plan .down) (plan .up) ≤ o % plan .slots → ⊥
+    either true l = omega (arith, l, d)
+    either false l = omega (arith, l, u)
