@@ -29,11 +29,12 @@ fn unmark_row(image: &[u8], at: usize, slots: Slot, index: &mut [u64; index::WOR
 {
     let repeats = index::repeats_of(slots, image::period_at(image, at));
     let h = image::hops_at(image, at);
+    let nodes = image::hops_place_in(image) + 1;
     let mut i = 0;
     while i < h {
-        let from = image::node_at(image, at, i);
-        let to = image::node_at(image, at, i + 1);
-        let offset = image::offset_at(image, at, i);
+        let from = image::node_in(image, at, nodes, i);
+        let to = image::node_in(image, at, nodes, i + 1);
+        let offset = image::offset_in(image, at, nodes, h, i);
         index::unmark(index, repeats, offset, from, to);
         i += 1;
     }

@@ -336,13 +336,28 @@ pub fn hops_at(image: &[u8], at: usize) -> usize
     count(image[at + hops_place_in(image)])
 }
 
+// Node i of its route, whose nodes stand so many bytes behind the row's start: who reads many hops reads the layout once.
+pub fn node_in(image: &[u8], at: usize, nodes: usize, i: usize) -> Node
+    requires { ⌜ Whole (now image) at × (nodes ≡ hopsPlace (versionOf (now image)) + 1) × (i ≤ hops (rowAt (now image) at)) ⌝ }
+    ensures { λ r. ⌜ (r .0 ≡ getD (rowAt (now (image .entry)) at .route) i 0) × (r .0 < 256) ⌝ }
+{
+    Node(image[at + nodes + i])
+}
+
+// The offset of hop i of its h hops: the offsets stand behind the nodes.
+pub fn offset_in(image: &[u8], at: usize, nodes: usize, h: usize, i: usize) -> Slot
+    requires { ⌜ Whole (now image) at × (nodes ≡ hopsPlace (versionOf (now image)) + 1) × (h ≡ hops (rowAt (now image) at)) × (i < h) ⌝ }
+    ensures { λ r. ⌜ (r .0 ≡ rowOffset (rowAt (now (image .entry)) at) i) × TwoBytes (r .0) ⌝ }
+{
+    Slot(word_at(image, at + (nodes + 1) + h + 2 * i))
+}
+
 // Node i of its route.
 pub fn node_at(image: &[u8], at: usize, i: usize) -> Node
     requires { ⌜ Whole (now image) at × (i ≤ hops (rowAt (now image) at)) ⌝ }
     ensures { λ r. ⌜ (r .0 ≡ getD (rowAt (now (image .entry)) at .route) i 0) × (r .0 < 256) ⌝ }
 {
-    let nodes = hops_place_in(image) + 1;
-    Node(image[at + nodes + i])
+    node_in(image, at, hops_place_in(image) + 1, i)
 }
 
 // The offset of its hop i.
@@ -351,8 +366,7 @@ pub fn offset_at(image: &[u8], at: usize, i: usize) -> Slot
     ensures { λ r. ⌜ (r .0 ≡ rowOffset (rowAt (now (image .entry)) at) i) × TwoBytes (r .0) ⌝ }
 {
     let h = hops_at(image, at);
-    let beside = hops_place_in(image) + 2;
-    Slot(word_at(image, at + beside + h + 2 * i))
+    offset_in(image, at, hops_place_in(image) + 1, h, i)
 }
 
 // The place after it.

@@ -1,35 +1,17 @@
 // Whether clashing hops of different rows meet: each row is compared with the index of the rows before it, and by the plain
 // test with those that the index leaves out.
-ghost use Prim.Native.Nat.{_+_, _<_, _≤_};
+ghost use Prim.Native.Nat.{_+_, _<_};
 ghost use mathlib.Core.Path.{_≡_};
-ghost use lib.ListN.{length, getD, replicate};
-ghost use Rattle.rules.specs.Words.{TwoBytes};
-ghost use Rattle.rules.specs.Book.{hops, rowOffset};
+ghost use lib.ListN.{length, replicate};
+ghost use Rattle.rules.specs.Book.{hops};
 ghost use Rattle.rules.specs.Image.{planOf, versionOf, hopsPlace};
 ghost use Rattle.index.specs.Index.{indexLength};
-ghost use Rattle.image.specs.Places.{rowAt, Whole};
+ghost use Rattle.image.specs.Places.{rowAt};
 ghost use Rattle.plain.specs.Plain.{RowsThere};
 ghost use Rattle.meeting.specs.Meeting.{HopMarked, RowMarked, RowCompared, RowsIndexed, RowPlaced, RowBehind, HearingRead, HopsRead};
 use image::Book;
 use index::Repeats;
-use rules::Node;
 use rules::Slot;
-
-// Node i of the row, whose nodes stand so many bytes behind its start: the layout is read once for all its hops.
-fn node_in(image: &[u8], at: usize, nodes: usize, i: usize) -> Node
-    requires { ⌜ Whole (now image) at × (nodes ≡ hopsPlace (versionOf (now image)) + 1) × (i ≤ hops (rowAt (now image) at)) ⌝ }
-    ensures { λ r. ⌜ (r .0 ≡ getD (rowAt (now (image .entry)) at .route) i 0) × (r .0 < 256) ⌝ }
-{
-    Node(image[at + nodes + i])
-}
-
-// The offset of hop i of its h hops: the offsets stand behind the nodes.
-fn offset_in(image: &[u8], at: usize, nodes: usize, h: usize, i: usize) -> Slot
-    requires { ⌜ Whole (now image) at × (nodes ≡ hopsPlace (versionOf (now image)) + 1) × (h ≡ hops (rowAt (now image) at)) × (i < h) ⌝ }
-    ensures { λ r. ⌜ (r .0 ≡ rowOffset (rowAt (now (image .entry)) at) i) × TwoBytes (r .0) ⌝ }
-{
-    Slot(image::word_at(image, at + (nodes + 1) + h + 2 * i))
-}
 
 // Whether a node that clashes with hop i of the row is at work in a slot that it takes, or it agrees with a clashing hop of the
 // rows that have moduli; where neither is so the hop is marked.
@@ -50,9 +32,9 @@ fn hop_meets(
         × RowsThere (now image) start rows × (nodes ≡ hopsPlace (versionOf (now image)) + 1) × (h ≡ hops (rowAt (now image) at)) ⌝ }
     ensures { λ r. ⌜ HopMarked (now (image .entry)) start rows (now (moduli .entry)) at i repeats (now (index .entry)) (now (index .exit)) r ⌝ }
 {
-    let from = node_in(image, at, nodes, i);
-    let to = node_in(image, at, nodes, i + 1);
-    let offset = offset_in(image, at, nodes, h, i);
+    let from = image::node_in(image, at, nodes, i);
+    let to = image::node_in(image, at, nodes, i + 1);
+    let offset = image::offset_in(image, at, nodes, h, i);
     let reach = clash::reach_of(hearing, from, to);
     if index::finds(index, repeats, offset, reach) {
         return true;

@@ -4,9 +4,9 @@ use Prim.Native.Nat.{ℕ, _+_, _*_}
 use native.Mathlib.Omega.{arith}
 use borrow.Author.Needs.{needs}
 use Rattle.rules.specs.Image.{hopsPlace, versionOf, wordAt}
 use Rattle.image.proofs.Places.{row-offset, next-hops}
-use Rattle.meeting.proofs.offset_in.Statement.{statement}
-use Rattle.meeting.proofs.offset_in.Tie as tie
+use Rattle.image.proofs.offset_in.Statement.{statement}
+use Rattle.image.proofs.offset_in.Tie as tie
 
 add-word-at-3 : tie.Need-add-word-at-3
 add-word-at-3 c = let p = c .before .pre in omega (arith, next-hops _ _ (p .0), p .0 .fits, p .1, p .2)

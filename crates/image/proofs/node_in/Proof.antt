@@ -4,9 +4,9 @@ use Prim.Native.Nat.{ℕ, _+_}
 use native.Mathlib.Omega.{arith}
 use lib.ListN.{getD}
 use borrow.Author.Needs.{needs}
 use Rattle.image.proofs.Places.{row-node, next-hops}
-use Rattle.meeting.proofs.node_in.Statement.{statement}
-use Rattle.meeting.proofs.node_in.Tie as tie
+use Rattle.image.proofs.node_in.Statement.{statement}
+use Rattle.image.proofs.node_in.Tie as tie
 
 add-t6 : tie.Need-add-t6
 add-t6 c = omega (arith, next-hops _ _ (c .pre .0), c .pre .0 .fits, c .pre .1, c .pre .2)
