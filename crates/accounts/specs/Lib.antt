@@ -1,1 +1,2 @@
+pub mod purchasing
 pub mod Lists

@@ -13,6 +13,7 @@ ghost use Rattle.image.specs.Header.{HeaderOf};
 ghost use Rattle.accounts.specs.Lists.{numbers, boughts, PlaceOf, RisesFrom, ListRead, HoldMost, Draws, HasBought, drawsFrom, Pays};
 use image::Book;
 
+pub mod purchasing;
 pub mod purses;
 
 // What the rows of a book draw at most: 64 of them, of 15 hops that come 1,000 times in a cycle,

@@ -15,7 +15,7 @@ use Rattle.rules.specs.Book.{mostStreams}
 use Rattle.rules.specs.Tables.{TooMany}
 use Rattle.rules.proofs.Tests.{never, tests-lt}
 use Rattle.entries.specs.Keys.{Collected}
-use Rattle.drafting.proofs.Image.{over-many}
+use Rattle.adopting.proofs.drafting.Image.{over-many}
 
 take-out : (x : ℕ) (xs : List ℕ) → x ∈ xs → (ys : List ℕ) × With x ys xs
 take-out x [] h = absurd h

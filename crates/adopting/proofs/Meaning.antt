@@ -21,9 +21,9 @@ use Rattle.rules.proofs.Encoding.{version-back, site-back, rows-back, rows-uniq
 use Rattle.rules.proofs.Reading.{rowsIn, bookIn, LawfulImage, row-newest, fits-newest, lawful-stored, book-back}
 use Rattle.rules.proofs.Shown.{shown-unique}
 use Rattle.image.proofs.Stands.{stored-rows}
-use Rattle.answers.specs.Reply.{Reply}
-use Rattle.answers.proofs.Replies.{reply-refused, reply-next, reply-done}
-use Rattle.drafting.specs.Drafts.{DraftPut, Drafted, drafted}
+use Rattle.rules.specs.answers.Reply.{Reply}
+use Rattle.rules.proofs.answers.Replies.{reply-refused, reply-next, reply-done}
+use Rattle.adopting.specs.drafting.Drafts.{DraftPut, Drafted, drafted}
 use Rattle.adopting.specs.Expanded.{Expanded, Adopts}
 
 lawful-image : (b : Book) → LawfulBook b → LawfulImage (encode newest b)

@@ -11,7 +11,7 @@ use Rattle.rules.specs.Table.{TablePart}
 use Rattle.rules.specs.Calls.{siteGiven}
 use Rattle.rules.specs.Tables.{tableAt, ShownBy, OfShown}
 use Rattle.rules.proofs.Reading.{bookIn, LawfulImage}
-use Rattle.answers.specs.Reply.{Reply}
+use Rattle.rules.specs.answers.Reply.{Reply}
 
 -- at the node they are what the book of the image expands to
 abbrev pub SameAt : List ℕ → List ℕ → ℕ → Type 0

@@ -1,1 +1,2 @@
+pub mod drafting
 pub mod Expanded

@@ -12,11 +12,16 @@ ghost use Rattle.rules.specs.Tables.{entriesOf, TablesOfEntries, TooMany, BookO
 ghost use Rattle.rules.proofs.Reading.{LawfulImage};
 ghost use Rattle.image.specs.Header.{HeaderOf};
 ghost use Rattle.adopting.specs.Expanded.{SameAt, Expanded, Adopts};
-use answers::Answer;
+
+pub mod drafting;
+
 use image::Book;
+use image::fields;
 use rules::Node;
 use rules::Plan;
 use rules::Tile;
+use rules::answers;
+use rules::answers::Answer;
 
 // The bytes of the longest table of 100 tiles.
 const TABLE: usize = 9600;

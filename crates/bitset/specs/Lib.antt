@@ -1,2 +1,3 @@
+pub mod clash
 pub mod Sets
 pub mod Rows

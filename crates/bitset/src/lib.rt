@@ -6,6 +6,8 @@ ghost use Rattle.rules.specs.Words.{Has, NoBitFrom, Count, Tests};
 ghost use Rattle.rules.specs.Topology.{allNodes};
 ghost use Rattle.bitset.specs.Sets.{SetOf, Lowest};
 
+pub mod clash;
+
 // Every number below 64.
 pub const ALL: u64 = 0xffff_ffff_ffff_ffff;
 

@@ -3,6 +3,7 @@ ghost use Prim.Native.Nat.{_≤_};
 ghost use lib.ListN.{length};
 ghost use Rattle.frames.specs.Lengths.{headLength, mostPart};
 ghost use Rattle.streams.specs.Streams.{Within};
+use frames::records;
 use libc::STDOUT_FILENO;
 use streams::Streams;
 

@@ -1,2 +1,3 @@
+pub mod tracing
 pub mod Entries
 pub mod Keys

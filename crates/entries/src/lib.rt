@@ -1,5 +1,6 @@
 // The entries of another planner's tables, counted through all of them: whether they are entries at all, and where one of a stream comes next.
 pub mod keys;
+pub mod tracing;
 
 ghost use mathlib.Core.Path.{_≡_};
 ghost use Prim.Native.Nat.{ℕ, _+_, _*_, _<_, _≤_};

@@ -2,7 +2,10 @@
 ghost use Prim.Native.Nat.{_+_, _*_, _≤_};
 ghost use lib.ListN.{length};
 ghost use Rattle.frames.specs.Lengths.{headLength, replyLength, mostRoom, mostFurther, mostLength, mostWords, wordLength, mostReport};
-use answers::Answer;
+
+pub mod records;
+
+use rules::answers::Answer;
 
 // Bytes of a call before its book or topology.
 pub const HEAD: usize = 44;

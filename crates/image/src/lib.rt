@@ -8,6 +8,9 @@ ghost use Rattle.rules.specs.Image.{headerLength, linksStart, rowsStart, hasWid
 ghost use Rattle.rules.specs.Image.{wordAt, word64At};
 ghost use Rattle.image.specs.Places.{hearingPlace, rowAt, nextAt, Whole};
 ghost use Rattle.image.specs.Header.{HeaderOf};
+
+pub mod fields;
+
 use rules::Node;
 use rules::Plan;
 use rules::Slot;

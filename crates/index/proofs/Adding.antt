@@ -10,8 +10,8 @@ use lib.Seq.{getD-set-same, getD-set-other, drop-set-lt}
 use Rattle.rules.specs.Words.{Has, NoBitFrom}
 use Rattle.rules.specs.Topology.{Hop}
 use Rattle.bitset.specs.Sets.{SetOf}
-use Rattle.clash.specs.Reach.{End, nodeAt}
-use Rattle.clash.specs.Reach.End.{sender, receiver}
+use Rattle.bitset.specs.clash.Reach.{End, nodeAt}
+use Rattle.bitset.specs.clash.Reach.End.{sender, receiver}
 use Rattle.index.specs.Areas.{indexSlots, slowPlace, wordAt, AtWork}
 use Rattle.index.specs.Marks.{Adds}
 

@@ -8,8 +8,8 @@ use Rattle.rules.specs.Words.{_∈_}
 use Rattle.rules.specs.Tiles.{shortTiles, Meet}
 use Rattle.rules.specs.Topology.{Hop, Touches}
 use Rattle.rules.specs.Book.{Site, Row, Book, key, hops, rowHop, rowOffset, RowsMeet, LawfulBook}
-use Rattle.clash.specs.Reach.{End, nodeAt}
-use Rattle.clash.specs.Reach.End.{sender, receiver}
+use Rattle.bitset.specs.clash.Reach.{End, nodeAt}
+use Rattle.bitset.specs.clash.Reach.End.{sender, receiver}
 use Rattle.index.specs.Areas.{quickTiles, foldPlace}
 use Rattle.index.specs.Turns.{MarkedAt, Places}
 use Rattle.index.specs.Turns.Places.{quick, short, folded}

@@ -9,8 +9,8 @@ use Rattle.rules.specs.Words.{_∈_}
 use Rattle.rules.specs.Tiles.{Period}
 use Rattle.rules.specs.Book.{Site, Row, hops, rowOffset}
 use Rattle.bitset.specs.Sets.{SetOf}
-use Rattle.clash.specs.Reach.{End}
-use Rattle.clash.specs.Reach.End.{sender, receiver}
+use Rattle.bitset.specs.clash.Reach.{End}
+use Rattle.bitset.specs.clash.Reach.End.{sender, receiver}
 use Rattle.index.specs.Areas.{quickTiles, foldPlace, indexSlots, slowPlace, linksBehind, hearingBehind, indexLength, wordAt}
 use Rattle.index.specs.Marks.{Adds, Notes, HopsTake}
 use Rattle.index.specs.Folding.{Removes}

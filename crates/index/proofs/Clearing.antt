@@ -9,8 +9,8 @@ use lib.ListN.{length, getD, set, length-set}
 use Rattle.rules.specs.Words.{Has, NoBitFrom}
 use Rattle.rules.specs.Topology.{Hop}
 use Rattle.bitset.specs.Sets.{SetOf}
-use Rattle.clash.specs.Reach.{End, nodeAt}
-use Rattle.clash.specs.Reach.End.{sender, receiver}
+use Rattle.bitset.specs.clash.Reach.{End, nodeAt}
+use Rattle.bitset.specs.clash.Reach.End.{sender, receiver}
 use Rattle.index.specs.Areas.{indexSlots, wordAt, AtWork}
 use Rattle.index.specs.Turns.{TakesFirst}
 use Rattle.index.specs.Marks.{Clears}

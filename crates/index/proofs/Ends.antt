@@ -13,7 +13,7 @@ use Rattle.rules.specs.Book.{Row, hops, rowOffset}
 use Rattle.rules.proofs.Cycle.{whole-of}
 use Rattle.rules.proofs.Periods.{short-period}
 use Rattle.bitset.specs.Sets.{SetOf}
-use Rattle.clash.specs.Reach.{End}
+use Rattle.bitset.specs.clash.Reach.{End}
 use Rattle.index.specs.Areas.{quickTiles, quickPlace, foldPlace, wordAt, AtWork}
 use Rattle.index.specs.Turns.{TakesFirst, Places}
 use Rattle.index.specs.Turns.Places.{quick, short, folded}

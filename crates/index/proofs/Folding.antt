@@ -10,8 +10,8 @@ use Rattle.rules.specs.Words.{Has}
 use Rattle.rules.specs.Topology.{Hop}
 use Rattle.bitset.specs.Sets.{SetOf}
 use Rattle.bitset.proofs.Bits.{zero-none}
-use Rattle.clash.specs.Reach.{End}
-use Rattle.clash.specs.Reach.End.{sender, receiver}
+use Rattle.bitset.specs.clash.Reach.{End}
+use Rattle.bitset.specs.clash.Reach.End.{sender, receiver}
 use Rattle.index.specs.Areas.{quickTiles, quickPlace, foldPlace, indexSlots, wordAt, AtWork}
 use Rattle.index.specs.Folding.{InTens, Folded, Refolds}
 use Rattle.index.proofs.Adding.{after, the-word, here, elsewhere, behind-slots}

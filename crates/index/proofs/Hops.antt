@@ -10,7 +10,7 @@ use native.Mathlib.Nat.{add-mul-mod-self-right, mod-eq-of-lt, mod-lt, mul-assoc}
 use Rattle.rules.specs.Words.{Has, NoBitFrom, Tests}
 use Rattle.rules.specs.Topology.{Hop}
 use Rattle.rules.proofs.Tests.{alike}
-use Rattle.clash.specs.Reach.{End, nodeAt}
+use Rattle.bitset.specs.clash.Reach.{End, nodeAt}
 use Rattle.index.specs.declared.Repeats.{Repeats}
 use Rattle.index.specs.Areas.{quickPlace, foldPlace, indexSlots, AtWork}
 use Rattle.index.specs.Turns.{TakesFirst, TakesIn, LooksIn, InIndex}

@@ -11,8 +11,8 @@ use lib.Seq.{getD-set-same, getD-set-other, drop-set-lt, drop-drop}
 use Rattle.rules.specs.Words.{Has}
 use Rattle.rules.specs.Tiles.{shortTiles}
 use Rattle.bitset.specs.Sets.{SetOf}
-use Rattle.clash.specs.Reach.{End}
-use Rattle.clash.specs.Reach.End.{sender, receiver}
+use Rattle.bitset.specs.clash.Reach.{End}
+use Rattle.bitset.specs.clash.Reach.End.{sender, receiver}
 use Rattle.index.specs.Areas.{quickTiles, quickPlace, wordAt, AtWork}
 use Rattle.index.specs.Folding.{TenLent, Lent}
 

@@ -15,9 +15,9 @@ use Rattle.rules.proofs.Meeting.{own-never-meet}
 use Rattle.rules.proofs.Periods.{short-period}
 use Rattle.rules.proofs.Cycle.{meet-short}
 use Rattle.rules.proofs.Tests.{alike}
-use Rattle.clash.specs.Reach.{End, nodeAt, Clashes, ReachOf}
-use Rattle.clash.specs.declared.Reach.{Reach}
-use Rattle.clash.proofs.Reaching.{clash-end, end-clash}
+use Rattle.bitset.specs.clash.Reach.{End, nodeAt, Clashes, ReachOf}
+use Rattle.bitset.specs.declared.clash.Reach.{Reach}
+use Rattle.bitset.proofs.clash.Reaching.{clash-end, end-clash}
 use Rattle.index.specs.declared.Repeats.{Repeats}
 use Rattle.index.specs.Areas.{quickTiles, quickPlace, foldPlace, AtWork}
 use Rattle.index.specs.Turns.{RepeatsOf, TakesFirst, Places, Looks, MarkedAt, LooksAt}

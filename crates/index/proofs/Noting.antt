@@ -9,8 +9,8 @@ use lib.ListN.{length, getD, set, length-set}
 use lib.Seq.{getD-set-same, getD-set-other, drop-set-lt}
 use borrow.Author.Tests.{not-false, eqb-true}
 use Rattle.rules.specs.Tiles.{shortTiles}
-use Rattle.clash.specs.Reach.{End}
-use Rattle.clash.specs.Reach.End.{sender, receiver}
+use Rattle.bitset.specs.clash.Reach.{End}
+use Rattle.bitset.specs.clash.Reach.End.{sender, receiver}
 use Rattle.index.specs.Areas.{indexLength, indexSlots, slowPlace, linksBehind, wordAt}
 use Rattle.index.specs.Marks.{Notes}
 

@@ -8,7 +8,7 @@ use native.Mathlib.Nat.{le-refl}
 use borrow.Author.Count.{below-more}
 use Rattle.rules.specs.Words.{Tests}
 use Rattle.rules.proofs.Tests.{fails}
-use Rattle.clash.specs.Reach.{End}
+use Rattle.bitset.specs.clash.Reach.{End}
 use Rattle.index.specs.declared.Repeats.{Repeats}
 use Rattle.index.specs.Marks.{Finds, FirstQuiet}
 

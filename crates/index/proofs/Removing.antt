@@ -6,7 +6,7 @@ use Prim.Native.Nat.{ℕ, _+_, _*_, _<_}
 use native.Mathlib.Omega.{arith}
 use Rattle.rules.specs.Words.{_∈_}
 use Rattle.rules.specs.Book.{Row, hops, rowHop, rowOffset}
-use Rattle.clash.specs.Reach.{End, nodeAt}
+use Rattle.bitset.specs.clash.Reach.{End, nodeAt}
 use Rattle.index.specs.declared.Repeats.{Repeats}
 use Rattle.index.specs.Areas.{quickTiles, foldPlace, AtWork}
 use Rattle.index.specs.Turns.{RepeatsOf, TakesIn}

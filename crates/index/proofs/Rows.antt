@@ -12,7 +12,7 @@ use Rattle.rules.specs.Tiles.{Period, shortTiles}
 use Rattle.rules.specs.Book.{Row, hops, rowHop, rowOffset}
 use Rattle.bitset.specs.Sets.{SetOf}
 use Rattle.bitset.proofs.Bits.{zero-none}
-use Rattle.clash.specs.Reach.{End, nodeAt}
+use Rattle.bitset.specs.clash.Reach.{End, nodeAt}
 use Rattle.index.specs.declared.Repeats.{Repeats}
 use Rattle.index.specs.Areas.{quickTiles, quickPlace, foldPlace, slowPlace, indexLength, wordAt, AtWork}
 use Rattle.index.specs.Turns.{RepeatsOf, MarkedAt, Places, TakesIn}

@@ -9,9 +9,9 @@ use Rattle.rules.specs.Words.{Has}
 use Rattle.bitset.specs.Sets.{SetOf}
 use Rattle.bitset.proofs.Bits.{zero-none}
 use Rattle.bitset.proofs.Members.{some-member}
-use Rattle.clash.specs.Reach.{End}
-use Rattle.clash.specs.Reach.End.{sender, receiver}
-use Rattle.clash.specs.declared.Reach.{Reach}
+use Rattle.bitset.specs.clash.Reach.{End}
+use Rattle.bitset.specs.clash.Reach.End.{sender, receiver}
+use Rattle.bitset.specs.declared.clash.Reach.{Reach}
 use Rattle.index.specs.Areas.{AtWork}
 use Rattle.index.specs.Marks.{Busy, FindsFirst, Common, InReach}
 use Rattle.index.specs.Marks.Common.{sends, receives}

@@ -10,8 +10,8 @@ use lib.ListN.{length, set}
 use Rattle.rules.specs.Tiles.{Period, Takes, cycleTiles, shortTiles}
 use Rattle.rules.specs.Topology.{Hop}
 use Rattle.bitset.specs.Sets.{SetOf}
-use Rattle.clash.specs.Reach.{End, nodeAt}
-use Rattle.clash.specs.Reach.End.{sender, receiver}
+use Rattle.bitset.specs.clash.Reach.{End, nodeAt}
+use Rattle.bitset.specs.clash.Reach.End.{sender, receiver}
 use Rattle.index.specs.declared.Repeats.{Repeats}
 use Rattle.index.specs.Areas.{quickTiles, quickPlace, foldPlace, indexSlots, AtWork}
 use Rattle.index.specs.Turns.{RepeatsOf, TakesFirst, Places, Looks, MarkedAt, LooksAt, TakesIn, LooksIn, InTurns, InIndex}

@@ -11,8 +11,8 @@ use Rattle.rules.specs.Tiles.{shortTiles}
 use Rattle.rules.specs.Book.{Row}
 use Rattle.bitset.specs.Sets.{SetOf}
 use Rattle.bitset.proofs.Bits.{union-law}
-use Rattle.clash.specs.Reach.{End}
-use Rattle.clash.specs.Reach.End.{sender, receiver}
+use Rattle.bitset.specs.clash.Reach.{End}
+use Rattle.bitset.specs.clash.Reach.End.{sender, receiver}
 use Rattle.index.specs.Areas.{quickTiles, quickPlace, wordAt}
 use Rattle.index.specs.Folding.{Lent}
 use Rattle.index.specs.Index.{IndexOf}

@@ -4,8 +4,8 @@ use Prim.Native.Nat.{ℕ, _+_, _*_}
 use lib.ListN.{getD}
 use Rattle.rules.specs.Words.{Has}
 use Rattle.rules.specs.Tiles.{shortTiles}
-use Rattle.clash.specs.Reach.{End}
-use Rattle.clash.specs.Reach.End.{sender, receiver}
+use Rattle.bitset.specs.clash.Reach.{End}
+use Rattle.bitset.specs.clash.Reach.End.{sender, receiver}
 
 -- a period up to ten tiles comes round in ten
 abbrev pub quickTiles : ℕ

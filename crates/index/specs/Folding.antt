@@ -7,7 +7,7 @@ use lib.ListN.{length, getD, drop}
 use Rattle.rules.specs.Words.{Has, NoBitFrom}
 use Rattle.rules.specs.Tiles.{shortTiles}
 use Rattle.bitset.specs.Sets.{SetOf}
-use Rattle.clash.specs.Reach.{End}
+use Rattle.bitset.specs.clash.Reach.{End}
 use Rattle.index.specs.Areas.{quickTiles, quickPlace, foldPlace, slowPlace, wordAt, AtWork}
 
 -- of the slots that stand so many tens apart, the node is at work in one

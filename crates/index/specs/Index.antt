@@ -8,7 +8,7 @@ use Rattle.rules.specs.Words.{_∈_}
 use Rattle.rules.specs.Tiles.{shortTiles, Period, Takes}
 use Rattle.rules.specs.Book.{Site, Row, hops, rowHop, rowOffset}
 use Rattle.bitset.specs.Sets.{SetOf}
-use Rattle.clash.specs.Reach.{End, nodeAt}
+use Rattle.bitset.specs.clash.Reach.{End, nodeAt}
 use Rattle.index.specs.Areas.{quickTiles, foldPlace, wordAt}
 pub use Rattle.index.specs.Areas.{slowPlace, linksBehind, hearingBehind, indexLength}
 use Rattle.index.specs.Marks.{HopsTake}

@@ -7,8 +7,8 @@ use lib.ListN.{length, getD, drop}
 use Rattle.rules.specs.Words.{Has, NoBitFrom}
 use Rattle.rules.specs.Tiles.{shortTiles}
 use Rattle.rules.specs.Book.{Row, rowHop, rowOffset}
-use Rattle.clash.specs.Reach.{End, nodeAt, setAt}
-use Rattle.clash.specs.declared.Reach.{Reach}
+use Rattle.bitset.specs.clash.Reach.{End, nodeAt, setAt}
+use Rattle.bitset.specs.declared.clash.Reach.{Reach}
 use Rattle.index.specs.Areas.{indexSlots, slowPlace, linksBehind, wordAt, AtWork}
 use Rattle.index.specs.Turns.{TakesFirst, MarkedAt, LooksAt, LooksIn}
 use Rattle.index.specs.declared.Repeats.{Repeats}

@@ -10,7 +10,7 @@ use crate::Repeats;
 use crate::WORDS;
 use crate::slots;
 use crate::tens;
-use clash::Reach;
+use bitset::clash::Reach;
 use rules::Slot;
 
 // Whether a node in reach is at work where a hop with a turn in ten tiles is looked for: among these, and in the fold.

@@ -4,12 +4,12 @@ ghost use Prim.Native.Nat.{ℕ, _<_};
 ghost use lib.ListN.{length};
 ghost use Rattle.rules.specs.Words.{Tests};
 ghost use Rattle.bitset.specs.Sets.{SetOf};
-ghost use Rattle.clash.specs.Reach.{End, nodeAt, hop};
+ghost use Rattle.bitset.specs.clash.Reach.{End, nodeAt, hop};
 ghost use Rattle.index.specs.Areas.{indexLength};
 ghost use Rattle.index.specs.Turns.{TakesFirst, InTurns};
 ghost use Rattle.index.specs.Marks.{Adds, Clears, FindsFirst, Common, InReach};
 use crate::WORDS;
-use clash::Reach;
+use bitset::clash::Reach;
 use rules::Node;
 use rules::Slot;
 

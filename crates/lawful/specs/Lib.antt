@@ -1,1 +1,2 @@
+pub mod meeting
 pub mod Verdict

@@ -6,7 +6,11 @@ ghost use Rattle.image.proofs.Marks.{Marked};
 ghost use Rattle.accounts.specs.Lists.{ListRead};
 ghost use Rattle.rows.specs.Frame.{Framed};
 ghost use Rattle.lawful.specs.Verdict.{Verdict};
+
+pub mod meeting;
+
 use image::Book;
+use image::fields;
 
 // The number of an image whose header is in order: 11, 15, 16 or 0.
 fn body_verdict(image: &[u8], book: Book, index: &mut [u64; index::WORDS]) -> u8

@@ -12,9 +12,9 @@ use Rattle.image.proofs.Places.{rows-in}
 use Rattle.image.proofs.Hops.{node-known}
 use Rattle.image.proofs.Stands.{stored-rows, stands-start, stands-row, stands-next}
 use Rattle.index.specs.Beside.{ImageBeside}
-use Rattle.plain.specs.Plain.{placeOf, nthRow, RowThere}
-use Rattle.plain.proofs.Places.{place-first, place-next, nth-from, from-nth}
-use Rattle.plain.proofs.Beside.{IndexBeside}
+use Rattle.placing.specs.plain.Plain.{placeOf, nthRow, RowThere}
+use Rattle.placing.proofs.plain.Places.{place-first, place-next, nth-from, from-nth}
+use Rattle.placing.proofs.plain.Beside.{IndexBeside}
 
 module _ {s : List ℕ} (w : LawfulImage s) where
   -- from each place on stand the rows that are left

@@ -13,7 +13,7 @@ use Rattle.rules.specs.Image.{planOf}
 use Rattle.rules.proofs.Reading.{bookIn}
 use Rattle.image.specs.declared.Book.{Book}
 use Rattle.placing.specs.Marking.{Markable}
-use Rattle.adding.specs.Puts.{rowOn, Parts, Puttable}
+use Rattle.changing.specs.adding.Puts.{rowOn, Parts, Puttable}
 use Rattle.opening.specs.Keeping.{OneKept, TwoKept}
 use Rattle.opening.specs.Beside.{NewBeside, RouteBeside, PlacedBeside}
 use Rattle.opening.proofs.Routed.{room-left}

@@ -19,7 +19,7 @@ use Rattle.index.proofs.Behind.{beside-more, beside-alike}
 use Rattle.placing.specs.Marking as marking
 use Rattle.placing.specs.Marking.{Marked}
 use Rattle.opening.specs.Open.{Kept}
-use Rattle.adding.specs.Puts.{PutIn, rowOn}
+use Rattle.changing.specs.adding.Puts.{PutIn, rowOn}
 use Rattle.opening.specs.Keeping.{Keeps, MarkedAs, OneKept, TwoKept}
 use Rattle.opening.proofs.Outcomes.{out-next, out-done}
 

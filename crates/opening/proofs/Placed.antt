@@ -20,14 +20,14 @@ use Rattle.rules.proofs.Reading.{rowsIn, bookIn}
 use Rattle.image.specs.declared.Book.{Book}
 use Rattle.bitset.specs.Rows.{topology}
 use Rattle.index.specs.Index.{slowPlace, hearingBehind}
-use Rattle.plain.specs.Plain.{nthRow, RowsThere, Weighs}
+use Rattle.placing.specs.plain.Plain.{nthRow, RowsThere, Weighs}
 use Rattle.placing.specs.Covers.{RowOn, Covers}
 use Rattle.placing.specs.Answers as placing
 use Rattle.placing.specs.Answers.{around, Standing, AnswersBy}
 use Rattle.placing.specs.declared.Placing.{Placing}
 use Rattle.placing.specs.declared.Found.the-variants.{Placed, NoPlacing}
 use Rattle.placing.proofs.Beside.{first-beside, none-beside}
-use Rattle.adding.specs.Puts.{rowOn}
+use Rattle.changing.specs.adding.Puts.{rowOn}
 use Rattle.opening.specs.Beside.{RouteAsked, RouteBeside, PlacedOn, PlacedBeside}
 use Rattle.opening.proofs.Around.{image-beside}
 use Rattle.opening.proofs.Planned.{hearing-behind}

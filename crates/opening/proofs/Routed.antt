@@ -23,7 +23,7 @@ use Rattle.image.specs.Header.{HeaderOf}
 use Rattle.image.specs.declared.Book as head
 use Rattle.image.proofs.Stands.{stored-rows}
 use Rattle.index.specs.Index.{Beside}
-use Rattle.adding.specs.Puts.{rowOn}
+use Rattle.changing.specs.adding.Puts.{rowOn}
 use Rattle.opening.specs.Keeping.{Keeps}
 use Rattle.opening.specs.Open.{OpenedOn, routedRefusals, Routed, OpensNew}
 use Rattle.opening.proofs.Outcomes.{out-refused, out-next, out-more, out-alike}

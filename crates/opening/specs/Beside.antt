@@ -18,7 +18,7 @@ use Rattle.index.specs.Beside.{ImageBeside}
 use Rattle.placing.specs.Covers.{Covers}
 use Rattle.placing.specs.declared.Placing.{Placing}
 use Rattle.placing.specs.declared.Found.the-variants.{Placed, NoPlacing}
-use Rattle.finding.specs.Spot.{Vacant}
+use Rattle.changing.specs.finding.Spot.{Vacant}
 
 -- with what the header says; the request is in order
 pub record AskedBeside (s words : List ℕ) (book : Book) (q : Asked) : Type 0 where

@@ -12,7 +12,7 @@ use Rattle.index.specs.Index.{Beside}
 use Rattle.placing.specs.Marking.{Markable}
 use Rattle.opening.specs.Open.{WithRows, Outcome}
 use Rattle.opening.specs.Beside.{NewBeside}
-use Rattle.adding.specs.Puts.{OnePut, TwoPut}
+use Rattle.changing.specs.adding.Puts.{OnePut, TwoPut}
 
 -- the account does not pay for the routes; or the image has the rows, and the words are the index with them
 abbrev pub Keeps : List ℕ → Asked → List (List ℕ) → List Row → ℕ → ℕ → ℕ → List ℕ → List ℕ → Type 0

@@ -2,14 +2,15 @@
 ghost use Rattle.rules.specs.Records.{theAsked};
 ghost use Rattle.rules.specs.Calls.Request.{Open};
 ghost use Rattle.index.specs.Beside.{ImageBeside, Works};
-ghost use Rattle.finding.specs.Spot.{SpotOf, placeIn};
+ghost use Rattle.changing.specs.finding.Spot.{SpotOf, placeIn};
 ghost use Rattle.opening.specs.Open.{JudgedBy, OpensNew, OpensAsked};
 ghost use Rattle.opening.specs.Beside.{AskedBeside, NewBeside};
-use answers::Answer;
-use finding::Spot;
+use changing::finding::Spot;
 use image::Book;
 use routes::Reach;
 use rules::Asked;
+use rules::answers;
+use rules::answers::Answer;
 
 mod paying;
 mod ways;

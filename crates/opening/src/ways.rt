@@ -10,20 +10,23 @@ ghost use Rattle.rules.specs.Records.{theAsked, theRoute, theOffsets};
 ghost use Rattle.rules.specs.Book.{mostStreams, mostHops};
 ghost use Rattle.opening.specs.Open.{Routed, OpensNew};
 ghost use Rattle.rules.proofs.Reading.{bookIn};
-ghost use Rattle.adding.specs.Puts.{rowOn};
+ghost use Rattle.changing.specs.adding.Puts.{rowOn};
 ghost use Rattle.opening.specs.Keeping.{OneKept, TwoKept, Keeps};
 ghost use Rattle.opening.specs.Beside.{RouteAsked, RouteBeside, RoutesBeside, PlacedIn, PlacedOn, PlacedBeside, PlannedBeside, SecondBeside};
 use crate::paying;
-use answers::Answer;
+use changing::adding;
 use image::Book;
 use placing::Found;
 use placing::Placing;
+use placing::plain;
 use rules::Asked;
 use rules::Node;
 use rules::Placed;
 use rules::ROUTE_HOPS;
 use rules::Route;
 use rules::Slot;
+use rules::answers;
+use rules::answers::Answer;
 
 // Whether the book has no room for so many rows of so many hops.
 fn is_full(book: Book, rows: usize, hops: usize) -> bool

@@ -1,1 +1,2 @@
+pub mod balances
 pub mod Operations

@@ -4,6 +4,9 @@ ghost use Prim.Native.Nat.{_≤_};
 ghost use Rattle.rules.specs.Table.{onWay};
 ghost use Rattle.image.specs.Places.{rowAt, RowHere};
 ghost use Rattle.operations.specs.Operations.{whereWorking, StopOf, arrival, departure};
+
+pub mod balances;
+
 use rules::Node;
 
 // The operations: sleep,

@@ -16,11 +16,11 @@ use Rattle.rules.specs.Placing.{Free, FirstPlacing}
 use Rattle.rules.proofs.Greedy.{Places, placing-places, places-placing}
 use Rattle.rules.proofs.Lists.{at-in}
 use Rattle.rules.proofs.Meeting.{same-place, cycle-period}
-use Rattle.clash.specs.Reach.{Clashes}
-use Rattle.clash.proofs.Reaching.{clash-end, end-clash}
-use Rattle.plain.specs.Plain.{Weighs, HasEnd, MeetsRoute}
-use Rattle.plain.proofs.Agreeing.{agrees-meets, meets-agrees}
-use Rattle.plain.proofs.Beside.{IndexBeside, meets-some, some-meets}
+use Rattle.bitset.specs.clash.Reach.{Clashes}
+use Rattle.bitset.proofs.clash.Reaching.{clash-end, end-clash}
+use Rattle.placing.specs.plain.Plain.{Weighs, HasEnd, MeetsRoute}
+use Rattle.placing.proofs.plain.Agreeing.{agrees-meets, meets-agrees}
+use Rattle.placing.proofs.plain.Beside.{IndexBeside, meets-some, some-meets}
 use Rattle.placing.specs.Covers.{RowOn, Covers}
 use Rattle.placing.specs.Answers.{around, FreeBy, FreeAt, AnswersBy}
 use Rattle.placing.specs.declared.Found.{Found}

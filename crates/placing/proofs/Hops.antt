@@ -9,7 +9,7 @@ use Rattle.rules.specs.Topology.{mostRouteHops}
 use Rattle.rules.specs.Records.{theRoute, theOffsets}
 use Rattle.rules.specs.declared.Placed.{Placed}
 use Rattle.rules.proofs.Records.{node-at, offset-at, nodeOf, offsetOf, node-holds, offset-holds}
-use Rattle.clash.specs.Reach.{End, nodeAt}
+use Rattle.bitset.specs.clash.Reach.{End, nodeAt}
 use Rattle.index.specs.declared.Repeats.{Repeats}
 use Rattle.index.specs.Turns.{RepeatsOf, TakesIn, InIndex}
 use Rattle.index.specs.Marks.{Adds, HopsTake}

@@ -13,13 +13,13 @@ use Rattle.rules.proofs.Bytes.{period-small}
 use Rattle.rules.proofs.Greedy.{Least}
 use Rattle.rules.proofs.Records.{node-at, nodeOf, node-holds}
 use Rattle.rules.proofs.Tests.{fails, said-yes, said-no}
-use Rattle.clash.specs.Reach.{End, hop, Clashes, Between, ReachOf}
-use Rattle.clash.specs.declared.Reach.{Reach}
+use Rattle.bitset.specs.clash.Reach.{End, hop, Clashes, Between, ReachOf}
+use Rattle.bitset.specs.declared.clash.Reach.{Reach}
 use Rattle.index.specs.declared.Repeats.{Repeats}
 use Rattle.index.specs.Turns.{RepeatsOf}
 use Rattle.index.specs.Marks.{FirstQuiet, InReach, MeetsIn}
 use Rattle.index.proofs.Meets.{tests-in, reach-meets, meets-reach}
-use Rattle.plain.proofs.Alike.{agrees-for, route-for}
+use Rattle.placing.proofs.plain.Alike.{agrees-for, route-for}
 use Rattle.placing.specs.Answers.{Around, FreeBy, FreeAt, Searched, Asked}
 use Rattle.placing.specs.declared.Next.{Next}
 use Rattle.placing.specs.declared.Next.the-variants.{At, Nowhere}

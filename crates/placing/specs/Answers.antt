@@ -8,9 +8,9 @@ use Rattle.rules.specs.Tiles.{Plan, PlanInRange, Period}
 use Rattle.rules.specs.Topology.{Topology, nodes, SoundTopology, hopAt, hopCount, mostRouteHops}
 use Rattle.rules.specs.Book.{OnData}
 use Rattle.rules.proofs.Greedy.{Least, FirstPlaces, NoPlaces}
-use Rattle.clash.specs.Reach.{End, Clashes}
+use Rattle.bitset.specs.clash.Reach.{End, Clashes}
 use Rattle.index.specs.Marks.{MeetsIn}
-use Rattle.plain.specs.Plain.{RowsThere, Agrees, MeetsRoute}
+use Rattle.placing.specs.plain.Plain.{RowsThere, Agrees, MeetsRoute}
 use Rattle.placing.specs.declared.Next.{Next}
 use Rattle.placing.specs.declared.Next.the-variants.{At, Nowhere}
 use Rattle.placing.specs.declared.Found.{Found}

@@ -1,3 +1,4 @@
+pub mod plain
 pub mod Answers
 pub mod Marking
 pub mod Covers

@@ -6,15 +6,17 @@ ghost use Rattle.rules.specs.Tiles.{PlanInRange, Period};
 ghost use Rattle.rules.specs.Topology.{mostRouteHops};
 ghost use Rattle.rules.specs.Records.{thePlan, slotNumbers, theRoute, theOffsets};
 ghost use Rattle.bitset.specs.Rows.{topology};
-ghost use Rattle.clash.specs.Reach.{hop, Clashes, Between};
+ghost use Rattle.bitset.specs.clash.Reach.{hop, Clashes, Between};
 ghost use Rattle.index.specs.Turns.{RepeatsOf};
 ghost use Rattle.index.specs.Marks.{InReach, MeetsIn};
-ghost use Rattle.plain.specs.Plain.{RowsThere};
+ghost use Rattle.placing.specs.plain.Plain.{RowsThere};
 ghost use Rattle.placing.specs.Answers.{around, Standing, FreeBy, Searched, Asked, AnswersBy};
 
 pub mod marking;
+pub mod plain;
 
-use clash::Reach;
+use bitset::clash;
+use bitset::clash::Reach;
 use index::Repeats;
 use rules::Node;
 use rules::Placed;

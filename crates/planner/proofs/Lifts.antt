@@ -22,10 +22,10 @@ use Rattle.image.specs.declared.Book as head
 use Rattle.writer.specs.Over.{over}
 use Rattle.writer.proofs.Laws.{over-front}
 use Rattle.tables.specs.Entries.{Filled}
-use Rattle.answers.specs.Reply.{Reply}
-use Rattle.answers.proofs.Replies.{reply-refused, reply-next, reply-done}
+use Rattle.rules.specs.answers.Reply.{Reply}
+use Rattle.rules.proofs.answers.Replies.{reply-refused, reply-next, reply-done}
 use Rattle.lawful.specs.Verdict.{Verdict}
-use Rattle.purchasing.specs.Buying.{Buys}
+use Rattle.accounts.specs.purchasing.Buying.{Buys}
 
 -- ANY CALL
 

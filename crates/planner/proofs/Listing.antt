@@ -9,8 +9,8 @@ use Rattle.rules.specs.Image.{versionOf}
 use Rattle.rules.specs.Calls.{routesRefusals, Routes}
 use Rattle.rules.proofs.Reading.{bookIn, LawfulImage}
 use Rattle.lawful.specs.Verdict.{Verdict}
-use Rattle.choices.specs.declared.Choices.{Choices}
-use Rattle.choices.specs.Listing.{BookSays}
+use Rattle.routes.specs.declared.choices.Choices.{Choices}
+use Rattle.routes.specs.choices.Listing.{BookSays}
 use Rattle.planner.proofs.Lifts.{image-refused}
 
 pub routes-refused : {s words : List ℕ} {n : ℕ} (mains source destination : ℕ) (out : List ℕ) {r : Choices} → Verdict s n words → (n ≡ 0 → ⊥)

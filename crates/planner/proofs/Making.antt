@@ -12,8 +12,8 @@ use Rattle.rules.specs.Calls.{givenAccounts, AccountsGiven, TopologiesGiven, Ne
 use Rattle.rules.proofs.Written.{Bytes, drop-all, given-back, accounts-written, length-sets-at, length-accounts-at}
 use Rattle.writer.specs.Over.{over}
 use Rattle.writer.proofs.Laws.{over-front}
-use Rattle.answers.specs.Reply.{Reply}
-use Rattle.answers.proofs.Replies.{reply-refused, reply-next, reply-done}
+use Rattle.rules.specs.answers.Reply.{Reply}
+use Rattle.rules.proofs.answers.Replies.{reply-refused, reply-next, reply-done}
 
 -- the accounts that are given are written as they are given, behind their count
 accounts-back : (accounts : List ℕ) → AccountsGiven accounts → Bytes accounts → encodeAccounts (givenAccounts accounts) ≡ length accounts / 6 ∷ accounts

@@ -8,7 +8,7 @@ use Rattle.rules.specs.Calls.{Request, Serve}
 use Rattle.rules.proofs.Encoding.{version-back}
 use Rattle.rules.proofs.Reading.{bookIn, LawfulImage, book-back}
 use Rattle.rules.proofs.Mains.{post-alike}
-use Rattle.answers.specs.declared.Answer.{Answer}
+use Rattle.rules.specs.declared.answers.Answer.{Answer}
 use Rattle.posting.specs.Posting.{PostsOne, AllNodes}
 
 -- what holds a book is a lawful image

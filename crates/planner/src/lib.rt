@@ -11,15 +11,22 @@ ghost use Rattle.rules.proofs.Reading.{bookIn, LawfulImage};
 ghost use Rattle.image.specs.Header.{HeaderOf};
 ghost use Rattle.posting.specs.Posting.{Posts};
 ghost use Rattle.planner.specs.Balances.{BalanceSays};
-use answers::Answer;
-use choices::Choices;
+use accounts::purchasing;
 use image::Book;
+use image::fields;
+use operations::balances;
 use posting::Request;
+use rescue::salvaging;
+use rescue::salvaging::Salvaged;
+use routes::choices;
+use routes::choices::Choices;
+use rows::keeping;
 use rules::Asked;
 use rules::Node;
 use rules::Plan;
 use rules::Tile;
-use salvaging::Salvaged;
+use rules::answers;
+use rules::answers::Answer;
 
 mod interface;
 

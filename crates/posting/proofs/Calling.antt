@@ -23,10 +23,10 @@ use Rattle.rules.proofs.Reading.{bookIn, LawfulImage, NewestImage, newest-book,
 use Rattle.index.specs.Index.{Beside}
 use Rattle.index.proofs.Whole.{whole, whole-length, whole-lent}
 use Rattle.lawful.specs.Verdict.{Verdict}
-use Rattle.transcribing.specs.Again.{Transcribed}
+use Rattle.writer.specs.transcribing.Again.{Transcribed}
 use Rattle.writer.specs.Over.{over}
 use Rattle.writer.proofs.Laws.{over-front}
-use Rattle.answers.specs.declared.Answer.{Answer}
+use Rattle.rules.specs.declared.answers.Answer.{Answer}
 use Rattle.posting.specs.declared.Request.{Request}
 use Rattle.posting.specs.declared.State.{State}
 use Rattle.posting.specs.declared.Answered.{Answered}

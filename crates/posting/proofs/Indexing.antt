@@ -15,8 +15,8 @@ use Rattle.index.specs.Index.{Ends}
 use Rattle.index.specs.Areas.{wordAt}
 use Rattle.index.specs.Folding.{Lent}
 use Rattle.index.proofs.Ends.{lent-ends}
-use Rattle.clash.specs.Reach.{End, nodeAt}
-use Rattle.clash.specs.Reach.End.{sender, receiver}
+use Rattle.bitset.specs.clash.Reach.{End, nodeAt}
+use Rattle.bitset.specs.clash.Reach.End.{sender, receiver}
 
 -- THE INDEX of a lawful book
 module _ {b : Book} (l : LawfulBook b) where

@@ -3,7 +3,7 @@ use mathlib.Core.Path.{_≡_, refl, sym, ap, _∙_}
 use mathlib.Core.List.{List, [], _∷_, head-eq-of-cons-eq, tail-eq-of-cons-eq}
 use Prim.Native.Nat.{ℕ}
 use Rattle.rules.proofs.Unique.{Same, one-post}
-use Rattle.answers.specs.declared.Answer.{Answer}
+use Rattle.rules.specs.declared.answers.Answer.{Answer}
 use Rattle.posting.specs.declared.Request.{Request}
 use Rattle.posting.specs.Records.{theRequests, answers, withAnswer, OnlyMarked}
 use Rattle.posting.specs.Posting.{Posts}

@@ -16,7 +16,7 @@ use Rattle.rules.specs.Index.{indexLength}
 use Rattle.rules.proofs.Reading.{LawfulImage}
 use Rattle.index.specs.Index as inner
 use Rattle.index.specs.Folding.{Lent}
-use Rattle.answers.specs.declared.Answer.{Answer}
+use Rattle.rules.specs.declared.answers.Answer.{Answer}
 use Rattle.posting.specs.declared.Request.{Request}
 use Rattle.posting.specs.declared.Outcome.{Outcome}
 use Rattle.posting.specs.declared.State.{State}

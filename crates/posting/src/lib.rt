@@ -9,8 +9,10 @@ ghost use Rattle.rules.proofs.Reading.{LawfulImage};
 ghost use Rattle.posting.specs.Records.{theRequest};
 ghost use Rattle.posting.specs.Standing.{Standing};
 ghost use Rattle.posting.specs.Posting.{AnsweredNext, PostedAll, Words, Unmarked, Begun, Finished, Settled, Posts, PostsOne, AllNodes, listed, PostsFirst};
-use answers::Answer;
 use image::Book;
+use rules::answers;
+use rules::answers::Answer;
+use writer::transcribing;
 
 // A list has up to 64 requests.
 pub const MOST: usize = 64;

@@ -4,19 +4,21 @@ ghost use Prim.Native.Nat.{_≤_};
 ghost use lib.ListN.{length, take, drop};
 ghost use Rattle.rules.specs.Image.{headerLength};
 ghost use Rattle.index.specs.Beside.{ImageBeside, Works};
-ghost use Rattle.finding.specs.Spot.{SpotOf, placeIn};
+ghost use Rattle.changing.specs.finding.Spot.{SpotOf, placeIn};
 ghost use Rattle.writer.specs.Over.{over};
 ghost use Rattle.posting.specs.Records.{theRequest};
 ghost use Rattle.posting.specs.Standing.{Standing};
 ghost use Rattle.posting.specs.Posting.{Worked};
 use crate::Outcome;
 use crate::Request;
-use answers::Answer;
-use finding::Spot;
+use changing::closing;
+use changing::finding;
+use changing::finding::Spot;
 use image::Book;
 use rules::Asked;
 use rules::Node;
 use rules::Tile;
+use rules::answers::Answer;
 
 // Opens, with only members of the set in the middle of a route, or closes a stream, which has its spot in the image, on the
 // image and its index, and lays out the image after it from there on.

@@ -1,3 +1,4 @@
+pub mod choices
 pub mod Planner
 pub mod Levels
 pub mod Second

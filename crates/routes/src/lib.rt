@@ -13,6 +13,7 @@ use rules::Node;
 use rules::ROUTE_HOPS;
 use rules::Route;
 
+pub mod choices;
 pub mod second;
 
 // Whether there is a route: of at most 15 hops, only of more, or none.

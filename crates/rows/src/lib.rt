@@ -22,6 +22,7 @@ use pair::SECOND;
 use rules::Plan;
 use rules::Tile;
 
+pub mod keeping;
 pub mod pair;
 
 // Whether the row has an id, and is the first way of its stream or the second.

@@ -4,9 +4,9 @@ use Prim.Native.Nat.{ℕ, _+_, _≤_}
 use lib.ListN.{length}
 use Rattle.streams.specs.Streams.{Within}
 use Rattle.streams.specs.declared.Streams.{Streams}
-use Rattle.printing.specs.Room.{nodesRoom}
-use Rattle.statements.specs.Figures.{mostNodes}
-use Rattle.months.specs.declared.Month.{Month}
+use Rattle.figures.specs.printing.Room.{nodesRoom}
+use Rattle.figures.specs.statements.Figures.{mostNodes}
+use Rattle.figures.specs.declared.months.Month.{Month}
 use Rattle.statement.specs.declared.Run.{Run}
 
 -- the streams lie within their buffers, and the output has room for every line

@@ -2,14 +2,17 @@
 ghost use mathlib.Core.Path.{_≡_};
 ghost use Prim.Native.Nat.{_-_, _≤_};
 ghost use lib.ListN.{length};
-ghost use Rattle.printing.specs.Room.{nodesRoom};
-ghost use Rattle.statements.specs.Figures.{mostNodes};
+ghost use Rattle.figures.specs.printing.Room.{nodesRoom};
+ghost use Rattle.figures.specs.statements.Figures.{mostNodes};
 ghost use Rattle.statement.specs.Pairs.{Ready, MonthPut, mostBefore, Turned};
-ghost use Rattle.statements.specs.Passes.{Few};
+ghost use Rattle.figures.specs.statements.Passes.{Few};
+use figures::months;
+use figures::months::Month;
+use figures::printing;
+use figures::statements;
+use figures::statements::Figures;
+use figures::statements::Totals;
 use libc::STDOUT_FILENO;
-use months::Month;
-use statements::Figures;
-use statements::Totals;
 use streams::Streams;
 
 // At most so many pairs are read.

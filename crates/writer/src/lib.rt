@@ -9,6 +9,9 @@ ghost use Rattle.rules.specs.Book.{mostAccounts};
 ghost use Rattle.rules.specs.Records.{thePlan, theRoute, theOffsets};
 ghost use Rattle.rules.specs.Image.{newest, rowLength, headerLength, word, inTurn, encodeHeader, encodeRow};
 ghost use Rattle.writer.specs.Over.{over, headed};
+
+pub mod transcribing;
+
 use rules::Placed;
 use rules::Plan;
 use rules::Route;

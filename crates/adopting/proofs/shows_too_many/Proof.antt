@@ -2,7 +2,7 @@
 use mathlib.Core.Path.{refl}
 use native.Mathlib.Omega.{arith}
 use Rattle.rules.specs.Records.{thePlan}
-use Rattle.drafting.proofs.Image.{count-fits}
+use Rattle.adopting.proofs.drafting.Image.{count-fits}
 use Rattle.adopting.proofs.Counting.{tests-many}
 use borrow.Author.Needs.{needs}
 use Rattle.adopting.proofs.shows_too_many.Statement.{statement}

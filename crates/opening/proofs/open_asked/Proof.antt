@@ -10,9 +10,9 @@ use Rattle.rules.specs.Image.{accountsOf}
 use Rattle.rules.specs.Records.{theAsked}
 use Rattle.rules.proofs.Tests.{fails}
 use Rattle.accounts.proofs.Sums.{stored-list}
-use Rattle.finding.specs.declared.Spot.{Spot}
-use Rattle.finding.specs.Spot.{SpotOf, placeIn}
-use Rattle.finding.proofs.Ids.{vacant-unknown, taken-known}
+use Rattle.changing.specs.declared.finding.Spot.{Spot}
+use Rattle.changing.specs.finding.Spot.{SpotOf, placeIn}
+use Rattle.changing.proofs.finding.Ids.{vacant-unknown, taken-known}
 use Rattle.opening.specs.Open.{OpensAsked}
 use Rattle.opening.proofs.Outcomes.{out-refused, out-next}
 use Rattle.opening.proofs.open_asked.Statement.{statement}

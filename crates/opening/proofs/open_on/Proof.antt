@@ -1,7 +1,7 @@
 -- A request that is out of order is refused; any other is opened.
 use mathlib.Core.Path.{subst}
 use borrow.Author.Needs.{needs}
-use Rattle.finding.proofs.Ids.{stored-long}
+use Rattle.changing.proofs.finding.Ids.{stored-long}
 use Rattle.opening.specs.Open.{JudgedBy}
 use Rattle.opening.proofs.Judging.{judged-refused, judged-opens, judged-beside}
 use Rattle.opening.proofs.open_on.Statement.{statement}

@@ -2,7 +2,7 @@
 use borrow.Author.Needs.{needs}
 use Rattle.rules.specs.Records.{thePlan, theRoute, theOffsets}
 use Rattle.bitset.specs.Rows.{topology}
-use Rattle.clash.specs.Reach.{hop}
+use Rattle.bitset.specs.clash.Reach.{hop}
 use Rattle.placing.specs.Answers.{around}
 use Rattle.placing.proofs.Searching.{search-law}
 use Rattle.placing.proofs.next_offset.Statement.{statement}

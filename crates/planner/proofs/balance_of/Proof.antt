@@ -1,6 +1,6 @@
 -- A balance says the image's refusal or 4, or the node's slots.
 use mathlib.Core.Path.{refl}
-use Rattle.finding.proofs.Ids.{stored-long}
+use Rattle.changing.proofs.finding.Ids.{stored-long}
 use Rattle.planner.proofs.Lifts.{balance-refused, balance-unknown, balance-done}
 use borrow.Author.Needs.{needs}
 use Rattle.planner.proofs.balance_of.Statement.{statement}

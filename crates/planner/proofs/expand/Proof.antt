@@ -6,7 +6,7 @@ use borrow.Author.Tests.{not-true, not-false}
 use Rattle.rules.specs.Tiles.{Plan}
 use Rattle.rules.specs.Table.{tableLength}
 use Rattle.rules.proofs.Tests.{fails}
-use Rattle.finding.proofs.Ids.{stored-long}
+use Rattle.changing.proofs.finding.Ids.{stored-long}
 use Rattle.planner.proofs.Lifts.{expand-refused, plan-held, expand-unknown, expand-outside, expand-short, expand-done}
 use Rattle.planner.proofs.expand.Statement.{statement}
 use Rattle.planner.proofs.expand.Tie as tie

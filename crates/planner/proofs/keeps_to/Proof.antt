@@ -5,7 +5,7 @@ use borrow.Author.Needs.{needs}
 use borrow.Author.Tests.{not-true, not-false}
 use Rattle.rules.proofs.Tests.{fails}
 use Rattle.rules.proofs.Mains.{stored-nodes}
-use Rattle.finding.proofs.Ids.{stored-long}
+use Rattle.changing.proofs.finding.Ids.{stored-long}
 use Rattle.planner.proofs.Keeping.{keeps-refused, keeps-beyond, keeps-done}
 use Rattle.planner.proofs.keeps_to.Statement.{statement}
 use Rattle.planner.proofs.keeps_to.Tie as tie

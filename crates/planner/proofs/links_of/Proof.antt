@@ -1,7 +1,7 @@
 -- Links say the image's refusal or 4, or how many the node has.
 use mathlib.Core.Path.{refl}
 use native.Mathlib.Omega.{arith}
-use Rattle.finding.proofs.Ids.{stored-long}
+use Rattle.changing.proofs.finding.Ids.{stored-long}
 use Rattle.planner.proofs.Links.{links-refused, links-unknown, links-done}
 use borrow.Author.Needs.{needs}
 use Rattle.planner.proofs.links_of.Statement.{statement}

@@ -6,7 +6,7 @@ use borrow.Author.Needs.{needs}
 use Rattle.rules.specs.Topology.{allNodes}
 use Rattle.rules.specs.Image.{nodesOf}
 use Rattle.rules.proofs.Mains.{stored-nodes}
-use Rattle.finding.proofs.Ids.{stored-long}
+use Rattle.changing.proofs.finding.Ids.{stored-long}
 use Rattle.posting.proofs.all_nodes.Statement.{statement}
 use Rattle.posting.proofs.all_nodes.Tie as tie
 

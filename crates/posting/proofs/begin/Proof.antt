@@ -9,7 +9,7 @@ use Rattle.rules.specs.Words.{NoBitFrom}
 use Rattle.rules.specs.Image.{nodesOf}
 use Rattle.rules.proofs.Tests.{fails}
 use Rattle.rules.proofs.Mains.{stored-nodes}
-use Rattle.finding.proofs.Ids.{stored-long}
+use Rattle.changing.proofs.finding.Ids.{stored-long}
 use Rattle.posting.proofs.Calling.{begun-image, begun-beyond, begun-many, begun-short, begun-narrow, begun-done}
 use Rattle.posting.proofs.begin.Statement.{statement}
 use Rattle.posting.proofs.begin.Tie as tie

@@ -52,9 +52,9 @@ use denote.Exit.{yes}
 use Rattle.rules.specs.Image.{newest, longestImage, planOf}
 use Rattle.rules.specs.Index as rules
 use Rattle.index.specs.Index.{indexLength}
-use Rattle.answers.specs.declared.Answer.{Answer}
-use Rattle.answers.proofs.Answer as An
-use Rattle.answers.proofs.Answer.Laws as An′
+use Rattle.rules.specs.declared.answers.Answer.{Answer}
+use Rattle.rules.proofs.answers.Answer as An
+use Rattle.rules.proofs.answers.Answer.Laws as An′
 use Rattle.posting.specs.declared.Request.{Request}
 use Rattle.posting.specs.declared.State.{State}
 use Rattle.posting.specs.Standing.{Standing}

@@ -8,7 +8,7 @@ use lib.Seq.{length-take-le}
 use Rattle.rules.specs.Tiles.{Plan}
 use Rattle.rules.specs.Image.{planOf}
 use Rattle.index.specs.Folding.{Lent}
-use Rattle.finding.proofs.Ids.{stored-long}
+use Rattle.changing.proofs.finding.Ids.{stored-long}
 use Rattle.posting.proofs.settle.Statement.{statement}
 use Rattle.posting.proofs.settle.Tie as tie
 

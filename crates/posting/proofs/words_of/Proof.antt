@@ -2,7 +2,7 @@
 use mathlib.Core.Path.{ap}
 use native.Mathlib.Omega.{arith}
 use Rattle.rules.specs.Tiles.{Plan}
-use Rattle.finding.proofs.Ids.{stored-long}
+use Rattle.changing.proofs.finding.Ids.{stored-long}
 use Rattle.posting.proofs.words_of.Statement.{statement}
 use Rattle.posting.proofs.words_of.Tie as tie
 

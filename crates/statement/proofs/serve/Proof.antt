@@ -4,7 +4,7 @@ use borrow.Author.Needs.{needs}
 use Prim.Native.Nat.{_*_, _-_, _≤_}
 use mathlib.Core.Path.{_≡_}
 use lib.ListN.{length}
-use Rattle.statements.specs.Passes.{Few}
+use Rattle.figures.specs.statements.Passes.{Few}
 use Rattle.statement.specs.Pairs.{Ready, mostOfPair}
 use Rattle.statement.proofs.serve.Statement.{statement}
 use Rattle.statement.proofs.serve.Tie as tie

@@ -4,7 +4,7 @@ use Prim.Native.Nat.{ℕ}
 use borrow.Author.Needs.{needs}
 use Rattle.rules.specs.Words.{Has}
 use Rattle.bitset.specs.Sets.{SetOf}
-use Rattle.clash.specs.declared.Reach.{Reach}
+use Rattle.bitset.specs.declared.clash.Reach.{Reach}
 use Rattle.index.specs.Marks.{Common}
 use Rattle.index.specs.Marks.Common.{sends, receives}
 use Rattle.index.proofs.slots.in_reach.Statement.{statement}

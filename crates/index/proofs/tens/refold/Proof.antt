@@ -4,7 +4,7 @@ use native.Mathlib.Omega.{arith}
 use borrow.Author.Needs.{needs}
 use mathlib.Core.Path.{_≡_}
 use Rattle.bitset.specs.Sets.{SetOf}
-use Rattle.clash.specs.Reach.End.{sender, receiver}
+use Rattle.bitset.specs.clash.Reach.End.{sender, receiver}
 use Rattle.index.specs.Areas.{quickTiles, quickPlace, foldPlace, indexSlots}
 use Rattle.index.proofs.Folding.{FirstTens, tens-none, tens-more, all-tens, refolds, ten-low}
 use Rattle.index.proofs.tens.refold.Statement.{statement}

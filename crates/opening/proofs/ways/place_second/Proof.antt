@@ -2,7 +2,7 @@
 use mathlib.Core.Logic.{inl, inr}
 use native.Mathlib.Omega.{arith}
 use Rattle.rules.specs.Records.{theAsked, theRoute, theOffsets}
-use Rattle.adding.specs.Puts.{rowOn}
+use Rattle.changing.specs.adding.Puts.{rowOn}
 use Rattle.opening.proofs.Outcomes.{out-refused, out-next}
 use Rattle.opening.proofs.Placed.{covers-first, beside-asked}
 use Rattle.opening.proofs.Routed.{routed-in, new-row}

@@ -1,0 +1,4 @@
+pub mod reader
+pub mod finding
+pub mod adding
+pub mod closing

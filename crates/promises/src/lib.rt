@@ -1,1 +1,0 @@
-// What the calls promise, as theorems for a reader: the crate is its proofs.

@@ -1,9 +1,0 @@
--- One byte more than the longest image has shows that an image is longer.
-use native.Mathlib.Omega.{arith}
-use borrow.Author.Needs.{needs}
-use Rattle.statements.proofs.Fronts.{all-decide, front-decides}
-use Rattle.statements.proofs.front.Statement.{statement}
-use Rattle.statements.proofs.front.Tie as tie
-
-pub front-spec : {M : Type 1} → statement M
-front-spec = tie.close (tie.spec (λ c. search needs) (λ c. all-decide _) (λ c. front-decides _ _ (omega arith) (omega arith)))

@@ -1,0 +1,3 @@
+pub mod model
+pub mod order
+pub mod promises
