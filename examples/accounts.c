@@ -42,21 +42,26 @@ static void settle(uint8_t number, size_t written) {
 
 static void open_stream(uint16_t id, uint8_t source, uint8_t destination, uint16_t period, uint16_t account) {
     size_t written;
+    uint8_t number;
     printf("Stream %u from %u to %u every %u tiles, paid by account %u: ", id, source, destination, period, account);
-    settle(lindurask_open(book, length, id, source, destination, period, false, account, next, sizeof images[0], &written),
-           written);
+    number = lindurask_open(book, length, id, source, destination, period, false, account, next, sizeof images[0], &written);
+    settle(number, written);
 }
 
 static void close_stream(uint16_t id) {
     size_t written;
+    uint8_t number;
     printf("Stream %u closed: ", id);
-    settle(lindurask_close(book, length, id, next, sizeof images[0], &written), written);
+    number = lindurask_close(book, length, id, next, sizeof images[0], &written);
+    settle(number, written);
 }
 
 static void buy(uint16_t account, uint32_t amount) {
     size_t written;
+    uint8_t number;
     printf("Account %u buys %" PRIu32 ": ", account, amount);
-    settle(lindurask_purchase(book, length, account, amount, next, sizeof images[0], &written), written);
+    number = lindurask_purchase(book, length, account, amount, next, sizeof images[0], &written);
+    settle(number, written);
 }
 
 /* What the accounts have bought: behind the 16 bytes of the header stand their number and 6 bytes for each. */
