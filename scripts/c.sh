@@ -2,6 +2,7 @@
 # SOURCE WORDS.. builds a C program over it with these words for the compiler. The archive is for x86-64; elsewhere the
 # kit's compiler and linker build the program, with the machine's own headers, and scripts/runner.sh says how it runs.
 # LINDURASK_ARCHIVE names another archive.
+. "$(dirname "${BASH_SOURCE[0]}")/prover.sh"
 archive=${LINDURASK_ARCHIVE:-target/staticlib/libplanner.a}
 
 planner_archive() {
@@ -9,7 +10,7 @@ planner_archive() {
         return
     fi
     if [ ! -f "$archive" ] || [ -n "$(find crates crates.txt -newer "$archive" -type f -print -quit)" ]; then
-        rt staticlib planner >&2
+        prover staticlib planner >&2
     fi
 }
 
