@@ -1,9 +1,17 @@
 // The rows of a topology as they stand in an image, read into an array.
 pub mod soundness;
 
-ghost use Prim.Native.Nat.{_+_, _*_, _≤_};
+ghost use Prim.Native.Nat.{_+_, _*_, _<_, _≤_};
 ghost use lib.ListN.{length};
 ghost use Rattle.image.specs.Places.{Sets};
+
+// Reads row i of a topology from a place on, behind those before it.
+fn read_row(image: &[u8], at: usize, i: usize, rows: &mut [u64; 64])
+    requires { ⌜ (i < 64) × (at + 8 * (i + 1) ≤ length (now image)) × Sets (now image) at i (now rows) ⌝ }
+    ensures { λ _. ⌜ Sets (now (image .entry)) at (i + 1) (now (rows .exit)) ⌝ }
+{
+    rows[i] = image::word64_at(image, at + image::SET * i);
+}
 
 // Reads rows of a topology, of which there are n from a place on, into zeros, four at a time; how many were read.
 fn read_fours(image: &[u8], at: usize, n: usize, rows: &mut [u64; 64]) -> usize
@@ -12,11 +20,10 @@ fn read_fours(image: &[u8], at: usize, n: usize, rows: &mut [u64; 64]) -> usize
 {
     let mut i: usize = 0;
     while i + 3 < n {
-        let place = at + image::SET * i;
-        rows[i] = image::word64_at(image, place);
-        rows[i + 1] = image::word64_at(image, place + image::SET);
-        rows[i + 2] = image::word64_at(image, place + 2 * image::SET);
-        rows[i + 3] = image::word64_at(image, place + 3 * image::SET);
+        read_row(image, at, i, rows);
+        read_row(image, at, i + 1, rows);
+        read_row(image, at, i + 2, rows);
+        read_row(image, at, i + 3, rows);
         i += 4;
     }
     i
@@ -30,7 +37,7 @@ pub fn sets(image: &[u8], at: usize, n: usize) -> [u64; 64]
     let mut rows = [0u64; 64];
     let mut i = read_fours(image, at, n, &mut rows);
     while i < n {
-        rows[i] = image::word64_at(image, at + image::SET * i);
+        read_row(image, at, i, &mut rows);
         i += 1;
     }
     rows
