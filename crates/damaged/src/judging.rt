@@ -9,9 +9,10 @@ ghost use Rattle.rules.specs.Words.{Tests};
 ghost use Rattle.rules.specs.Tiles.{PlanInRange, Period, shortTiles};
 ghost use Rattle.rules.specs.Book.{hops};
 ghost use Rattle.rules.specs.Image.{planOf};
-ghost use Rattle.index.specs.Marks.{InReach};
+ghost use Rattle.index.specs.Index.{indexLength};
+ghost use Rattle.index.specs.Marks.{Adds, HopsTake, InReach};
 ghost use Rattle.image.specs.Places.{rowAt, Whole};
-ghost use Rattle.lawful.specs.meeting.Meeting.{RowPlaced, HearingRead};
+ghost use Rattle.rows.specs.Hops.{RowPlaced, HearingRead};
 ghost use Rattle.damaged.specs.judging.Placed.{placed, RowsPlaced, WeighsPlaced, AgreesPlaced, HopAgrees, RowAgrees, RowMeets, RowBeside};
 ghost use Rattle.damaged.specs.judging.Keeping.{SiteRead, HeaderRead, SomeBeside, Room, ReasonFor, KeptMore, Judges};
 use accounts::purses;
@@ -19,7 +20,6 @@ use bitset::clash;
 use bitset::clash::Reach;
 use image::Book;
 use index::Repeats;
-use lawful::meeting;
 use placing::plain;
 use rules::Slot;
 use rules::Tile;
@@ -224,24 +224,39 @@ fn reason_at(
     0
 }
 
+// Marks every hop of the row.
+fn mark_row(image: &[u8], at: usize, repeats: Repeats, index: &mut [u64; index::WORDS])
+    requires { ⌜ RowPlaced (now image) at repeats × (length (now index) ≡ indexLength) ⌝ }
+    ensures { λ _. ⌜ Adds (HopsTake (planOf (now (image .entry)) .slots) (rowAt (now (image .entry)) at) (hops (rowAt (now (image .entry)) at))) (now (index .entry)) (now (index .exit)) ⌝ }
+{
+    let h = image::hops_at(image, at);
+    let nodes = image::hops_place_in(image) + 1;
+    let mut i = 0;
+    while i < h {
+        let from = image::node_in(image, at, nodes, i);
+        let to = image::node_in(image, at, nodes, i + 1);
+        let offset = image::offset_in(image, at, nodes, h, i);
+        index::put(index, repeats, offset, from, to);
+        i += 1;
+    }
+}
+
 // Keeps a row that no reason is given against: it is counted, its place noted, it draws from its account and is put into the index.
 fn keep(
     image: &[u8],
     book: Book,
-    hearing: &[u64],
     at: usize,
     kept: Kept,
     places: &mut [usize; plain::ROWS],
     left: &mut [u32; Book::ACCOUNTS],
     index: &mut [u64; index::WORDS],
 ) -> Kept
-    requires { ⌜ HeaderRead (now image) book (now hearing) × SomeBeside (now image) kept (now places) (now left) (now index) × ReasonFor (now image) at kept (now places) (now left) (now index) 0 ⌝ }
+    requires { ⌜ HeaderRead (now image) book × SomeBeside (now image) kept (now places) (now left) (now index) × ReasonFor (now image) at kept (now places) (now left) (now index) 0 ⌝ }
     ensures { λ r. ⌜ KeptMore (now (image .entry)) at kept (now (places .entry)) (now (left .entry)) (now (index .entry)) r (now (places .exit)) (now (left .exit)) (now (index .exit)) ⌝ }
 {
     let period = image::period_at(image, at);
     let repeats = index::repeats_of(book.plan.slots, period);
-    let none = [0u16; plain::ROWS];
-    meeting::row_meets(image, hearing, at, repeats, at, 0, &none, index);
+    mark_row(image, at, repeats, index);
     index::note(index, period);
     purses::draw(image, book, at, left);
     let n = kept.rows;
@@ -275,6 +290,6 @@ pub fn judge(
     }
     Judged {
         reason,
-        kept: keep(image, book, hearing, at, kept, places, left, index),
+        kept: keep(image, book, at, kept, places, left, index),
     }
 }

@@ -8,7 +8,8 @@ ghost use Rattle.rules.specs.Image.{planOf, versionOf, hopsPlace};
 ghost use Rattle.index.specs.Index.{indexLength};
 ghost use Rattle.image.specs.Places.{rowAt};
 ghost use Rattle.placing.specs.plain.Plain.{RowsThere};
-ghost use Rattle.lawful.specs.meeting.Meeting.{HopMarked, RowMarked, RowCompared, RowsIndexed, RowPlaced, RowBehind, HearingRead, HopsRead};
+ghost use Rattle.rows.specs.Hops.{RowPlaced, HearingRead};
+ghost use Rattle.lawful.specs.meeting.Meeting.{HopMarked, RowMarked, RowCompared, RowsIndexed, RowBehind, HopsRead};
 use bitset::clash;
 use image::Book;
 use index::Repeats;
@@ -49,7 +50,7 @@ fn hop_meets(
 }
 
 // Marks the row's hops up to the first that meets one of the rows before; whether there is such a hop.
-pub fn row_meets(
+fn row_meets(
     image: &[u8],
     hearing: &[u64],
     at: usize,

@@ -5,3 +5,4 @@ pub mod Pairs
 pub mod Walks
 pub mod Filling
 pub mod Paying
+pub mod Hops

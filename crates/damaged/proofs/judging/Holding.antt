@@ -26,7 +26,7 @@ use Rattle.placing.proofs.plain.Agreeing.{row-agrees-meets, row-meets-agrees}
 use Rattle.placing.proofs.plain.Alike.{row-for}
 use Rattle.placing.proofs.plain.Beside.{row-clashing, clashing-row}
 use Rattle.rows.specs.Walk.{RowStands}
-use Rattle.lawful.specs.meeting.Meeting.{HopIndexed}
+use Rattle.rows.specs.Hops.{HopIndexed}
 use Rattle.damaged.specs.judging.Placed.{placed, RowsPlaced, WeighsPlaced, AgreesPlaced, MeetsPlaced, HopAgrees, RowAgrees, RowMeets}
 
 -- the first values have P, and one more that is set behind them

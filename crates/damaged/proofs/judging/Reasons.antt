@@ -1,7 +1,7 @@
 -- A row beside the rows kept: what each test says of it, and the rows once it is one of them.
 use mathlib.Core.Path.{_≡_, refl, sym, ap, _∙_, subst}
 use mathlib.Core.Logic.{inl, inr, ⊎-elim}
-use mathlib.Core.Bool.{Bool, true, false}
+use mathlib.Core.Bool.{Bool, false}
 use mathlib.Core.List.{List, [], _∷_, _++_}
 use Prim.Native.Nat.{ℕ, _+_, _<_, _≤_}
 use native.Mathlib.Omega.{arith}
@@ -25,8 +25,7 @@ use Rattle.accounts.specs.Lists.{LeftBy, MayDraw, DrawsMore, CanDraw}
 use Rattle.placing.specs.plain.Plain.{RowThere}
 use Rattle.rows.specs.Walk.{RowStands}
 use Rattle.rows.specs.Pairs.{Follows}
-use Rattle.lawful.specs.meeting.Meeting.{RowMarked}
-use Rattle.lawful.proofs.meeting.Reaching.{row-there}
+use Rattle.rows.proofs.Hops.{row-there}
 use Rattle.damaged.specs.declared.judging.Kept.{Kept}
 use Rattle.damaged.specs.judging.Placed.{placed, RowMeets, RowBeside}
 use Rattle.damaged.specs.judging.Keeping.{Beside, SomeBeside, Room, ReasonFor, KeptMore, Judges}
@@ -141,20 +140,7 @@ module _ {s : List ℕ} {at : ℕ} {kept : Kept} {places left words : List ℕ} 
       room (yes l) = l
       room (no f) = absurd (says-none (dropReasons (versionOf s) (bookOf s rows) (rowAt s at)) (omega arith) (reason .says rows w) .1 .0 (inl (omega (arith, w .count))))
 
-  -- it meets none of the rows kept, by the index
-  pub meets-none : FieldsInRange s → SomeBeside s kept places left words → RowMeets words s places (kept .rows) at → ⊥
-  meets-none fields (rows, w) m =
-      let said = says-none (dropReasons (versionOf s) (bookOf s rows) (rowAt s at)) (omega arith) (reason .says rows w) in
-      said .1 .1 .0 (found at w fields (reason .stays refl rows w .row) m)
-
-  -- so that its hops are all marked
-  pub marked-all : FieldsInRange s → SomeBeside s kept places left words → {start : ℕ} {moduli words′ : List ℕ} {t : Bool} → RowMarked s start 0 moduli at words words′ t
-      → Adds (HopsTake (planOf s .slots) (rowAt s at) (hops (rowAt s at))) words words′
-  marked-all fields some {t = true} m =
-      let h = m .met .yes refl in
-      absurd (meets-none fields some (h .0, h .1, ⊎-elim (λ k. inl k) (λ k. absurd (omega (arith, k .there))) (h .2)))
-  marked-all fields some {t = false} m = m .adds refl
-
+  -- and it is kept
   pub kept-more : FieldsInRange s → {kept′ : Kept} {places′ left′ words′ words″ : List ℕ} {K : ℕ} → kept′ .rows ≡ kept .rows + 1 → kept′ .hops ≡ kept .hops + hops (rowAt s at)
       → kept′ .before ≡ at → kept′ .last ≡ key (rowAt s at) → places′ ≡ set places (kept .rows) at
       → Adds (HopsTake (planOf s .slots) (rowAt s at) (hops (rowAt s at))) words words′ → K ≡ rowAt s at .period → Notes K words′ words″

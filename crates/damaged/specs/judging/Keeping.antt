@@ -15,7 +15,7 @@ use Rattle.image.specs.declared.Book.{Book}
 use Rattle.accounts.specs.Lists.{ListRead, LeftBy}
 use Rattle.rows.specs.Frame.{ReadFrom}
 use Rattle.rows.specs.Walk.{RowStands}
-use Rattle.lawful.specs.meeting.Meeting.{HearingRead}
+use Rattle.rows.specs.Hops.{HearingRead}
 use Rattle.damaged.specs.declared.judging.Kept.{Kept}
 use Rattle.damaged.specs.declared.judging.Judged.{Judged}
 use Rattle.damaged.specs.judging.Placed.{placed, RowsPlaced}
@@ -25,11 +25,10 @@ pub record SiteRead (s : List ℕ) (b : Book) (links hearing : List ℕ) : Type 
   pub read : ReadFrom s b links
   pub heard : HearingRead s hearing
 
--- and before one is kept: its header, its accounts and its hearing
-pub record HeaderRead (s : List ℕ) (b : Book) (hearing : List ℕ) : Type 0 where
+-- and before one is kept: its header and its accounts
+pub record HeaderRead (s : List ℕ) (b : Book) : Type 0 where
   pub fields : FieldsInRange s
   pub list : ListRead s b
-  pub heard : HearingRead s hearing
 
 -- these rows were kept and stand at the places, the last of them where it is said to, so much is left of each account, and the words are their index
 pub record Beside (s : List ℕ) (kept : Kept) (places left words : List ℕ) (rows : List Row) : Type 0 where

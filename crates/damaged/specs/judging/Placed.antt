@@ -12,7 +12,7 @@ use Rattle.index.specs.Index.{slowPlace}
 use Rattle.image.specs.Places.{rowAt}
 use Rattle.placing.specs.plain.Plain.{LeftOut, Weighed, RowThere, AgreesRow, MeetsRow}
 use Rattle.rows.specs.Walk.{RowStands}
-use Rattle.lawful.specs.meeting.Meeting.{HopIndexed}
+use Rattle.rows.specs.Hops.{HopIndexed}
 
 -- the row at place i
 abbrev pub placed : List ℕ → List ℕ → ℕ → Row

@@ -26,7 +26,7 @@ use Rattle.rows.specs.Walk.{RowStands, RowsStand}
 use Rattle.image.proofs.Hops.{offset-within}
 use Rattle.rows.specs.Frame.{Framed}
 use Rattle.lawful.specs.meeting.Meeting.{RowMeets, RowIn, RowBehind, RowsIndexed}
-use Rattle.lawful.proofs.meeting.Reaching.{row-there}
+use Rattle.rows.proofs.Hops.{row-there}
 
 -- no two of the first rows, of different keys, meet; the words are their index; and the others are from the place on
 pub record Compared (s : List ℕ) (start done at left : ℕ) (words : List ℕ) : Type 0 where

@@ -1,104 +1,64 @@
--- A hop of a row: its nodes, its slots, its reach.
-use mathlib.Core.Path.{_≡_, sym, ap, _∙_, subst}
+-- What a row's hops meet: by the index, or by the moduli of the rows before it.
+use mathlib.Core.Path.{_≡_, sym, subst}
 use mathlib.Core.Logic.{inl, inr, ⊎-elim}
 use mathlib.Core.Bool.{Bool, true, false}
 use mathlib.Core.List.{List}
-use Prim.Native.Nat.{ℕ, suc, _+_, _<_, _≤_}
-use native.Mathlib.Numerals.{add-one}
+use Prim.Native.Nat.{ℕ, _+_, _<_, _≤_}
 use native.Mathlib.Omega.{arith}
 use lib.ListN.{getD}
 use Rattle.rules.specs.Words.{Tests}
-use Rattle.rules.specs.Topology.{Topology, Hop}
 use Rattle.rules.specs.Book.{hops, rowHop, rowOffset}
-use Rattle.rules.specs.Image.{planOf, FieldsInRange, hearingOf}
+use Rattle.rules.specs.Image.{planOf, hearingOf}
 use Rattle.rules.specs.declared.Node.{Node}
 use Rattle.bitset.specs.Rows.{topology}
 use Rattle.rules.proofs.Tests.{alike, never, fails, said-yes, said-no}
-use Rattle.bitset.specs.clash.Reach.{End, nodeAt, hop, Clashes, Between, ReachOf}
+use Rattle.bitset.specs.clash.Reach.{End, nodeAt, hop, Clashes, ReachOf}
 use Rattle.bitset.specs.declared.clash.Reach.{Reach}
-use Rattle.index.specs.Turns.{RepeatsOf, TakesIn, InIndex}
+use Rattle.index.specs.Turns.{TakesIn}
 use Rattle.index.specs.Marks.{Adds, Notes, HopsTake, Finds, InReach}
 use Rattle.index.specs.declared.Repeats.{Repeats}
-use Rattle.index.proofs.Turns.{in-index}
-use Rattle.index.proofs.Meets.{tests-meets, own-before, own-after}
+use Rattle.index.proofs.Meets.{own-before, own-after}
 use Rattle.image.specs.Places.{rowAt}
-use Rattle.image.proofs.Hops.{node-known, offset-within}
-use Rattle.placing.specs.plain.Plain.{RowThere, RowsThere, Weighs, Agrees}
+use Rattle.image.proofs.Hops.{offset-within}
+use Rattle.placing.specs.plain.Plain.{RowsThere, Weighs, Agrees}
 use Rattle.placing.proofs.plain.Agreeing.{agrees-meets, meets-agrees}
 use Rattle.placing.proofs.plain.Alike.{agrees-for}
 use Rattle.rows.specs.Walk.{RowStands}
 use Rattle.rows.specs.Frame.{Framed}
-use Rattle.rows.proofs.Walks.{nodes-few, node-small}
-use Rattle.lawful.specs.meeting.Meeting.{HopIndexed, HopAgrees, RowMeets, RowPlaced, HearingRead, HopMarked, RowMarked, RowIn}
-
--- THE ROW
-pub row-placed : {s : List ℕ} {at S K : ℕ} {repeats : Repeats} → FieldsInRange s → RowStands s at → K ≡ rowAt s at .period → S ≡ planOf s .slots → RepeatsOf S K repeats
-    → RowPlaced s at repeats
-row-placed {s} {K = K} {repeats} fields stands e f v = record {
-  fields = fields;
-  row = stands;
-  repeats-are = subst (λ (L : ℕ). RepeatsOf (planOf s .slots) L repeats) e (subst (λ (S : ℕ). RepeatsOf S K repeats) f v);
-}
+use Rattle.rows.specs.Hops.{RowPlaced, HearingRead}
+use Rattle.rows.proofs.Hops.{hop-put, reach-is, hop-found}
+use Rattle.lawful.specs.meeting.Meeting.{HopAgrees, RowMeets, HopMarked, RowMarked, RowIn}
 
 -- of the rows before, the first so many stand too
 pub rows-first : {s : List ℕ} {start n rows : ℕ} → RowsThere s start n → rows ≤ n → RowsThere s start rows
 rows-first w l = record { each = λ i h. w .each i (omega (arith, h, l)); few = omega (arith, l, w .few) }
 
-pub row-there : {s : List ℕ} {at : ℕ} → FieldsInRange s → RowStands s at → RowThere s at
-row-there fields stands = record { whole = stands .whole; lawful = stands .lawful; small = node-small fields stands }
-
 -- A HOP OF THE ROW
-module _ {s : List ℕ} {at : ℕ} {repeats : Repeats} (w : RowPlaced s at repeats) where
-  pub hop-in-index : {i o : ℕ} → i < hops (rowAt s at) → o ≡ rowOffset (rowAt s at) i → InIndex repeats o
-  hop-in-index {i} l e = in-index (w .repeats-are) (w .fields .plan .most) (w .row .lawful .period) (rw e (offset-within (w .row .lawful) i l))
+module _ {s : List ℕ} {at : ℕ} {repeats : Repeats} (w : RowPlaced s at repeats) {hearing : List ℕ} (v : HearingRead s hearing) (i : ℕ) {from to : Node}
+    (e : from .0 ≡ getD (rowAt s at .route) i 0) (f : to .0 ≡ getD (rowAt s at .route) (i + 1) 0) {reach : Reach} (u : ReachOf (topology hearing) (hop from to) reach) where
+  module _ {o : ℕ} {words : List ℕ} {t : Bool} (g : o ≡ rowOffset (rowAt s at) i) (m : Tests t (Finds (InReach reach) words repeats o)) where
+    -- it meets something in the index
+    pub hop-met : {start rows : ℕ} {moduli after : List ℕ} → t ≡ true → HopMarked s start rows moduli at i repeats words after true
+    hop-met e′ = record { adds = λ q. absurd (never (sym q)); met = said-yes (inl (hop-found w v i e f u g m .yes e′)) }
 
-  module _ {hearing : List ℕ} (v : HearingRead s hearing) (i : ℕ) {from to : Node} (e : from .0 ≡ getD (rowAt s at .route) i 0)
-      (f : to .0 ≡ getD (rowAt s at .route) (i + 1) 0) where
-    pub between-here : i < hops (rowAt s at) → Between (topology hearing) (hop from to)
-    between-here l = subst (λ (T : Topology). Between T (hop from to)) (sym (ap topology (v .rows-are))) (record {
-      sound = v .sound .hearing-sound;
-      most = omega (arith, v .sound .even, nodes-few (w .fields));
-      from = omega (arith, v .sound .even, node-known (w .row .lawful) i (omega arith));
-      to = omega (arith, v .sound .even, node-known (w .row .lawful) (i + 1) (omega arith));
-    })
+    -- or it agrees with one of the rows that have moduli
+    module _ {start rows : ℕ} {moduli : List ℕ} {v′ : Bool} (a : Tests v′ (Agrees (InReach reach) s start rows moduli o)) where
+      agrees-is : Tests v′ (Agrees (Clashes (hearingOf s) (rowHop (rowAt s at) i)) s start rows moduli (rowOffset (rowAt s at) i))
+      agrees-is =
+          alike (subst (λ (p : ℕ). Tests v′ (Agrees (InReach reach) s start rows moduli p)) g a)
+          (agrees-for (InReach reach) (Clashes (hearingOf s) (rowHop (rowAt s at) i)) (λ end node q. reach-is w v i e f u end .only node q))
+          (agrees-for (Clashes (hearingOf s) (rowHop (rowAt s at) i)) (InReach reach) (λ end node q. reach-is w v i e f u end .all node q))
 
-    -- the hop that was read, and its reach, are those of the row's hop
-    module _ {reach : Reach} (u : ReachOf (topology hearing) (hop from to) reach) where
-      hop-is : hop from to ≡ rowHop (rowAt s at) i
-      hop-is = let g : to .0 ≡ getD (rowAt s at .route) (suc i) 0 = f ∙ ap (λ (n : ℕ). getD (rowAt s at .route) n 0) (add-one i) in λ j. record { from = e j; to = g j }
+      pub hop-agreed : {after : List ℕ} → v′ ≡ true → HopMarked s start rows moduli at i repeats words after true
+      hop-agreed e = record { adds = λ q. absurd (never (sym q)); met = said-yes (inr (agrees-is .yes e)) }
 
-      pub reach-is : ReachOf (hearingOf s) (rowHop (rowAt s at) i) reach
-      reach-is = subst (λ (T : Topology). ReachOf T (rowHop (rowAt s at) i) reach) (ap topology (v .rows-are)) (subst (λ (h : Hop). ReachOf (topology hearing) h reach) hop-is u)
-
-      -- what is looked up is what it meets by the index
-      pub hop-found : {o : ℕ} {words : List ℕ} {t : Bool} → o ≡ rowOffset (rowAt s at) i → Tests t (Finds (InReach reach) words repeats o) → Tests t (HopIndexed words s at i)
-      hop-found {words = words} {t} g m = tests-meets reach-is (w .repeats-are) (subst (λ (p : ℕ). Tests t (Finds (InReach reach) words repeats p)) g m)
-
-      module _ {o : ℕ} {words : List ℕ} {t : Bool} (g : o ≡ rowOffset (rowAt s at) i) (m : Tests t (Finds (InReach reach) words repeats o)) where
-        -- it meets something in the index
-        pub hop-met : {start rows : ℕ} {moduli after : List ℕ} → t ≡ true → HopMarked s start rows moduli at i repeats words after true
-        hop-met e = record { adds = λ q. absurd (never (sym q)); met = said-yes (inl (hop-found g m .yes e)) }
-
-        -- or it agrees with one of the rows that have moduli
-        module _ {start rows : ℕ} {moduli : List ℕ} {v′ : Bool} (a : Tests v′ (Agrees (InReach reach) s start rows moduli o)) where
-          agrees-is : Tests v′ (Agrees (Clashes (hearingOf s) (rowHop (rowAt s at) i)) s start rows moduli (rowOffset (rowAt s at) i))
-          agrees-is =
-              alike (subst (λ (p : ℕ). Tests v′ (Agrees (InReach reach) s start rows moduli p)) g a)
-              (agrees-for (InReach reach) (Clashes (hearingOf s) (rowHop (rowAt s at) i)) (λ end node q. reach-is end .only node q))
-              (agrees-for (Clashes (hearingOf s) (rowHop (rowAt s at) i)) (InReach reach) (λ end node q. reach-is end .all node q))
-
-          pub hop-agreed : {after : List ℕ} → v′ ≡ true → HopMarked s start rows moduli at i repeats words after true
-          hop-agreed e = record { adds = λ q. absurd (never (sym q)); met = said-yes (inr (agrees-is .yes e)) }
-
-          -- or neither, and it was marked
-          pub hop-marked : {after : List ℕ} → t ≡ false → v′ ≡ false
-              → Adds (λ (end : End) (slot node : ℕ). TakesIn repeats o slot × (node ≡ nodeAt end (hop from to))) words after → HopMarked s start rows moduli at i repeats words after false
-          hop-marked {after} e d adds = record {
-            adds = λ q.
-                subst (λ (h : Hop). Adds (λ (end : End) (slot node : ℕ). TakesIn repeats (rowOffset (rowAt s at) i) slot × (node ≡ nodeAt end h)) words after) hop-is
-                (subst (λ (p : ℕ). Adds (λ (end : End) (slot node : ℕ). TakesIn repeats p slot × (node ≡ nodeAt end (hop from to))) words after) g adds);
-            met = said-no (λ h. ⊎-elim (fails (hop-found g m) e) (fails agrees-is d) h);
-          }
+      -- or neither, and it was marked
+      pub hop-marked : {after : List ℕ} → t ≡ false → v′ ≡ false
+          → Adds (λ (end : End) (slot node : ℕ). TakesIn repeats o slot × (node ≡ nodeAt end (hop from to))) words after → HopMarked s start rows moduli at i repeats words after false
+      hop-marked x d adds = record {
+        adds = λ q. hop-put s at i e f g adds;
+        met = said-no (λ h. ⊎-elim (fails (hop-found w v i e f u g m) x) (fails agrees-is d) h);
+      }
 
 -- it meets no hop of its own row, so it may be looked up with those marked already
 pub own-apart : {s : List ℕ} {at i : ℕ} {repeats : Repeats} {start rows : ℕ} {moduli before words : List ℕ} {t : Bool} → RowPlaced s at repeats → i < hops (rowAt s at)

@@ -7,14 +7,13 @@ use Prim.Native.Nat.{ℕ, _<_, _≤_}
 use lib.ListN.{length, getD}
 use Rattle.rules.specs.Words.{Tests}
 use Rattle.rules.specs.Tiles.{shortTiles}
-use Rattle.rules.specs.Topology.{SoundTopologies}
 use Rattle.rules.specs.Book.{hops, rowHop, rowOffset, ClashingHopsMeet}
-use Rattle.rules.specs.Image.{planOf, FieldsInRange, linksOf, hearingOf, RowsOf}
+use Rattle.rules.specs.Image.{planOf, hearingOf, RowsOf}
 use Rattle.rules.proofs.Reading.{rowsIn, bookIn}
 use Rattle.bitset.specs.clash.Reach.{End, nodeAt, Clashes}
 use Rattle.index.specs.Index.{indexLength, slowPlace, IndexOf}
-use Rattle.index.specs.Turns.{RepeatsOf, TakesIn}
-use Rattle.index.specs.Marks.{Adds, Notes, HopsTake, MeetsIn}
+use Rattle.index.specs.Turns.{TakesIn}
+use Rattle.index.specs.Marks.{Adds, Notes, HopsTake}
 use Rattle.index.specs.declared.Repeats.{Repeats}
 use Rattle.image.specs.Header.{HeaderOf}
 use Rattle.image.specs.declared.Book.{Book}
@@ -22,17 +21,14 @@ use Rattle.image.specs.Places.{rowAt}
 use Rattle.placing.specs.plain.Plain.{nthRow, RowsThere, Agrees, MeetsPlain}
 use Rattle.rows.specs.Frame.{Framed}
 use Rattle.rows.specs.Walk.{RowStands}
+use Rattle.rows.specs.Hops.{HopIndexed, HearingRead}
 
--- by the words, hop i of the row at the place takes a slot in the first 100 tiles where a node is at work that clashes with it
-abbrev pub HopIndexed : List ℕ → List ℕ → ℕ → ℕ → Type 0
-HopIndexed words s at i = MeetsIn (Clashes (hearingOf s) (rowHop (rowAt s at) i)) (planOf s .slots) words (rowAt s at .period) (rowOffset (rowAt s at) i)
-
--- or it agrees with a clashing hop of the first rows that have moduli
+-- by the words, hop i of the row at the place meets a clashing one, or it agrees with one of the first rows that have moduli
 abbrev pub HopAgrees : List ℕ → List ℕ → ℕ → ℕ → List ℕ → ℕ → ℕ → Type 0
 HopAgrees words s start rows moduli at i =
     HopIndexed words s at i ⊎ Agrees (Clashes (hearingOf s) (rowHop (rowAt s at) i)) s start rows moduli (rowOffset (rowAt s at) i)
 
--- or it meets a clashing hop of one of the n rows from the start on, which the index leaves out
+-- by the words it does, or it meets a clashing hop of one of the n rows from the start on, which the index leaves out
 abbrev pub HopMeets : List ℕ → List ℕ → ℕ → ℕ → ℕ → ℕ → Type 0
 HopMeets words s start n at i =
     HopIndexed words s at i ⊎ MeetsPlain (Clashes (hearingOf s) (rowHop (rowAt s at) i)) s start n (rowAt s at .period) (rowOffset (rowAt s at) i)
@@ -67,12 +63,6 @@ pub record RowsIndexed (s words : List ℕ) (t : Bool) : Type 0 where
   pub met : Tests t (ClashingHopsMeet (bookIn s))
   pub indexed : t ≡ false → IndexOf (planOf s .slots) (rowsIn s) words
 
--- a lawful row is at the place, and its period repeats so
-pub record RowPlaced (s : List ℕ) (at : ℕ) (repeats : Repeats) : Type 0 where
-  pub fields : FieldsInRange s
-  pub row : RowStands s at
-  pub repeats-are : RepeatsOf (planOf s .slots) (rowAt s at .period) repeats
-
 -- the first n rows stand before it, as many as there may be
 pub record RowBehind (s : List ℕ) (start n at : ℕ) (words moduli : List ℕ) : Type 0 where
   pub framed : Framed s
@@ -81,11 +71,6 @@ pub record RowBehind (s : List ℕ) (start n at : ℕ) (words moduli : List ℕ)
   pub none-slow : getD words slowPlace 0 ≡ 0 → (i : ℕ) → i < n → nthRow s start i .period ≤ shortTiles
   pub size : length words ≡ indexLength
   pub room : length moduli ≡ 64
-
--- the hearing is that of the image, whose topologies are sound
-pub record HearingRead (s hearing : List ℕ) : Type 0 where
-  pub rows-are : hearing ≡ hearingOf s .rows
-  pub sound : SoundTopologies (linksOf s) (hearingOf s)
 
 -- what was read of the image before its hops are compared: its header, its hearing, and that its rows are rows
 pub record HopsRead (s : List ℕ) (b : Book) (hearing : List ℕ) : Type 0 where

@@ -2,7 +2,7 @@
 use mathlib.Core.Logic.{inl}
 use borrow.Author.Needs.{needs}
 use Rattle.rules.proofs.Tests.{said-yes}
-use Rattle.lawful.proofs.meeting.Reaching.{hop-in-index, between-here, reach-is, hop-found}
+use Rattle.rows.proofs.Hops.{hop-in-index, between-here, reach-is, hop-found}
 use Rattle.damaged.proofs.judging.Holding.{hop-agrees}
 use Rattle.damaged.proofs.judging.hop_finds.Statement.{statement}
 use Rattle.damaged.proofs.judging.hop_finds.Tie as tie

@@ -11,7 +11,7 @@ keep-requires c κs =
     let start = at-reason .before .before .before .before .before .before .before in
     let p = start .pre in
     let a = start .args in (
-      record { fields = p .0 .read .fields; list = p .0 .read .list; heard = p .0 .heard },
+      record { fields = p .0 .read .fields; list = p .0 .read .list },
       p .2,
       subst (ReasonFor (a .image .now) (a .at) (a .kept) (a .places .now) (a .left .now) (a .index .now)) (c .before .before .before .if1 .left) (at-reason .reason-at .ensures),
     )

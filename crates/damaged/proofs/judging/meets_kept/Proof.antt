@@ -3,7 +3,7 @@ use mathlib.Core.Path.{refl, sym, subst}
 use native.Mathlib.Omega.{arith}
 use borrow.Author.Needs.{needs}
 use Rattle.rules.specs.Tiles.{Period}
-use Rattle.lawful.proofs.meeting.Reaching.{row-placed}
+use Rattle.rows.proofs.Hops.{row-placed}
 use Rattle.damaged.proofs.judging.Holding.{placed-first, row-compared}
 use Rattle.damaged.proofs.judging.meets_kept.Statement.{statement}
 use Rattle.damaged.proofs.judging.meets_kept.Tie as tie

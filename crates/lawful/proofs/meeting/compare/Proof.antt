@@ -4,7 +4,8 @@ use native.Mathlib.Omega.{arith}
 use borrow.Author.Needs.{needs}
 use Rattle.rules.specs.Tiles.{Period}
 use Rattle.rules.proofs.Tests.{never, fails, said-yes, said-no}
-use Rattle.lawful.proofs.meeting.Reaching.{row-placed, rows-first, row-compared, row-in}
+use Rattle.rows.proofs.Hops.{row-placed}
+use Rattle.lawful.proofs.meeting.Reaching.{rows-first, row-compared, row-in}
 use Rattle.lawful.proofs.meeting.compare.Statement.{statement}
 use Rattle.lawful.proofs.meeting.compare.Tie as tie
 

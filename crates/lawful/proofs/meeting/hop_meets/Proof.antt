@@ -3,7 +3,8 @@ use native.Mathlib.Omega.{arith}
 use Prim.Native.Nat.{_+_}
 use borrow.Author.Needs.{needs}
 use Rattle.rows.proofs.Walks.{node-small}
-use Rattle.lawful.proofs.meeting.Reaching.{hop-in-index, between-here, hop-met, hop-agreed, hop-marked}
+use Rattle.rows.proofs.Hops.{hop-in-index, between-here}
+use Rattle.lawful.proofs.meeting.Reaching.{hop-met, hop-agreed, hop-marked}
 use Rattle.lawful.proofs.meeting.hop_meets.Statement.{statement}
 use Rattle.lawful.proofs.meeting.hop_meets.Tie as tie
 
