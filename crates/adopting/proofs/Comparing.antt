@@ -22,7 +22,7 @@ use Rattle.image.proofs.Stands.{stored-length}
 use Rattle.image.specs.Header.{HeaderOf}
 use Rattle.image.specs.declared.Book as head
 use Rattle.tables.specs.Entries.{Filled}
-use Rattle.lawful.specs.Verdict.{Verdict}
+use Rattle.lawful.specs.Verdict.{NumberOf}
 use Rattle.adopting.specs.Expanded.{SameAt, Expanded}
 
 -- a table's length, and its place in the tables
@@ -69,7 +69,7 @@ lawful-long w = omega (arith, stored-length w)
 pub size-read : {s : List ℕ} (tables : List ℕ) {b : head.Book} → HeaderOf s b → length tables ≡ 3 * entriesOf (planOf s) (nodesOf s) → length tables ≡ 3 * entriesOf (planOf s) (b .nodes)
 size-read {s} tables r e = e ∙ ap (λ (n : ℕ). 3 * entriesOf (planOf s) n) (sym (r .nodes))
 
-pub not-lawful : {s tables words : List ℕ} {n : ℕ} → Verdict s n words → (n ≡ 0 → ⊥) → Tests false (Expanded s tables)
+pub not-lawful : {s tables : List ℕ} {n : ℕ} → NumberOf s n → (n ≡ 0 → ⊥) → Tests false (Expanded s tables)
 not-lawful {s} {n = n} v f = said-no (λ x. f (says-unique (imageRefusals s) n 0 (v .says) (stored-says s _ _ (x .lawful))))
 
 pub tests-expanded : {s tables : List ℕ} {b : head.Book} {t : Bool} → LawfulImage s → HeaderOf s b → Tests t ((node : ℕ) → node < b .nodes → SameAt s tables node) → Tests t (Expanded s tables)

@@ -74,8 +74,7 @@ fn expands(image: &[u8], tables: &[u8]) -> bool
     requires { ⌜ length (now tables) ≡ 3 * entriesOf (planOf (now image)) (nodesOf (now image)) ⌝ }
     ensures { λ r. ⌜ Tests r (Expanded (now (image .entry)) (now (tables .entry))) ⌝ }
 {
-    let mut index = [0u64; index::WORDS];
-    if lawful::verdict(image, &mut index) != 0 {
+    if lawful::number(image) != 0 {
         return false;
     }
     same_everywhere(image, Book::read(image), tables)

@@ -164,8 +164,7 @@ pub fn figures_of(image: &[u8]) -> Figures
     ensures { λ r. ⌜ FiguresSay (now (image .entry)) r ⌝ }
     ensures { λ r. ⌜ r .nodes ≤ mostNodes ⌝ }
 {
-    let mut index = [0u64; index::WORDS];
-    let number = lawful::verdict(image, &mut index);
+    let number = lawful::number(image);
     if number != 0 {
         return refused(number);
     }

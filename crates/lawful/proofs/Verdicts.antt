@@ -32,7 +32,7 @@ stated h e = e ∙ λ i. imageLength (h .version i) (h .accounts i) (h .nodes i)
 
 -- a refusal gives no book
 refusal : {s words : List ℕ} {n : ℕ} → Says (imageRefusals s) n → (n ≡ 0 → ⊥) → Verdict s n words
-refusal h f = record { says = h; stored = λ e. absurd (f e); indexed = λ e. absurd (f e) }
+refusal h f = record { number-is = record { says = h; stored = λ e. absurd (f e) }; indexed = λ e. absurd (f e) }
 
 module _ (s : List ℕ) where
   pub short : {words : List ℕ} → length s < headerLength → Verdict s 14 words
@@ -89,8 +89,10 @@ module _ (s : List ℕ) (marked : Marked s) (w : Framed s) (list : AccountsInRan
 
       pub lawful-book : {words : List ℕ} → Bytes s → (ClashingHopsMeet (bookIn s) → ⊥) → Beside (siteOf s) (rowsIn s) words → Verdict s 0 words
       lawful-book b n index = record {
-        says = rest-says (inr (λ f. f sound, inr (λ f. f (rowsIn s) rows, inr (met, refl))));
-        stored = λ e. stored s b (rowsIn s) long (marked .0) (marked .1) (w .fields) list (w .size) sound rows n;
+        number-is = record {
+          says = rest-says (inr (λ f. f sound, inr (λ f. f (rowsIn s) rows, inr (met, refl))));
+          stored = λ e. stored s b (rowsIn s) long (marked .0) (marked .1) (w .fields) list (w .size) sound rows n;
+        };
         indexed = λ e. index;
       }
         where

@@ -5,7 +5,7 @@ ghost use Rattle.index.specs.Index.{indexLength};
 ghost use Rattle.image.proofs.Marks.{Marked};
 ghost use Rattle.accounts.specs.Lists.{ListRead};
 ghost use Rattle.rows.specs.Frame.{Framed};
-ghost use Rattle.lawful.specs.Verdict.{Verdict};
+ghost use Rattle.lawful.specs.Verdict.{NumberOf, Verdict};
 
 pub mod meeting;
 
@@ -60,4 +60,12 @@ pub fn verdict(image: &[u8], index: &mut [u64; index::WORDS]) -> u8
         return 14;
     }
     body_verdict(image, book, index)
+}
+
+// That number, with an index of its own.
+pub fn number(image: &[u8]) -> u8
+    ensures { λ r. ⌜ NumberOf (now (image .entry)) r ⌝ }
+{
+    let mut index = [0u64; index::WORDS];
+    verdict(image, &mut index)
 }

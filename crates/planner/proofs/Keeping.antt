@@ -12,10 +12,10 @@ use Rattle.rules.specs.Calls.{keepsRefusals, BookKeepsTo, Keeps}
 use Rattle.rules.proofs.Reading.{bookIn, LawfulImage}
 use Rattle.image.specs.Header.{HeaderOf}
 use Rattle.image.specs.declared.Book as head
-use Rattle.lawful.specs.Verdict.{Verdict}
+use Rattle.lawful.specs.Verdict.{NumberOf}
 use Rattle.planner.proofs.Lifts.{image-refused, known}
 
-pub keeps-refused : {s words : List ℕ} {n number : ℕ} {k : Bool} → Verdict s n words → (n ≡ 0 → ⊥) → number ≡ n → (mains : ℕ) → k ≡ false → Keeps s mains number k
+pub keeps-refused : {s : List ℕ} {n number : ℕ} {k : Bool} → NumberOf s n → (n ≡ 0 → ⊥) → number ≡ n → (mains : ℕ) → k ≡ false → Keeps s mains number k
 keeps-refused v f a mains e = image-refused v f a (keepsRefusals mains) e
 
 module _ {s : List ℕ} (h : LawfulImage s) {book : head.Book} (read : HeaderOf s book) (mains : ℕ) {number : ℕ} {k : Bool} where

@@ -24,13 +24,13 @@ use Rattle.writer.proofs.Laws.{over-front}
 use Rattle.tables.specs.Entries.{Filled}
 use Rattle.rules.specs.answers.Reply.{Reply}
 use Rattle.rules.proofs.answers.Replies.{reply-refused, reply-next, reply-done}
-use Rattle.lawful.specs.Verdict.{Verdict}
+use Rattle.lawful.specs.Verdict.{NumberOf}
 use Rattle.accounts.specs.purchasing.Buying.{Buys}
 
 -- ANY CALL
 
 -- the image is refused
-module _ {s words : List ℕ} {n number : ℕ} (v : Verdict s n words) (f : n ≡ 0 → ⊥) (a : number ≡ n) where
+module _ {s : List ℕ} {n number : ℕ} (v : NumberOf s n) (f : n ≡ 0 → ⊥) (a : number ≡ n) where
   refused-says : (refusals : ℕ → Book → List Refusal) → SaysOf s refusals number
   refused-says refusals = inl (subst (Says (imageRefusals s)) (sym a) (v .says), λ z. f (sym a ∙ z))
 
@@ -64,7 +64,7 @@ reply-book {s} h refusals P w = record {
 }
 
 -- CHECK says the image's number
-pub checked : (s : List ℕ) {words : List ℕ} {n number len : ℕ} → Verdict s n words → number ≡ n → len ≡ 0 → Check s number len
+pub checked : (s : List ℕ) {n number len : ℕ} → NumberOf s n → number ≡ n → len ≡ 0 → Check s number len
 checked s {n = n} {number} {len} v a b = go (ℕ-discrete n 0)
   where
     go : Dec (n ≡ 0) → Check s number len

@@ -14,7 +14,7 @@ use Rattle.rules.proofs.Written.{length-sets-at}
 use Rattle.rules.proofs.Reading.{bookIn, LawfulImage}
 use Rattle.bitset.proofs.Bits.{past}
 use Rattle.image.proofs.Stands.{stored-length}
-use Rattle.lawful.specs.Verdict.{Verdict}
+use Rattle.lawful.specs.Verdict.{NumberOf}
 use Rattle.planner.proofs.Lifts.{image-refused}
 
 -- row i of a topology stands 8 × i bytes behind its start
@@ -58,5 +58,5 @@ module _ {s : List ℕ} (h : LawfulImage s) where
       done = λ z. (versionOf s, bookIn s, h, w);
     }
 
-pub links-refused : {s words : List ℕ} {n number k : ℕ} → Verdict s n words → (n ≡ 0 → ⊥) → number ≡ n → (node : ℕ) → k ≡ 0 → Links s node number k
+pub links-refused : {s : List ℕ} {n number k : ℕ} → NumberOf s n → (n ≡ 0 → ⊥) → number ≡ n → (node : ℕ) → k ≡ 0 → Links s node number k
 links-refused v f a node z = image-refused v f a (balanceRefusals node) z

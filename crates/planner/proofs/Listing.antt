@@ -8,12 +8,12 @@ use lib.ListN.{length}
 use Rattle.rules.specs.Image.{versionOf}
 use Rattle.rules.specs.Calls.{routesRefusals, Routes}
 use Rattle.rules.proofs.Reading.{bookIn, LawfulImage}
-use Rattle.lawful.specs.Verdict.{Verdict}
+use Rattle.lawful.specs.Verdict.{NumberOf}
 use Rattle.routes.specs.declared.choices.Choices.{Choices}
 use Rattle.routes.specs.choices.Listing.{BookSays}
 use Rattle.planner.proofs.Lifts.{image-refused}
 
-pub routes-refused : {s words : List ℕ} {n : ℕ} (mains source destination : ℕ) (out : List ℕ) {r : Choices} → Verdict s n words → (n ≡ 0 → ⊥)
+pub routes-refused : {s : List ℕ} {n : ℕ} (mains source destination : ℕ) (out : List ℕ) {r : Choices} → NumberOf s n → (n ≡ 0 → ⊥)
     → r .number ≡ n → r .length ≡ 0 → r .more ≡ false → Routes s mains source destination out (r .number) (r .length) out (r .more)
 routes-refused mains source destination out v f a l m =
     image-refused v f a (routesRefusals mains source destination (length out)) (record { length-is = l; buffer = refl }, m)

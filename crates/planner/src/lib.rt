@@ -86,16 +86,14 @@ pub fn new_book(
 pub fn check(image: &[u8]) -> Answer
     ensures { λ r. ⌜ Check (now (image .entry)) (r .number) (r .length) ⌝ }
 {
-    let mut index = [0u64; index::WORDS];
-    answers::refused(lawful::verdict(image, &mut index))
+    answers::refused(lawful::number(image))
 }
 
 // Writes the image of the same book.
 pub fn rewrite(image: &[u8], out: &mut [u8]) -> Answer
     ensures { λ r. ⌜ Rewrite (now (image .entry)) (now (out .entry)) (r .number) (r .length) (now (out .exit)) ⌝ }
 {
-    let mut index = [0u64; index::WORDS];
-    let number = lawful::verdict(image, &mut index);
+    let number = lawful::number(image);
     if number != 0 {
         return answers::refused(number);
     }
@@ -158,8 +156,7 @@ pub fn close_stream(image: &[u8], id: u16, out: &mut [u8]) -> Answer
 pub fn purchase(image: &[u8], account: u16, amount: u32, out: &mut [u8]) -> Answer
     ensures { λ r. ⌜ Purchase (now (image .entry)) account amount (now (out .entry)) (r .number) (r .length) (now (out .exit)) ⌝ }
 {
-    let mut index = [0u64; index::WORDS];
-    let number = lawful::verdict(image, &mut index);
+    let number = lawful::number(image);
     if number != 0 {
         return answers::refused(number);
     }
@@ -170,8 +167,7 @@ pub fn purchase(image: &[u8], account: u16, amount: u32, out: &mut [u8]) -> Answ
 pub fn expand(image: &[u8], node: Node, first: Tile, tiles: Tile, out: &mut [u8]) -> Answer
     ensures { λ r. ⌜ Expand (now (image .entry)) (node .0) (first .0) (tiles .0) (now (out .entry)) (r .number) (r .length) (now (out .exit)) ⌝ }
 {
-    let mut index = [0u64; index::WORDS];
-    let number = lawful::verdict(image, &mut index);
+    let number = lawful::number(image);
     if number != 0 {
         return answers::refused(number);
     }
@@ -206,8 +202,7 @@ fn no_balance(number: u8) -> Balance
 pub fn balance_of(image: &[u8], node: Node) -> Balance
     ensures { λ r. ⌜ BalanceSays (now (image .entry)) (node .0) r ⌝ }
 {
-    let mut index = [0u64; index::WORDS];
-    let number = lawful::verdict(image, &mut index);
+    let number = lawful::number(image);
     if number != 0 {
         return no_balance(number);
     }
@@ -237,8 +232,7 @@ fn count_links(image: &[u8], book: Book, node: usize) -> u8
 pub fn links_of(image: &[u8], node: Node) -> Linked
     ensures { λ r. ⌜ Links (now (image .entry)) (node .0) (r .number) (r .links) ⌝ }
 {
-    let mut index = [0u64; index::WORDS];
-    let number = lawful::verdict(image, &mut index);
+    let number = lawful::number(image);
     if number != 0 {
         return Linked { number, links: 0 };
     }
@@ -267,8 +261,7 @@ pub fn routes_between(
 ) -> Choices
     ensures { λ r. ⌜ Routes (now (image .entry)) mains (source .0) (destination .0) (now (out .entry)) (r .number) (r .length) (now (out .exit)) (r .more) ⌝ }
 {
-    let mut index = [0u64; index::WORDS];
-    let number = lawful::verdict(image, &mut index);
+    let number = lawful::number(image);
     if number != 0 {
         return choices::refused(number);
     }
@@ -279,8 +272,7 @@ pub fn routes_between(
 pub fn keeps_to(image: &[u8], mains: u64) -> Kept
     ensures { λ r. ⌜ Keeps (now (image .entry)) mains (r .number) (r .keeps) ⌝ }
 {
-    let mut index = [0u64; index::WORDS];
-    let number = lawful::verdict(image, &mut index);
+    let number = lawful::number(image);
     if number != 0 {
         return Kept {
             number,

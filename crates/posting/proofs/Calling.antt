@@ -44,7 +44,7 @@ below {mains = mains} h low = subst (λ (N : ℕ). NoBitFrom N mains) (stored-no
 module _ {s words : List ℕ} {n : ℕ} (v : Verdict s n words) (mains count lent room : ℕ) {buffer : List ℕ} (r : Answer) where
   pub begun-image : (n ≡ 0 → ⊥) → r .number ≡ n → r .length ≡ 0 → Begun s mains count lent room r buffer words
   begun-image f a b = record {
-    says = inl (subst (Says (imageRefusals s)) (sym a) (v .says), λ z. f (sym a ∙ z));
+    says = inl (subst (Says (imageRefusals s)) (sym a) (v .number-is .says), λ z. f (sym a ∙ z));
     refused = λ g. b;
     stands = λ z. absurd (f (sym a ∙ z));
     wide = λ z. absurd (f (sym a ∙ z));
@@ -54,7 +54,7 @@ module _ {s words : List ℕ} {n : ℕ} (v : Verdict s n words) (mains count len
   module _ (z : n ≡ 0) where
     pub begun-beyond : (NoBitFrom (nodesOf s) mains → ⊥) → r .number ≡ 25 → r .length ≡ 0 → Begun s mains count lent room r buffer words
     begun-beyond f a b = record {
-      says = inr (versionOf s, bookIn s, v .stored z, inl (λ l. f (subst (λ (N : ℕ). NoBitFrom N mains) (sym (stored-nodes (v .stored z))) l), a));
+      says = inr (versionOf s, bookIn s, v .number-is .stored z, inl (λ l. f (subst (λ (N : ℕ). NoBitFrom N mains) (sym (stored-nodes (v .number-is .stored z))) l), a));
       refused = λ g. b;
       stands = λ y. absurd (omega (arith, y, a));
       wide = λ y. absurd (omega (arith, y, a));
@@ -64,7 +64,7 @@ module _ {s words : List ℕ} {n : ℕ} (v : Verdict s n words) (mains count len
     module _ (low : NoBitFrom (nodesOf s) mains) where
       pub begun-many : mostRequests < count → r .number ≡ 26 → r .length ≡ 0 → Begun s mains count lent room r buffer words
       begun-many l a b = record {
-        says = inr (versionOf s, bookIn s, v .stored z, inr (λ f. f (below (v .stored z) low), inl (l, a)));
+        says = inr (versionOf s, bookIn s, v .number-is .stored z, inr (λ f. f (below (v .number-is .stored z) low), inl (l, a)));
         refused = λ g. b;
         stands = λ y. absurd (omega (arith, y, a));
         wide = λ y. absurd (omega (arith, y, a));
@@ -73,7 +73,7 @@ module _ {s words : List ℕ} {n : ℕ} (v : Verdict s n words) (mains count len
 
       pub begun-short : count ≤ mostRequests → room < longestImage newest → r .number ≡ 12 → r .length ≡ 0 → Begun s mains count lent room r buffer words
       begun-short k l a b = record {
-        says = inr (versionOf s, bookIn s, v .stored z, inr (λ f. f (below (v .stored z) low), inr (λ m. omega (arith, m, k), inl (inl l, a))));
+        says = inr (versionOf s, bookIn s, v .number-is .stored z, inr (λ f. f (below (v .number-is .stored z) low), inr (λ m. omega (arith, m, k), inl (inl l, a))));
         refused = λ g. b;
         stands = λ y. absurd (omega (arith, y, a));
         wide = λ y. absurd (omega (arith, y, a));
@@ -82,7 +82,7 @@ module _ {s words : List ℕ} {n : ℕ} (v : Verdict s n words) (mains count len
 
       pub begun-narrow : (m : ℕ) → Words s m → count ≤ mostRequests → lent < m → r .number ≡ 12 → r .length ≡ 0 → Begun s mains count lent room r buffer words
       begun-narrow m w k l a b = record {
-        says = inr (versionOf s, bookIn s, v .stored z, inr (λ f. f (below (v .stored z) low), inr (λ y. omega (arith, y, k), inl (inr (omega (arith, l, w)), a))));
+        says = inr (versionOf s, bookIn s, v .number-is .stored z, inr (λ f. f (below (v .number-is .stored z) low), inr (λ y. omega (arith, y, k), inl (inr (omega (arith, l, w)), a))));
         refused = λ g. b;
         stands = λ y. absurd (omega (arith, y, a));
         wide = λ y. absurd (omega (arith, y, a));
@@ -93,9 +93,9 @@ module _ {s words : List ℕ} {n : ℕ} (v : Verdict s n words) (mains count len
       pub begun-done : (m : ℕ) → Transcribed s m buffer → count ≤ mostRequests → longestImage newest ≤ room → (o : ℕ) → Words s o → o ≤ lent → r .number ≡ 0 → r .length ≡ m
           → Begun s mains count lent room r buffer words
       begun-done m t k l o w e a b = record {
-        says = inr (versionOf s, bookIn s, v .stored z, inr (λ f. f (below (v .stored z) low), inr (λ y. omega (arith, y, k), inr (enough, a))));
+        says = inr (versionOf s, bookIn s, v .number-is .stored z, inr (λ f. f (below (v .number-is .stored z) low), inr (λ y. omega (arith, y, k), inr (enough, a))));
         refused = λ g. absurd (g a);
-        stands = λ y. (versionOf s, bookIn s, v .stored z, subst (λ (j : ℕ). Standing buffer j words × (bookAt buffer j ≡ bookIn s)) (sym b) (stands, book));
+        stands = λ y. (versionOf s, bookIn s, v .number-is .stored z, subst (λ (j : ℕ). Standing buffer j words × (bookAt buffer j ≡ bookIn s)) (sym b) (stands, book));
         wide = λ y. l;
         long = λ y. subst (λ (j : ℕ). indexLength (bookAt buffer j .site .plan) ≤ lent) (sym b)
             (subst (λ (c : Book). indexLength (c .site .plan) ≤ lent) (sym book) (omega (arith, e, w)));
@@ -106,14 +106,14 @@ module _ {s words : List ℕ} {n : ℕ} (v : Verdict s n words) (mains count len
           enough (inr y) = omega (arith, y, e, w)
 
           book : bookAt buffer m ≡ bookIn s
-          book = ap bookIn (t .bytes) ∙ newest-book (v .stored z)
+          book = ap bookIn (t .bytes) ∙ newest-book (v .number-is .stored z)
 
           stands : Standing buffer m words
           stands = record {
             room = t .room;
             fits = t .fits;
             image = record {
-              newest = subst NewestImage (sym (t .bytes)) (newest-image (v .stored z));
+              newest = subst NewestImage (sym (t .bytes)) (newest-image (v .number-is .stored z));
               index = subst (λ (b : Book). Beside (b .site) (b .rows) words) (sym book) (v .indexed z);
             };
           }

@@ -4,25 +4,25 @@ use borrow.Author.Needs.{needs}
 use Rattle.adopting.proofs.expands.Statement.{statement}
 use Rattle.adopting.proofs.expands.Tie as tie
 
-verdict-requires : tie.Need-verdict-requires
-verdict-requires c κs = search needs
+number-requires : tie.Need-number-requires
+number-requires c κs = search needs
 
 returns : tie.Need-returns
-returns c = not-lawful (c .before .verdict .ensures) (c .if1 .taken)
+returns c = not-lawful (c .before .number .ensures) (c .if1 .taken)
 
 read-requires : tie.Need-read-requires
-read-requires c κs = lawful-long (c .before .verdict .ensures .stored (c .if1 .left))
+read-requires c κs = lawful-long (c .before .number .ensures .stored (c .if1 .left))
 
 same-everywhere-requires : tie.Need-same-everywhere-requires
 same-everywhere-requires c κs =
-    let h = c .before .before .verdict .ensures .stored (c .before .if1 .left) in
-    let start = c .before .before .before .before .before .before in
+    let h = c .before .before .number .ensures .stored (c .before .if1 .left) in
+    let start = c .before .before .before .before .before in
     (h, c .read .ensures, size-read (start .args .tables .now) (c .read .ensures) (start .pre))
 
 returns-2 : tie.Need-returns-2
 returns-2 c =
-    tests-expanded (c .before .before .before .verdict .ensures .stored (c .before .before .if1 .left)) (c .before .read .ensures) (c .same-everywhere .ensures)
+    tests-expanded (c .before .before .before .number .ensures .stored (c .before .before .if1 .left)) (c .before .read .ensures) (c .same-everywhere .ensures)
 
 pub expands-spec : {M : Type 1} → statement M
 expands-spec =
-    tie.close (tie.spec verdict-requires returns read-requires same-everywhere-requires returns-2)
+    tie.close (tie.spec number-requires returns read-requires same-everywhere-requires returns-2)

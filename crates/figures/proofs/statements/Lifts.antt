@@ -20,7 +20,7 @@ use Rattle.image.specs.Header.{HeaderOf}
 use Rattle.image.proofs.Stands.{stored-length}
 use Rattle.operations.specs.balances.Counts.{DataSlots}
 use Rattle.operations.proofs.balances.Balances.{used-fits, balance-of}
-use Rattle.lawful.specs.Verdict.{Verdict}
+use Rattle.lawful.specs.Verdict.{NumberOf}
 use Rattle.figures.specs.declared.statements.Figures.{Figures}
 use Rattle.figures.specs.statements.Statement.{FreeOf, Fewest}
 use Rattle.figures.specs.statements.Figures.{mostNodes, FiguresOf, NoFigures, FiguresSay}
@@ -30,7 +30,7 @@ pub stored-long : {s : List ℕ} → LawfulImage s → headerLength ≤ length s
 stored-long h = omega (arith, stored-length h)
 
 -- the image is refused
-pub figures-refused : {s words : List ℕ} {n : ℕ} {r : Figures} → Verdict s n words → (n ≡ 0 → ⊥) → r .number ≡ n → NoFigures r → FiguresSay s r
+pub figures-refused : {s : List ℕ} {n : ℕ} {r : Figures} → NumberOf s n → (n ≡ 0 → ⊥) → r .number ≡ n → NoFigures r → FiguresSay s r
 figures-refused {s} v f a z = record {
   says = inl (subst (Says (imageRefusals s)) (sym a) (v .says), λ e. f (sym a ∙ e));
   refused = λ g. z;

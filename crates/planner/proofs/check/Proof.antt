@@ -5,7 +5,7 @@ use Rattle.planner.proofs.check.Statement.{statement}
 use Rattle.planner.proofs.check.Tie as tie
 
 returns : tie.Need-returns
-returns c = checked _ (c .before .verdict .ensures) (c .refused .ensures .0) (c .refused .ensures .1)
+returns c = checked _ (c .before .number .ensures) (c .refused .ensures .0) (c .refused .ensures .1)
 
 pub check-spec : {M : Type 1} → statement M
 check-spec = tie.close (tie.spec

@@ -12,31 +12,31 @@ use Rattle.planner.proofs.expand.Statement.{statement}
 use Rattle.planner.proofs.expand.Tie as tie
 
 returns : tie.Need-returns
-returns c = expand-refused (c .before .before .verdict .ensures) (c .before .if1 .taken) (c .refused .ensures .0) _ (c .refused .ensures .1) _ _ _
+returns c = expand-refused (c .before .before .number .ensures) (c .before .if1 .taken) (c .refused .ensures .0) _ (c .refused .ensures .1) _ _ _
 
 read-requires : tie.Need-read-requires
-read-requires c κs = stored-long (c .before .verdict .ensures .stored (c .if1 .left))
+read-requires c κs = stored-long (c .before .number .ensures .stored (c .if1 .left))
 
 returns-2 : tie.Need-returns-2
 returns-2 c =
     let r = c .before .before .before .before in
-    expand-unknown (r .before .before .verdict .ensures .stored (r .before .if1 .left)) (r .read .ensures) _ _ _ _ (c .before .if2 .taken)
+    expand-unknown (r .before .before .number .ensures .stored (r .before .if1 .left)) (r .read .ensures) _ _ _ _ (c .before .if2 .taken)
     (c .refused2 .ensures .0) (c .refused2 .ensures .1)
 
 returns-3 : tie.Need-returns-3
 returns-3 c =
     let r = c .before .before .before .before .before .before in
-    expand-outside (r .before .before .verdict .ensures .stored (r .before .if1 .left)) (r .read .ensures) _ _ _ _ (c .before .before .before .if2 .left)
+    expand-outside (r .before .before .number .ensures .stored (r .before .if1 .left)) (r .read .ensures) _ _ _ _ (c .before .before .before .if2 .left)
     (fails (c .before .before .part-in-range .ensures) (not-true _ (c .before .if3 .taken))) (c .refused3 .ensures .0) (c .refused3 .ensures .1)
 
 table-length-requires : tie.Need-table-length-requires
-table-length-requires c κs = let r = c .before .before .before .before .before in plan-held (r .before .before .verdict .ensures .stored (r .before .if1 .left)) (r .read .ensures)
+table-length-requires c κs = let r = c .before .before .before .before .before in plan-held (r .before .before .number .ensures .stored (r .before .if1 .left)) (r .read .ensures)
 
 returns-4 : tie.Need-returns-4
 returns-4 c =
     let r = c .before .before .before .before .before .before .before .before in
     let part = c .before .before .before .before .part-in-range .ensures .yes (not-false _ (c .before .before .before .if3 .left)) in
-    expand-short (r .before .before .verdict .ensures .stored (r .before .if1 .left)) (r .read .ensures) _ _ _ _ (c .before .before .before .before .before .if2 .left) part
+    expand-short (r .before .before .number .ensures .stored (r .before .if1 .left)) (r .read .ensures) _ _ _ _ (c .before .before .before .before .before .if2 .left) part
     (c .before .before .table-length .ensures) (c .before .if4 .taken) (c .refused4 .ensures .0) (c .refused4 .ensures .1)
 
 fill-requires : tie.Need-fill-requires
@@ -44,8 +44,8 @@ fill-requires c κs =
     let r = c .before .before .before .before .before .before .before .before in
     let w = r .read .ensures in
     let part = c .before .before .before .before .part-in-range .ensures .yes (not-false _ (c .before .before .before .if3 .left)) in
-    let tiles = r .before .before .before .before .before .before .args .tiles .0 in (
-      (r .before .before .verdict .ensures .stored (r .before .if1 .left), w),
+    let tiles = r .before .before .before .before .before .args .tiles .0 in (
+      (r .before .before .number .ensures .stored (r .before .if1 .left), w),
       (part .inside, omega (arith, c .before .if4 .left, c .before .before .table-length .ensures, ap (λ (plan : Plan). tableLength plan tiles) (w .plan))),
     )
 
@@ -53,7 +53,7 @@ returns-5 : tie.Need-returns-5
 returns-5 c =
     let r = c .before .before .before .before .before .before .before .before .before .before .before .before in
     let p = c .before .before .before .before .before .before .before in
-    expand-done (r .before .before .verdict .ensures .stored (r .before .if1 .left)) (r .read .ensures) _ _ _ _ (p .before .before .if2 .left)
+    expand-done (r .before .before .number .ensures .stored (r .before .if1 .left)) (r .read .ensures) _ _ _ _ (p .before .before .if2 .left)
     (p .before .part-in-range .ensures .yes (not-false _ (p .if3 .left)))
     (c .before .before .before .before .before .before .table-length .ensures) (c .before .before .before .before .before .if4 .left)
     (c .done .ensures .0) (c .done .ensures .1) (c .before .before .before .fill .ensures)

@@ -5,14 +5,14 @@ use Rattle.planner.proofs.purchase.Statement.{statement}
 use Rattle.planner.proofs.purchase.Tie as tie
 
 returns : tie.Need-returns
-returns c = purchase-refused (c .before .before .verdict .ensures) (c .before .if1 .taken) (c .refused .ensures .0) _ (c .refused .ensures .1) _ _
+returns c = purchase-refused (c .before .before .number .ensures) (c .before .if1 .taken) (c .refused .ensures .0) _ (c .refused .ensures .1) _ _
 
 purchase-on-requires : tie.Need-purchase-on-requires
-purchase-on-requires c κs = c .before .before .verdict .ensures .stored (c .before .if1 .left)
+purchase-on-requires c κs = c .before .before .number .ensures .stored (c .before .if1 .left)
 
 returns-2 : tie.Need-returns-2
 returns-2 c =
-    let stored = c .before .before .before .before .before .verdict .ensures .stored (c .before .before .before .before .if1 .left) in
+    let stored = c .before .before .before .before .before .number .ensures .stored (c .before .before .before .before .if1 .left) in
     purchase-on stored _ _ _ (c .before .before .purchase-on .ensures)
 
 pub purchase-spec : {M : Type 1} → statement M

@@ -18,11 +18,11 @@ returns : tie.Need-returns
 returns c = begun-image (c .before .before .verdict .ensures) _ _ _ _ _ (c .before .if1 .taken) (c .refused .ensures .0) (c .refused .ensures .1)
 
 read-requires : tie.Need-read-requires
-read-requires c κs = stored-long (c .before .verdict .ensures .stored (c .if1 .left))
+read-requires c κs = stored-long (c .before .verdict .ensures .number-is .stored (c .if1 .left))
 
 within-requires : tie.Need-within-requires
 within-requires c κs =
-    let h = c .before .before .verdict .ensures .stored (c .before .if1 .left) in
+    let h = c .before .before .verdict .ensures .number-is .stored (c .before .if1 .left) in
     omega (arith, c .read .ensures .nodes, stored-nodes h, h .lawful .site .nodes .1)
 
 -- the nodes that were read are those that the image states
@@ -52,7 +52,7 @@ returns-4 c =
 words-of-requires : tie.Need-words-of-requires
 words-of-requires c κs =
     let w = c .before .before .before in
-    w .before .before .before .verdict .ensures .stored (w .before .before .if1 .left)
+    w .before .before .before .verdict .ensures .number-is .stored (w .before .before .if1 .left)
 
 returns-5 : tie.Need-returns-5
 returns-5 c =
@@ -63,7 +63,7 @@ returns-5 c =
 transcribe-requires : tie.Need-transcribe-requires
 transcribe-requires c κs =
     let w = c .before .before .before .before .before .before in
-    w .before .before .before .verdict .ensures .stored (w .before .before .if1 .left)
+    w .before .before .before .verdict .ensures .number-is .stored (w .before .before .if1 .left)
 
 returns-6 : tie.Need-returns-6
 returns-6 c =

@@ -9,20 +9,20 @@ use Rattle.figures.proofs.statements.figures_of.Tie as tie
 returns : tie.Need-returns
 returns c =
     let zeros = c .refused .ensures in
-    (figures-refused (c .before .before .verdict .ensures) (c .before .if1 .taken) (zeros .0) (zeros .1), omega (arith, zeros .1 .count))
+    (figures-refused (c .before .before .number .ensures) (c .before .if1 .taken) (zeros .0) (zeros .1), omega (arith, zeros .1 .count))
 
 read-requires : tie.Need-read-requires
-read-requires c κs = stored-long (c .before .verdict .ensures .stored (c .if1 .left))
+read-requires c κs = stored-long (c .before .number .ensures .stored (c .if1 .left))
 
 pass-requires : tie.Need-pass-requires
-pass-requires c κs = (c .before .before .before .verdict .ensures .stored (c .before .before .if1 .left), c .before .read .ensures, refl)
+pass-requires c κs = (c .before .before .before .number .ensures .stored (c .before .before .if1 .left), c .before .read .ensures, refl)
 
 data-slots-requires : tie.Need-data-slots-requires
-data-slots-requires c κs = plan-held (c .before .before .before .before .verdict .ensures .stored (c .before .before .before .if1 .left)) (c .before .before .read .ensures)
+data-slots-requires c κs = plan-held (c .before .before .before .before .number .ensures .stored (c .before .before .before .if1 .left)) (c .before .before .read .ensures)
 
 sum-up-requires : tie.Need-sum-up-requires
 sum-up-requires c κs =
-    let stored = c .before .before .before .before .before .before .verdict .ensures .stored (c .before .before .before .before .before .if1 .left) in
+    let stored = c .before .before .before .before .before .before .number .ensures .stored (c .before .before .before .before .before .if1 .left) in
     let read = c .before .before .before .before .read .ensures in
     let slots = c .before .data-slots .ensures in
     let passed = c .before .before .pass .ensures in
@@ -30,7 +30,7 @@ sum-up-requires c κs =
 
 returns-2 : tie.Need-returns-2
 returns-2 c =
-    let stored = c .before .before .before .before .before .before .before .verdict .ensures .stored (c .before .before .before .before .before .before .if1 .left) in
+    let stored = c .before .before .before .before .before .before .before .number .ensures .stored (c .before .before .before .before .before .before .if1 .left) in
     let read = c .before .before .before .before .before .read .ensures in
     let figures = c .sum-up .ensures in (
       figures-done stored read (c .before .before .data-slots .ensures) (c .before .before .before .pass .ensures) figures,
