@@ -40,7 +40,8 @@ pub const KIND: Kind = Kind {
 /// The longest input that is tried.
 const LONGEST: usize = 65_535;
 
-/// A book cut at every byte, no input, full books and longer ones, and inputs of many bytes.
+/// A book cut at every byte, no input, a book with one bit of any byte changed, full books and longer ones, and inputs of
+/// many bytes.
 fn fixed(dice: &mut Dice) -> Vec<Vec<u8>> {
     let mut book = empty_book(open_plan(4), line(4));
     add_stream(&mut book, 300, 0, 2, 10);
@@ -48,6 +49,7 @@ fn fixed(dice: &mut Dice) -> Vec<Vec<u8>> {
     let mut streams = Vec::new();
     for image in images(&book) {
         streams.extend((0..=image.len()).map(|end| image[..end].to_vec()));
+        streams.extend((0..image.len()).map(|place| flipped(&image, place)));
     }
     for (rows, hops) in [(64, 8), (70, 1), (36, 15), (200, 3)] {
         let mut full = empty_book(open_plan(32), line(64));
@@ -62,6 +64,13 @@ fn fixed(dice: &mut Dice) -> Vec<Vec<u8>> {
     }
     streams.iter_mut().for_each(|stream| stream.truncate(LONGEST));
     streams
+}
+
+/// The image with the lowest bit of a byte changed.
+fn flipped(image: &[u8], place: usize) -> Vec<u8> {
+    let mut bad = image.to_vec();
+    bad[place] ^= 1;
+    bad
 }
 
 /// So many rows, all but a few of them with the ids of those before.
