@@ -45,7 +45,7 @@ fn move_down(input: &mut [u8], start: usize, end: usize)
     let mut i = start;
     while i < end {
         let byte = input[i];
-        writer::put(input, i - start, byte);
+        input[i - start] = byte;
         i += 1;
     }
 }

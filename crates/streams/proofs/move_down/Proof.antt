@@ -1,8 +1,8 @@
 -- Every byte is read and stored within the buffer.
 use native.Mathlib.Omega.{arith}
 use Prim.Native.Nat.{_≤_, _-_}
-use mathlib.Core.Path.{_≡_}
-use lib.ListN.{length}
+use mathlib.Core.Path.{_≡_, _∙_}
+use lib.ListN.{length, length-set}
 use Rattle.streams.proofs.move_down.Statement.{statement}
 use Rattle.streams.proofs.move_down.Tie as tie
 
@@ -18,11 +18,11 @@ loop-holds c = omega arith
 slice-read-byte : tie.Need-slice-read-byte Inv-loop μ-loop
 slice-read-byte c = omega arith
 
-sub-put : tie.Need-sub-put Inv-loop μ-loop
-sub-put c = omega arith
+sub-input : tie.Need-sub-input Inv-loop μ-loop
+sub-input c = omega arith
 
-put-requires : tie.Need-put-requires Inv-loop μ-loop
-put-requires c κs = omega arith
+slice-write-input : tie.Need-slice-write-input Inv-loop μ-loop
+slice-write-input c = omega arith
 
 add-i : tie.Need-add-i Inv-loop μ-loop
 add-i c = omega arith
@@ -31,7 +31,7 @@ loop-less : tie.Need-loop-less Inv-loop μ-loop
 loop-less c = omega arith
 
 loop-again : tie.Need-loop-again Inv-loop μ-loop
-loop-again c = omega arith
+loop-again c = let l = c .before .before .loop in (omega arith, omega arith, length-set (l .input) _ _ ∙ l .inv .2)
 
 same-length : tie.Need-same-length Inv-loop μ-loop
 same-length c = omega arith
@@ -47,8 +47,8 @@ move-down-spec =
     μ-loop
     loop-holds
     slice-read-byte
-    sub-put
-    put-requires
+    sub-input
+    slice-write-input
     add-i
     loop-less
     loop-again
