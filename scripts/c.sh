@@ -10,7 +10,7 @@ planner_archive() {
         return
     fi
     if [ ! -f "$archive" ] || [ -n "$(find crates crates.txt -newer "$archive" -type f -print -quit)" ]; then
-        prover staticlib planner >&2
+        in_memory rt staticlib planner >&2
     fi
 }
 
