@@ -12,7 +12,7 @@
  * 4,294,967,295 hop uses, and every stream is of it. A new or changed book is written in version 5;
  * lindurask_rewrite keeps the version. The cycle is 1,000 tiles, whatever the version.
  *
- * Link with target/staticlib/libplanner.a, which `rt staticlib planner` makes (x86-64 Linux).
+ * Link with target/staticlib/libplanner.a, which examples/run makes (x86-64 Linux).
  *
  *
  * What a call says back

@@ -2,16 +2,12 @@
 # SOURCE WORDS.. builds a C program over it with these words for the compiler. The archive is for x86-64; elsewhere the
 # kit's compiler and linker build the program, with the machine's own headers, and scripts/runner.sh says how it runs.
 # LINDURASK_ARCHIVE names another archive.
-. "$(dirname "${BASH_SOURCE[0]}")/prover.sh"
+root=$(cd "$(dirname "${BASH_SOURCE[0]}")/.." && pwd)
+. "$root/scripts/programs.sh"
 archive=${LINDURASK_ARCHIVE:-target/staticlib/libplanner.a}
 
 planner_archive() {
-    if [ -n "${LINDURASK_ARCHIVE:-}" ]; then
-        return
-    fi
-    if [ ! -f "$archive" ] || [ -n "$(find crates crates.txt -newer "$archive" -type f -print -quit)" ]; then
-        in_memory rt staticlib planner >&2
-    fi
+    [ -n "${LINDURASK_ARCHIVE:-}" ] || planner_library
 }
 
 c_program() { # PROGRAM SOURCE WORDS..
@@ -23,7 +19,7 @@ c_program() { # PROGRAM SOURCE WORDS..
         "${CC:-cc}" "${words[@]}" "$source" "$archive" -o "$program"
         return
     fi
-    tools=$(dirname -- "$(dirname -- "$(rt doc)")")/on/$(uname -m)/toolchain
+    tools=$(dirname -- "$(rt doc)")/on/$(uname -m)/toolchain
     lib=$tools/lib
     "$tools/bin/clang" --target=x86_64-linux-gnu -fPIE "${words[@]}" -nostdlibinc -isystem "$(cc -print-file-name=include)" \
         -idirafter "/usr/include/$(cc -print-multiarch)" -idirafter /usr/include -c "$source" -o "$program.o"

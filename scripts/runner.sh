@@ -6,7 +6,7 @@ runner() { # PROGRAM
     machine=$(uname -m)
     run=("$1")
     if [ "$machine" != x86_64 ]; then
-        tools=$(dirname -- "$(dirname -- "$(rt doc)")")/on/$machine/toolchain
+        tools=$(dirname -- "$(rt doc)")/on/$machine/toolchain
         run=("$tools/bin/qemu-x86_64" -cpu qemu64 "$tools/lib/ld-linux-x86-64.so.2" --library-path "$tools/lib" "$1")
     fi
     [ -x "${run[0]}" ]

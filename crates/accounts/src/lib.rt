@@ -1,4 +1,7 @@
 // The accounts of an image: whether their list is in its range, whether one has a number, and what rows draw from it.
+
+#![tactic(auto)]
+
 ghost use Rattle.std.specs.Prelude.{◌≡◌, true, ◌+◌, ◌*◌, ◌<◌, ◌≤◌, length, get_or};
 ghost use Rattle.rules.specs.Words.{Tests};
 ghost use Rattle.rules.specs.Book.{AccountsInRange, KnownAccount, draws, drawn};

@@ -1,4 +1,7 @@
 // Checks another planner's tables: whether some lawful book with periods up to 100 expands to exactly these, and which.
+
+#![tactic(auto)]
+
 ghost use Rattle.std.specs.Prelude.{◌≡◌, ℕ, ◌*◌, ◌<◌, length};
 ghost use Rattle.rules.specs.Words.{Tests};
 ghost use Rattle.rules.specs.Tiles.{PlanInRange};

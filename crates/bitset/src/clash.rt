@@ -5,7 +5,7 @@ ghost use Rattle.bitset.specs.clash.Reach.{hop, ReachOf, Between};
 use rules::Node;
 
 // A hop clashes with exactly the hops that have a sender or a receiver in its reach.
-#[derive(Drop)]
+#[derive(Clone, Copy)]
 pub struct Reach {
     pub senders: u64,
     pub receivers: u64,

@@ -1,4 +1,7 @@
 // Sets of numbers below 64 in a 64-bit number: b is a member where bit b is set.
+
+#![tactic(auto)]
+
 ghost use Rattle.std.specs.Prelude.{◌≡◌, ◌⊎◌, ℕ, ◌<◌, ◌≤◌, min};
 ghost use Rattle.rules.specs.Words.{Has, NoBitFrom, Count, Tests};
 ghost use Rattle.rules.specs.Topology.{all_nodes};

@@ -1,4 +1,7 @@
 // Makes the call of a frame, unless it is a posting.
+
+#![tactic(auto)]
+
 ghost use Rattle.std.specs.Prelude.{◌+◌, ◌≤◌, length};
 ghost use Rattle.frames.specs.Lengths.{head_length, most_report};
 

@@ -15,7 +15,7 @@ use rules::answers::Answer;
 use rules::{Slot, answers};
 
 // The rows of an id: how many, their hops, and the place after them.
-#[derive(Drop)]
+#[derive(Clone, Copy)]
 struct Gone {
     rows: usize,
     hops: usize,

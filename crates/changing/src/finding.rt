@@ -7,7 +7,7 @@ use crate::reader;
 use image::Book;
 
 // Where the first row of an id stands, or between which rows it would.
-#[derive(Drop)]
+#[derive(Clone, Copy)]
 pub enum Spot {
     Between(usize),
     Here(usize),

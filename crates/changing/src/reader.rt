@@ -4,7 +4,7 @@ ghost use Rattle.rules.specs.Words.{Tests};
 ghost use Rattle.image.specs.Places.{next_at, Whole, Stands};
 ghost use Rattle.changing.specs.reader.Seeks.{Lower, Passed, Reached};
 
-#[derive(Drop)]
+#[derive(Clone, Copy)]
 pub struct Reader<'a> {
     pub image: &'a [u8],
     pub at: usize,

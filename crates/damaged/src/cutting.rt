@@ -8,7 +8,7 @@ ghost use Rattle.damaged.specs.cutting.Cutting.{CutsTo};
 use image::Book;
 
 // How many rows were cut, and where the last of them ends.
-#[derive(Drop)]
+#[derive(Clone, Copy)]
 pub struct Cutting {
     pub rows: usize,
     pub end: usize,

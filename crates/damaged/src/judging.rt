@@ -22,7 +22,7 @@ use placing::plain;
 use rules::{Slot, Tile};
 
 // What was kept so far: how many rows and hops, where the last row stands, and its key, 0 where there is none.
-#[derive(Drop)]
+#[derive(Clone, Copy)]
 pub struct Kept {
     pub rows: usize,
     pub hops: usize,
@@ -31,7 +31,7 @@ pub struct Kept {
 }
 
 // The reason to drop a row, 0 where it is kept, and what is kept then.
-#[derive(Drop)]
+#[derive(Clone, Copy)]
 pub struct Judged {
     pub reason: u8,
     pub kept: Kept,

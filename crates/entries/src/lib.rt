@@ -1,4 +1,7 @@
 // The entries of another planner's tables, counted through all of them: whether they are entries at all, and where one of a stream comes next.
+
+#![tactic(auto)]
+
 pub mod keys;
 pub mod tracing;
 

@@ -1,4 +1,7 @@
 // An image's bytes: its header, how many accounts follow it, its topology rows, and the rows of its streams, read where they stand.
+
+#![tactic(auto)]
+
 ghost use Rattle.std.specs.Prelude.{◌≡◌, ◌+◌, ◌*◌, ◌<◌, ◌≤◌, length, get_or, take};
 ghost use Rattle.rules.specs.Words.{Tests, TwoBytes};
 ghost use Rattle.rules.specs.Book.{hops, row_offset};
@@ -45,7 +48,7 @@ pub const HOP: usize = 3;
 const LEAST_ROW: usize = 5;
 
 // What an image's header says of its book, and the count behind it of its accounts, in a version that holds them.
-#[derive(Drop)]
+#[derive(Clone, Copy)]
 pub struct Book {
     pub version: u16,
     pub plan: Plan,

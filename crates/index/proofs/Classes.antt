@@ -24,6 +24,7 @@ by_period P a b c d e f g h i j K (inr (inr (inr (inr (inr (inr (inl q))))))) = 
 by_period P a b c d e f g h i j K (inr (inr (inr (inr (inr (inr (inr (inl q)))))))) = subst P (sym q) h
 by_period P a b c d e f g h i j K (inr (inr (inr (inr (inr (inr (inr (inr (inl q))))))))) = subst P (sym q) i
 by_period P a b c d e f g h i j K (inr (inr (inr (inr (inr (inr (inr (inr (inr (inl q)))))))))) = subst P (sym q) j
+by_period P a b c d e f g h i j K (inr (inr (inr (inr (inr (inr (inr (inr (inr (inr x)))))))))) = elim x [ ]
 
 pub class_of : (K : ℕ) → Period K → Class K
 class_of =

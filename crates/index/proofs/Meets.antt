@@ -36,7 +36,7 @@ tests_in v t =
     alike t (λ f. record { slot = f.slot; looked = in_looks v _ f.slot f.looked; busy = f.busy }) (λ m. record { slot = m.slot; looked = looks_in v _ m.slot m.looked; busy = m.busy })
 
 -- what the reach meets is what clashes
-module _ {T : Topology} {h : Hop} {reach : Reach} {S : ℕ} {words : List ℕ} {K o : ℕ} (w : ReachOf T h reach) where
+module _ (T : Topology) {h : Hop} {reach : Reach} {S : ℕ} {words : List ℕ} {K o : ℕ} (w : ReachOf T h reach) where
   pub reach_meets : MeetsIn (InReach reach) S words K o → MeetsIn (Clashes T h) S words K o
   reach_meets m =
       let b = m.busy in

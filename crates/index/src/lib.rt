@@ -1,5 +1,8 @@
 // The index of slots: for each slot of the first 100 tiles the set of nodes that send there, and of those that receive, in
 // streams of periods up to 100. Those of periods up to ten tiles stand in ten tiles, the others in 100, and in a fold of their tens.
+
+#![tactic(auto)]
+
 pub mod quiet;
 pub mod slots;
 pub mod tens;
@@ -40,7 +43,7 @@ const HEARING: usize = 7745;
 pub const WORDS: usize = 7809;
 
 // How a period repeats: the slots from a turn to the next, how many turns 100 tiles have and how few ten have, and the slots of ten.
-#[derive(Drop)]
+#[derive(Clone, Copy)]
 pub struct Repeats {
     pub span: Slot,
     pub turns: u16,

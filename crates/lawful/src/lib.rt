@@ -1,4 +1,7 @@
 // Whether an image is that of a lawful book, and if not, which refusal applies first.
+
+#![tactic(auto)]
+
 ghost use Rattle.std.specs.Prelude.{◌≡◌, replicate};
 ghost use Rattle.index.specs.Index.{index_length};
 ghost use Rattle.image.proofs.Marks.{Marked};

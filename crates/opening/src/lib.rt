@@ -1,4 +1,7 @@
 // Opens a stream on the image of a lawful book in the newest version.
+
+#![tactic(auto)]
+
 ghost use Rattle.rules.specs.Records.{the_asked};
 ghost use Rattle.rules.specs.Calls.Request.{Open};
 ghost use Rattle.index.specs.Beside.{ImageBeside, Works};
@@ -16,7 +19,7 @@ mod paying;
 mod ways;
 
 // What is wrong with a request by itself; or nothing is.
-#[derive(Drop)]
+#[derive(Clone, Copy)]
 pub enum Judged {
     Refused(u8),
     InOrder,

@@ -14,7 +14,7 @@ use image::Book;
 use rules::{Node, Plan, Tile};
 
 // Slots of the cycle: data slots, those in which the node works, and those in which it sleeps.
-#[derive(Drop)]
+#[derive(Clone, Copy)]
 pub struct Counts {
     pub data: u32,
     pub used: u32,

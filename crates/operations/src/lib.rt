@@ -1,4 +1,7 @@
 // What a node does in the hops of a stream.
+
+#![tactic(auto)]
+
 ghost use Rattle.std.specs.Prelude.{◌≡◌, ◌≤◌};
 ghost use Rattle.rules.specs.Table.{on_way};
 ghost use Rattle.image.specs.Places.{row_at, RowHere};
@@ -39,7 +42,7 @@ pub const SECOND_SEND: u8 = 17;
 pub const SECOND_DELIVER: u8 = 20;
 
 // Where a node stands in a route: at the place of its list of nodes, or nowhere.
-#[derive(Drop)]
+#[derive(Clone, Copy)]
 pub enum Stop {
     At(usize),
     Nowhere,

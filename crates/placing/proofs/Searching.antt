@@ -51,13 +51,13 @@ search_law hearing h reach plan a K lo end r w =
     searched_alike lo end r
     (λ k f. record {
       on_data = f.on_data;
-      quiet = λ m. f.quiet (meets_reach w m);
+      quiet = λ m. f.quiet (meets_reach _ w m);
       apart = λ m. f.apart (agrees_for (Clashes hearing h) (InReach reach) inside m);
       alone = λ m. f.alone (route_for (Clashes hearing h) (InReach reach) inside m);
     })
     (λ k f. record {
       on_data = f.on_data;
-      quiet = λ m. f.quiet (reach_meets w m);
+      quiet = λ m. f.quiet (reach_meets _ w m);
       apart = λ m. f.apart (agrees_for (InReach reach) (Clashes hearing h) clashing m);
       alone = λ m. f.alone (route_for (InReach reach) (Clashes hearing h) clashing m);
     })

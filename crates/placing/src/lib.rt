@@ -1,4 +1,7 @@
 // The first placing of a route's hops beside the rows of an index, rows that it leaves out, and another route.
+
+#![tactic(auto)]
+
 ghost use Rattle.std.specs.Prelude.{List, ℕ, ◌*◌, ◌<◌, ◌≤◌};
 ghost use Rattle.rules.specs.Words.{◌∈◌, Tests};
 ghost use Rattle.rules.specs.Tiles.{PlanInRange, Period};
@@ -20,21 +23,21 @@ use index::Repeats;
 use rules::{Node, Placed, Plan, Route, Slot, Tile};
 
 // Whether a route has a placing.
-#[derive(Drop)]
+#[derive(Clone, Copy)]
 pub enum Found {
     Placed,
     NoPlacing,
 }
 
 // The first placing: an offset for each hop, and zeros after them.
-#[derive(Drop)]
+#[derive(Clone, Copy)]
 pub struct Placing {
     pub found: Found,
     pub offsets: [Slot; rules::ROUTE_HOPS],
 }
 
 // Where a search for an offset ends.
-#[derive(Drop)]
+#[derive(Clone, Copy)]
 enum Next {
     At(u16),
     Nowhere,

@@ -1,4 +1,7 @@
 // The public calls: each takes a book as its stored image, and says back a number.
+
+#![tactic(auto)]
+
 ghost use Rattle.std.specs.Prelude.{◌≡◌, ◌<◌};
 ghost use Rattle.rules.specs.Records.{the_plan, the_asked};
 ghost use Rattle.rules.specs.Calls.{New, Check, Rewrite, Serve, Purchase, Expand, LinksOf, Links, Routes, Keeps};
@@ -23,10 +26,8 @@ use rows::keeping;
 use rules::answers::Answer;
 use rules::{Asked, Node, Plan, Tile, answers};
 
-mod interface;
-
 // A node's balance: a number, and data, used and free slots.
-#[derive(Drop)]
+#[derive(Clone, Copy)]
 pub struct Balance {
     pub number: u8,
     pub data: u32,
@@ -35,14 +36,14 @@ pub struct Balance {
 }
 
 // A node's links: a number, and how many they are.
-#[derive(Drop)]
+#[derive(Clone, Copy)]
 pub struct Linked {
     pub number: u8,
     pub links: u8,
 }
 
 // Whether a book keeps to a set: a number, and yes or no.
-#[derive(Drop)]
+#[derive(Clone, Copy)]
 pub struct Kept {
     pub number: u8,
     pub keeps: bool,

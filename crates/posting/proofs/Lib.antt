@@ -2,5 +2,4 @@ pub mod Steps
 pub mod Turns
 pub mod Indexing
 pub mod Calling
-pub mod Walks
 pub mod Unique

@@ -1,4 +1,7 @@
 // Works through a list of requests on a book: the records are lent by the caller, and each receives its own answer.
+
+#![tactic(auto)]
+
 pub mod working;
 
 ghost use Rattle.std.specs.Prelude.{◌≤◌, length, take};
@@ -25,7 +28,7 @@ pub const LISTED: usize = 100;
 
 // A request: an open of a stream on the account of the number or a close of the one of the id, and its answer.
 #[repr(C)]
-#[derive(Drop)]
+#[derive(Clone, Copy)]
 pub struct Request {
     pub opens: bool,
     pub second: bool,
@@ -38,28 +41,28 @@ pub struct Request {
 }
 
 // What one request did: its answer, and the length of the image after it.
-#[derive(Drop)]
+#[derive(Clone, Copy)]
 pub struct Outcome {
     pub answer: u8,
     pub length: usize,
 }
 
 // Where a list is: the length of the image, and whether a record was done.
-#[derive(Drop)]
+#[derive(Clone, Copy)]
 pub struct State {
     pub length: usize,
     pub done: bool,
 }
 
 // An array of requests after a posting, and what the whole call says.
-#[derive(Drop)]
+#[derive(Clone, Copy)]
 pub struct Listed {
     pub answer: Answer,
     pub requests: [Request; LISTED],
 }
 
 // One record of a list: its answer, and where the list is then.
-#[derive(Drop)]
+#[derive(Clone, Copy)]
 struct Answered {
     answer: u8,
     state: State,

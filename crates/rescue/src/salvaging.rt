@@ -16,7 +16,7 @@ use image::{Book, fields};
 use placing::plain;
 
 // What a salvage says back: a number, the length of the book, how many rows were cut, and how many bytes lost.
-#[derive(Drop)]
+#[derive(Clone, Copy)]
 pub struct Salvaged {
     pub number: u8,
     pub length: usize,
@@ -25,7 +25,7 @@ pub struct Salvaged {
 }
 
 // What was kept of the rows cut, how many these are, and where the last of them ends.
-#[derive(Drop)]
+#[derive(Clone, Copy)]
 pub struct Walk {
     pub kept: Kept,
     pub rows: usize,

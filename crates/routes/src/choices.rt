@@ -21,7 +21,7 @@ const PLACES: usize = SHORT_HOPS + 1;
 const ROOM: usize = (1 + PLACES) * LISTED;
 
 // What is kept of the routes found so far: how many, their bytes, and whether there were more.
-#[derive(Drop)]
+#[derive(Clone, Copy)]
 pub struct Tally {
     pub count: usize,
     pub length: usize,
@@ -29,7 +29,7 @@ pub struct Tally {
 }
 
 // What the list says back: a number, a length, and whether more routes exist.
-#[derive(Drop)]
+#[derive(Clone, Copy)]
 pub struct Choices {
     pub number: u8,
     pub length: usize,

@@ -1,4 +1,7 @@
 // The planner's route, over nodes that may stand in the middle: the shortest, and of several the one that comes first lexicographically.
+
+#![tactic(auto)]
+
 ghost use Rattle.std.specs.Prelude.{◌≡◌, ℕ, ◌<◌, length};
 ghost use Rattle.rules.specs.Words.{Has};
 ghost use Rattle.rules.specs.Topology.{most_route_hops};
@@ -14,7 +17,7 @@ pub mod choices;
 pub mod second;
 
 // Whether there is a route: of at most 15 hops, only of more, or none.
-#[derive(Drop)]
+#[derive(Clone, Copy)]
 pub enum Reach {
     Found,
     TooFar,
@@ -22,14 +25,14 @@ pub enum Reach {
 }
 
 // The planner's answer: with no route of at most 15 hops, the route has no hops and only node 0.
-#[derive(Drop)]
+#[derive(Clone, Copy)]
 pub struct Planned {
     pub reach: Reach,
     pub route: Route,
 }
 
 // Where the search met the source: at so many hops, at more than 15, or nowhere.
-#[derive(Drop)]
+#[derive(Clone, Copy)]
 enum Outcome {
     At(usize),
     Farther,

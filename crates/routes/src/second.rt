@@ -16,7 +16,7 @@ use rules::{Node, ROUTE_HOPS, Route, SHORT_HOPS};
 const NODES: usize = 64;
 
 // The answer: the second route; or none was found, and the route has no hops and only node 0.
-#[derive(Drop)]
+#[derive(Clone, Copy)]
 pub struct Sought {
     pub found: bool,
     pub route: Route,

@@ -75,4 +75,4 @@ module _ {s : List ℕ} {at : ℕ} {repeats : Repeats} (w : RowPlaced s at repea
 
       -- what is looked up is what it meets by the index
       pub hop_found : {o : ℕ} {words : List ℕ} {t : Bool} → o ≡ row_offset (row_at s at) i → Tests t (Finds (InReach reach) words repeats o) → Tests t (HopIndexed words s at i)
-      hop_found {words = words} {t} g m = tests_meets reach_is w.repeats_are (subst (λ (p : ℕ). Tests t (Finds (InReach reach) words repeats p)) g m)
+      hop_found {words = words} {t} g m = tests_meets _ reach_is w.repeats_are (subst (λ (p : ℕ). Tests t (Finds (InReach reach) words repeats p)) g m)

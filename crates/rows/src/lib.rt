@@ -1,4 +1,7 @@
 // Whether the rows of an image are lawful, rise by key, each second way behind its first, and fill it.
+
+#![tactic(auto)]
+
 ghost use Rattle.std.specs.Prelude.{◌≡◌, ◌≤◌, length};
 ghost use Rattle.rules.specs.Words.{Tests};
 ghost use Rattle.rules.specs.Tiles.{Period, PlanInRange};

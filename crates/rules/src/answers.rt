@@ -1,7 +1,7 @@
 // What a call says back: a number and a length.
 ghost use Rattle.std.specs.Prelude.{◌≡◌};
 
-#[derive(Drop)]
+#[derive(Clone, Copy)]
 pub struct Answer {
     pub number: u8,
     pub length: usize,

@@ -1,4 +1,7 @@
 // A node's slot table, by parts of the cycle.
+
+#![tactic(auto)]
+
 ghost use Rattle.std.specs.Prelude.{◌≡◌, ℕ, ◌+◌, ◌*◌, ◌%◌, ◌≤◌, ◌<◌, length};
 ghost use Rattle.rules.specs.Words.{Tests};
 ghost use Rattle.rules.specs.Tiles.{PlanInRange, cycle_tiles, slots_of};
@@ -85,7 +88,7 @@ fn blank(plan: Plan, first: Tile, tiles: Tile, out: &mut [u8])
 }
 
 // A part of the cycle: the slots of a tile, the slot where it starts, and how many slots it has.
-#[derive(Drop)]
+#[derive(Clone, Copy)]
 struct Part {
     pub slots: Slot,
     pub start: Slot,
@@ -93,7 +96,7 @@ struct Part {
 }
 
 // A stream by how its entries repeat in a part: its id and way, the slots of its period, how late in it the part starts, and its hops.
-#[derive(Drop)]
+#[derive(Clone, Copy)]
 struct Stream {
     pub id: u16,
     pub way: u8,

@@ -1,4 +1,7 @@
 // The rows of a topology as they stand in an image, read into an array.
+
+#![tactic(auto)]
+
 pub mod soundness;
 
 ghost use Rattle.std.specs.Prelude.{◌+◌, ◌*◌, ◌<◌, ◌≤◌, length};

@@ -1,4 +1,7 @@
 // Writes the parts of an image into a lent buffer, one behind the other.
+
+#![tactic(auto)]
+
 ghost use Rattle.std.specs.Prelude.{◌≡◌, [], ◌∷◌, ◌++◌, ◌+◌, ◌-◌, ◌*◌, ◌/◌, ◌<◌, ◌≤◌, length, drop};
 ghost use Rattle.rules.specs.Topology.{most_route_hops};
 ghost use Rattle.rules.specs.Tiles.{PlanInRange};
