@@ -55,7 +55,9 @@ fn rows_of(image: &[u8], index: &mut [u64; index::WORDS], id: u16, at: usize, sl
             next,
         };
     }
-    if image::id_at(image, next) != id {
+    let behind = image::id_at(image, next);
+    let another = behind != id;
+    if another {
         return Gone {
             rows: 1,
             hops,

@@ -23,7 +23,8 @@ pub fn is_cuttable(image: &[u8], at: usize) -> bool
         return false;
     }
     let h = image::hops_at(image, at);
-    1 <= h && h <= Book::ROUTE_HOPS
+    let some = 1 <= h;
+    some && h <= Book::ROUTE_HOPS
 }
 
 // Cuts rows from a place on while one can be cut out.

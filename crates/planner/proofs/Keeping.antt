@@ -6,7 +6,6 @@ use mathlib.Core.List.{List}
 use Prim.Native.Nat.{ℕ}
 use native.Mathlib.Omega.{arith}
 use Rattle.rules.specs.Words.{NoBitFrom, Tests}
-use Rattle.rules.specs.Topology.{nodes}
 use Rattle.rules.specs.Image.{version_of}
 use Rattle.rules.specs.Calls.{keeps_refusals, BookKeepsTo, Keeps}
 use Rattle.rules.proofs.Reading.{book_in, LawfulImage}

@@ -67,7 +67,8 @@ pub fn work(
 {
     let spot = finding::find(&book[..length], q.id);
     let answer = serve(&book[..length], index, mains, q, spot, next);
-    if answer.number == 0 {
+    let done = answer.number == 0;
+    if done {
         let laid: &[u8] = next;
         take_over(book, finding::place(spot), &laid[..answer.length]);
         Outcome {

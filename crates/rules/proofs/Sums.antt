@@ -1,6 +1,6 @@
 -- The laws of sums.
 use mathlib.Core.Path.{◌≡◌, refl, sym, ap, ap₂, ◌∙◌, subst}
-use mathlib.Core.Logic.{◌⊎◌, ⊎_elim}
+use mathlib.Core.Logic.{⊎_elim}
 use Prim.Native.Nat.{ℕ, zero, suc, ◌+◌, ◌*◌, ◌<◌}
 use native.Mathlib.Nat.{le_refl, le-suc, le_trans, lt_irrefl, le_of_suc-le-suc, not-suc-le-zero, eq-or-lt_of_le, zero-mul, suc-mul, add-suc, add-zero}
 use native.Mathlib.Omega.{arith}

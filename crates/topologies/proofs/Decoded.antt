@@ -4,7 +4,7 @@ use mathlib.Core.List.{List, [], ◌∷◌, ◌++◌}
 use Prim.Native.Nat.{ℕ, zero, suc, ◌+◌, ◌*◌, ◌<◌, ◌≤◌, ◌-◌}
 use native.Mathlib.Numerals.{add-one}
 use native.Mathlib.Omega.{arith}
-use lib.ListN.{length, take, drop, set, replicate, length-take, length-drop}
+use lib.ListN.{length, drop, set, replicate, length-take, length-drop}
 use lib.Seq.{drop-cons, take-suc-set, drop-set-lt}
 use Rattle.rules.specs.Image.{word64_at, sets_at}
 use Rattle.rules.proofs.Written.{length_sets_at}

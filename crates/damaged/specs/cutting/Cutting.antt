@@ -1,5 +1,5 @@
 -- Rows that were cut out of an image, up to a place.
-use Rattle.std.specs.Prelude.{◌≡◌, List, ◌++◌, ℕ, ◌+◌, ◌*◌, ◌≤◌, length, drop}
+use Rattle.std.specs.Prelude.{◌≡◌, List, ◌++◌, ℕ, ◌*◌, ◌≤◌, length, drop}
 use Rattle.rules.specs.Book.{Row}
 use Rattle.rules.specs.Image.{version_of}
 use Rattle.rules.specs.Salvage.{CutAll}

@@ -15,7 +15,7 @@ use Rattle.rules.specs.Tables.{operation_at}
 use Rattle.rules.specs.Records.{node_numbers, slot_numbers, the_route, the_offsets}
 use Rattle.rules.specs.declared.{Node.Node, Slot.Slot, Placed.Placed}
 use Rattle.rules.proofs.Records.{map_set}
-use Rattle.rules.proofs.Seen.{Has, Next, lawful, wide, period_read, offset_inside, node_known, receives_there, receiver_is, forward_read}
+use Rattle.rules.proofs.Seen.{Has, Next, lawful, period_read, offset_inside, node_known, receives_there, receiver_is, forward_read}
 use Rattle.rules.proofs.Alike.{way_and_operation}
 use Rattle.entries.specs.Entries.{Receives, Receiver}
 use Rattle.entries.specs.tracing.Rows.{RowFrom, PeriodRead, RouteRead, Traced}

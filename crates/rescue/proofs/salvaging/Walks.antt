@@ -5,7 +5,7 @@ use Prim.Native.Nat.{ℕ, ◌+◌, ◌*◌, ◌-◌, ◌≤◌}
 use native.Mathlib.Omega.{arith}
 use native.Mathlib.Decide.{ℕ_discrete}
 use lib.ListN.{length, take, drop, replicate, length-append}
-use Rattle.rules.specs.Topology.{nodes, NodesInRange}
+use Rattle.rules.specs.Topology.{NodesInRange}
 use Rattle.rules.specs.Book.{Row, Book, hops_in_all, most_accounts, LawfulSite}
 use Rattle.rules.specs.Image.{image_length, word, in_turn, encode_row, version_of, nodes_of, plan_of, account_count_of, accounts_of, links_place, site_of, book_of, rows_place}
 use Rattle.rules.specs.Calls.{InOrder}

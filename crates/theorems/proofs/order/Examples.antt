@@ -37,7 +37,7 @@ use Rattle.theorems.proofs.order.Long.{long_held}
 abbrev zeros : ℕ → List ℕ
 zeros n = replicate n 0
 
--- an index of 100 tiles of the image's plan, and a full_size buffer
+-- an index of 100 tiles of the image's plan, and a full-size buffer
 abbrev tiles : List ℕ → List ℕ
 tiles image = zeros (index_length (plan_of image))
 
@@ -56,7 +56,7 @@ ample image = let j = just_full image in record { tiles = omega (arith, j.0); fu
 
 -- ALL PREMISES KEPT
 
--- computed with an index of 100 tiles and a full_size buffer, and no word and no byte more
+-- computed with an index of 100 tiles and a full-size buffer, and no word and no byte more
 justly : (image : List ℕ) (mains : ℕ) (qs : List Request) (ns last : List ℕ) → T (posts (tiles image) page image mains qs 0 ns last) → Posting JustFull image mains qs 0 ns last
 justly image mains qs = posted JustFull (tiles image) page image (just_full image) mains qs 0
 

@@ -28,7 +28,7 @@ image = encode newest
 
 -- ALL PREMISES KEPT
 
--- an index of 100 tiles and a full_size buffer, and no word and no byte more
+-- an index of 100 tiles and a full-size buffer, and no word and no byte more
 abbrev pub JustFull : List ℕ → List ℕ → List ℕ → Type 0
 JustFull image index out = (length index ≡ index_length (plan_of image)) × (length out ≡ longest_image newest)
 

@@ -96,7 +96,7 @@ WithoutFullSize =
     → ((q : Request) → q ∈ qs → IdInRange q)
     → Pairwise DifferentIds qs → Pairwise (Apart mains b) qs → Room mains b qs → InAnyOrder (OfBytes n) image mains qs
 
--- every index has n words, and every output is full_size
+-- every index has n words, and every output is full-size
 abbrev pub OfWords : ℕ → List ℕ → List ℕ → List ℕ → Type 0
 OfWords n image index out = (length index ≡ n) × FullSize out
 
