@@ -91,7 +91,8 @@ module _ (plan : Plan) (w : PlanInRange plan) where
         let place : i % S ≡ p = ap (λ (x : ℕ). x % S) (sym e) ∙ add-mul-mod_self_right p t S ∙ mod-eq_of_lt m in
         let tile : i / S ≡ t = ap (λ (x : ℕ). x / S) (sym e) ∙ add-mul-div_right p t {z = S} w.some ∙ ap (λ (x : ℕ). x + t) (div-eq_of_lt m) ∙ omega arith in
         let k : (t + 1) * S ≤ short_tiles * N * S = mul-le-mul (omega arith) (le_refl S) in
-        subst₂ (λ (q u : ℕ). EntryIn (ltb q (control_slots plan u)) (operation_at tables i) (id_at tables i)) place tile (entry_back plan (i % L) (place_round i) (control_round i) (h i (omega arith)))
+        subst₂ (λ (q u : ℕ). EntryIn (ltb q (control_slots plan u)) (operation_at tables i) (id_at tables i)) place tile
+        (entry_back plan (i % L) (place_round i) (control_round i) (h i (omega arith)))
 
     pub tests_entries : {t : Bool} → length tables ≡ 3 * entries_of plan N → Tests t Tiles → Tests t (TablesOfEntries plan N tables)
     tests_entries e h = alike h (λ g. record { size = e; entries = tiles_entries g }) (λ g. entries_tiles g.entries)

@@ -116,4 +116,5 @@ all_lent {S} {words} {n} {index} {s} {t} e f w = record { size = w.size; sets = 
     sets sender slot l =
         at slot l (2 * (slot % (quick_tiles * S))) (omega (arith, slot_rest S slot l, e)) (2 * slot) (2 * (quick_place + slot % (quick_tiles * S))) (tens slot l) (omega arith)
     sets receiver slot l =
-        at slot l (2 * (slot % (quick_tiles * S)) + 1) (omega (arith, slot_rest S slot l, e)) (2 * slot + 1) (2 * (quick_place + slot % (quick_tiles * S)) + 1) (omega (arith, tens slot l)) (omega arith)
+        at slot l (2 * (slot % (quick_tiles * S)) + 1) (omega (arith, slot_rest S slot l, e)) (2 * slot + 1)
+        (2 * (quick_place + slot % (quick_tiles * S)) + 1) (omega (arith, tens slot l)) (omega arith)

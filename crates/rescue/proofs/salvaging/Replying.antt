@@ -11,7 +11,8 @@ use lib.ListN.{length, drop, length-drop}
 use Rattle.rules.specs.Says.{Refusal, Says}
 use Rattle.rules.specs.Topology.{nodes, SoundTopologies}
 use Rattle.rules.specs.Book.{Book, hops_in_all, most_streams, most_hops, AccountsInRange}
-use Rattle.rules.specs.Image.{header_length, image_length, row_length, in_turn, encode_row, encode, version_of, nodes_of, FieldsInRange, accounts_of, links_place, links_of, hearing_of, book_of, rows_place}
+use Rattle.rules.specs.Image.{header_length, image_length, row_length, in_turn, encode_row, encode, version_of}
+use Rattle.rules.specs.Image.{nodes_of, FieldsInRange, accounts_of, links_place, links_of, hearing_of, book_of, rows_place}
 use Rattle.rules.specs.Calls.{Wrote}
 use Rattle.rules.specs.Salvage.{CutAll, report_bytes, NoRoom, salvage_refusals}
 use Rattle.rules.proofs.Tests.{never, fails, tests_lt}

@@ -19,7 +19,8 @@ use Rattle.theorems.specs.model.Answer.{passes, or_given, routes_of, rows_added,
 use Rattle.theorems.specs.model.Table.{cell_of, data_count, free_count, part_of}
 use Rattle.theorems.specs.model.Reading.{image_number}
 use Rattle.theorems.specs.model.Calls.{Result, PostResult, new, rewrite, post, serve, purchase, balance, links, keeps, expand}
-use Rattle.theorems.specs.model.Examples.{plan_a, line_a, heard_a, square, pair, book_on, empty, heard_as, with_accounts, asked, asked_two, asked_on, opening, opening_two, any_middle, number_on, after}
+use Rattle.theorems.specs.model.Examples.{plan_a, line_a, heard_a, square, pair, book_on, empty, heard_as}
+use Rattle.theorems.specs.model.Examples.{with_accounts, asked, asked_two, asked_on, opening, opening_two, any_middle, number_on, after}
 use Rattle.theorems.specs.model.Examples.{after2, after3, after_second, opens_with, image_p10, image_p11, wide_p10, wide_p11, heard_p10, heard_p11, older_p10, older_p11, old_p10, old_p11}
 
 infix 4 ◌gives◌

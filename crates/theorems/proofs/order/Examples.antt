@@ -155,7 +155,8 @@ kept = record {
     reordered = put (put none here) (there here);
     forth = worked JustFull (tiles (image long_ones)) page (just_full (image long_ones)) (ample (image long_ones)) long_held (below long_ones) on_long (omega arith) (0 ∷ 0 ∷ []) (image short_after)
         (inl refl) tt;
-    back = worked JustFull (tiles (image long_ones)) page (just_full (image long_ones)) (ample (image long_ones)) long_held (below long_ones) on_long_back (omega arith) (0 ∷ 0 ∷ []) (image short_after)
+    back = worked JustFull (tiles (image long_ones)) page (just_full (image long_ones)) (ample (image long_ones)) long_held
+        (below long_ones) on_long_back (omega arith) (0 ∷ 0 ∷ []) (image short_after)
         (inl refl) tt;
   };
   accounts =
@@ -231,9 +232,11 @@ decides = record {
   rows = rows_decide;
   pays = both tt tt;
   most = fully (image (empty pair)) (any_middle (empty pair)) (closes 65 0) 26 (threes 65) (image (empty pair)) tt;
-  full_size = posted (OfBytes short) (tiles pair_image) (zeros short) pair_image ((ample pair_image).tiles, length-replicate {A = ℕ} short 0) (any_middle (empty pair)) (opening 1 0 1 2 ∷ []) 12 (0 ∷ [])
+  full_size = posted (OfBytes short) (tiles pair_image) (zeros short) pair_image ((ample pair_image).tiles, length-replicate {A = ℕ} short 0)
+      (any_middle (empty pair)) (opening 1 0 1 2 ∷ []) 12 (0 ∷ [])
       pair_image tt;
-  tiles = posted (OfWords short_tiles) (zeros short_tiles) page pair_image (length-replicate {A = ℕ} short_tiles 0, (ample pair_image).full) (any_middle (empty pair)) (opening 1 0 1 2 ∷ []) 12 (0 ∷ [])
+  tiles = posted (OfWords short_tiles) (zeros short_tiles) page pair_image (length-replicate {A = ℕ} short_tiles 0, (ample pair_image).full)
+      (any_middle (empty pair)) (opening 1 0 1 2 ∷ []) 12 (0 ∷ [])
       pair_image tt;
   low = fully (image (empty pair)) 4 (opening 1 0 1 2 ∷ []) 25 (0 ∷ []) (image (empty pair)) tt;
   over_1 = fully (image (empty square)) 2 (opening 1 0 3 2 ∷ []) 0 (0 ∷ []) (image (over_square 1)) tt;
