@@ -1,6 +1,6 @@
 -- Accounts read one after the other: rising numbers, and their ranges.
-use mathlib.Core.Path.{◌≡◌, refl, sym, ap, ◌∙◌, subst}
-use mathlib.Core.Logic.{inl, inr, ⊎_elim, ◌↔◌}
+use mathlib.Core.Path.{◌≡◌, refl, sym, ap, ◌∙◌, subst, subst₂}
+use mathlib.Core.Logic.{inl, inr, ◌↔◌}
 use mathlib.Core.Bool.{Bool, true, false, cond}
 use mathlib.Core.List.{List, [], ◌∷◌}
 use Prim.Native.Nat.{ℕ, zero, suc, ◌+◌, ◌*◌, ◌-◌, ◌<◌, ◌≤◌}
@@ -45,30 +45,19 @@ none : (s : List ℕ) (at left : ℕ) → left ≤ 0 → accounts_at s at left �
 none s at zero l = refl
 none s at (suc n) l = absurd (omega arith)
 
--- the accounts that are left stand in the bytes, and P of them is P of all
-pub record Left (P : Type 0) (s : List ℕ) (at left : ℕ) (Q : List Account → Type 0) : Type 0 where
-  pub inside : at + 6 * left ≤ length s
-  pub rest : Q (accounts_at s at left) ↔ P
-
-module _ {P : Type 0} {s : List ℕ} where
-  -- RISING
-  pub rises_early : {at left least number : ℕ} → 0 < left → number ≡ word_at s at → number < least → Left P s at left (RisesFrom least) → P → ⊥
+-- RISING on from the account at a place
+module _ (s : List ℕ) (at : ℕ) {left least number : ℕ} (l : 0 < left) (e : number ≡ word_at s at) where
+  pub rises_early : number < least → RisesFrom least (accounts_at s at left) → ⊥
   unfolding account_at
-  rises_early {at} {left} {least} l e k h p = let r = subst (RisesFrom least) (split s at left l) (h.rest.1 p) in omega (arith, r.0, e)
+  rises_early k p = let r = subst (RisesFrom least) (split s at left l) p in omega (arith, r.0, e)
 
-  pub rises_more : {at left least number : ℕ} → 0 < left → number ≡ word_at s at → least ≤ number → Left P s at left (RisesFrom least)
-      → Left P s (at + 6) (left - 1) (RisesFrom (number + 1))
+  pub rises_more : {P : Type 0} {next rest : ℕ} → next ≡ at + 6 → rest ≡ left - 1 → least ≤ number → RisesFrom least (accounts_at s at left) ↔ P
+      → RisesFrom (number + 1) (accounts_at s next rest) ↔ P
   unfolding account_at
-  rises_more {at} {left} {least} {number} l e k h = record {
-    inside = omega (arith, h.inside);
-    rest = (
-      λ r. h.rest.0 (subst (RisesFrom least) (sym (split s at left l)) (omega (arith, e), subst (λ (n : ℕ). RisesFrom (n + 1) (accounts_at s (at + 6) (left - 1))) e r)),
-      λ p. subst (λ (n : ℕ). RisesFrom (n + 1) (accounts_at s (at + 6) (left - 1))) (sym e) (subst (RisesFrom least) (split s at left l) (h.rest.1 p)).1,
-    );
-  }
-
-  pub rises_end : {at left least : ℕ} → left ≤ 0 → Left P s at left (RisesFrom least) → P
-  rises_end {at} {left} {least} l h = h.rest.0 (subst (RisesFrom least) (sym (none s at left l)) tt)
+  rises_more {P} f g k h = subst₂ (λ (i n : ℕ). RisesFrom (number + 1) (accounts_at s i n) ↔ P) (sym f) (sym g) (
+    λ r. h.0 (subst (RisesFrom least) (sym (split s at left l)) (omega (arith, e), subst (λ (n : ℕ). RisesFrom (n + 1) (accounts_at s (at + 6) (left - 1))) e r)),
+    λ p. subst (λ (n : ℕ). RisesFrom (n + 1) (accounts_at s (at + 6) (left - 1))) (sym e) (subst (RisesFrom least) (split s at left l) (h.1 p)).1,
+  )
 
 -- RANGES, of accounts that are bytes
 module _ (s : List ℕ) (b : Bytes s) where
@@ -99,11 +88,8 @@ module _ (s : List ℕ) (b : Bytes s) where
   tests_range at n some most h =
       alike h (in_range at n some most) (λ g. pairwise_rises 0 (accounts_at s at n) (λ x m. omega arith) g.rising)
 
-pub too_few : (s : List ℕ) (at n : ℕ) → n < 1 → AccountsInRange (accounts_at s at n) → ⊥
-too_few s at n l g = omega (arith, l, g.some, length_accounts_at s at n)
-
-pub too_many : (s : List ℕ) (at n : ℕ) → most_accounts < n → AccountsInRange (accounts_at s at n) → ⊥
-too_many s at n l g = omega (arith, l, g.most, length_accounts_at s at n)
+pub some_most : (s : List ℕ) (at n : ℕ) → AccountsInRange (accounts_at s at n) → (1 ≤ n) × (n ≤ most_accounts)
+some_most s at n g = (omega (arith, g.some, length_accounts_at s at n), omega (arith, g.most, length_accounts_at s at n))
 
 -- THE ACCOUNTS OF AN IMAGE
 pub has_list : (v A : ℕ) → ltb header_length (links_start v A) ≡ has_accounts v
@@ -118,9 +104,6 @@ module _ {s : List ℕ} {b : Book} {r : Bool} (h : HeaderOf s b) (e : r ≡ has_
   said : (t : Bool) → r ≡ t → has_accounts (version_of s) ≡ t
   said t f = ap has_accounts (sym h.version) ∙ sym e ∙ f
 
-  pub without_list : r ≡ false → accounts_of s ≡ old_accounts
-  without_list f = ap (λ (t : Bool). cond t (accounts_at s (header_length + 1) (account_count_of s)) old_accounts) (said false f)
-
   pub with_list : r ≡ true → accounts_of s ≡ accounts_at s (header_length + 1) b.accounts
   with_list f =
       ap (λ (t : Bool). cond t (accounts_at s (header_length + 1) (account_count_of s)) old_accounts) (said true f)
@@ -128,12 +111,3 @@ module _ {s : List ℕ} {b : Book} {r : Bool} (h : HeaderOf s b) (e : r ≡ has_
 
   pub list_inside : r ≡ true → links_place s ≤ length s → header_length + 1 + 6 * b.accounts ≤ length s
   list_inside f l = let g = ap (λ (t : Bool). header_length + cond t (1 + 6 * account_count_of s) 0) (said true f) in omega (arith, g, l, h.accounts)
-
-pub old_in_range : AccountsInRange old_accounts
-old_in_range = record {
-  some = omega arith;
-  most = omega arith;
-  rising = (λ x m. absurd m, tt);
-  number = λ x m. ⊎_elim (λ (e : x ≡ record { number = 0; bought = 4294967295 }). omega (arith, ap (λ (a : Account). a.number) e)) (λ k. absurd k) m;
-  bought = λ x m. ⊎_elim (λ (e : x ≡ record { number = 0; bought = 4294967295 }). omega (arith, ap (λ (a : Account). a.bought) e)) (λ k. absurd k) m;
-}

@@ -3,20 +3,22 @@ use mathlib.Core.Path.{◌≡◌, refl, sym, ap, ◌∙◌, subst}
 use mathlib.Core.Logic.{◌⊎◌, inl, inr, ⊎_elim}
 use mathlib.Core.Bool.{Bool, false, true}
 use mathlib.Core.List.{List, [], ◌∷◌}
+use Rattle.std.specs.Prelude.{Option, Some, None, MatchOption, is_some, IsSome, IfSome, IsNone}
 use Prim.Native.Nat.{ℕ, zero, suc, ◌+◌, ◌*◌, ◌<◌, ◌≤◌}
-use native.Mathlib.Nat.{eq-or-lt_of_le}
 use native.Mathlib.Omega.{arith}
-use lib.Dec.{ltb}
 use lib.ListN.{length, get_or}
+use Rattle.std.specs.Bool.{MatchBool}
+use Rattle.std.specs.List.{AllWithin, range_with_len}
+use Rattle.std.proofs.lemmas.List.FromFn.{length-range_with_len, get_or-range_with_len}
 use Rattle.rules.specs.Words.{◌∈◌, Pairwise, Tests}
 use Rattle.rules.specs.Book.{Account, KnownAccount}
-use Rattle.rules.specs.Image.{has_accounts, old_accounts, header_length, word_at, word32_at, accounts_at, accounts_of, links_place}
-use Rattle.rules.proofs.Tests.{alike, tests_lt}
+use Rattle.rules.specs.Image.{has_accounts, header_length, word_at, word32_at, accounts_at, accounts_of, links_place}
+use Rattle.rules.proofs.Tests.{never}
 use Rattle.rules.proofs.Written.{length_accounts_at}
 use Rattle.image.specs.Header.{HeaderOf}
 use Rattle.image.specs.declared.Book.{Book}
-use Rattle.accounts.specs.Lists.{numbers, boughts, PlaceOf, most_drawn, HoldMost, HasBought}
-use Rattle.accounts.proofs.Lists.{without_list, with_list, list_inside}
+use Rattle.accounts.specs.Lists.{numbers, boughts, StandsAt, PlaceOf, most_drawn, HoldMost, HasBought}
+use Rattle.accounts.proofs.Lists.{with_list, list_inside}
 
 -- WHERE THEY STAND
 pub number_there : (s : List ℕ) (at n i : ℕ) → i < n → get_or (numbers (accounts_at s at n)) i 0 ≡ word_at s (at + 6 * i)
@@ -34,24 +36,7 @@ module _ {s : List ℕ} {b : Book} {r : Bool} (h : HeaderOf s b) (e : r ≡ has_
   pub count_with : r ≡ true → b.accounts ≡ length (accounts_of s)
   count_with f = sym (ap length (with_list h e f) ∙ length_accounts_at s (header_length + 1) b.accounts)
 
-  pub count_without : r ≡ false → 1 ≡ length (accounts_of s)
-  count_without f = sym (ap length (without_list h e f))
-
   module _ {i : ℕ} (l : i < length (accounts_of s)) where
-    pub number_old : r ≡ false → 0 ≡ get_or (numbers (accounts_of s)) i 0
-    number_old f = first i (omega (arith, l, count_without f)) ∙ ap (λ (x : List Account). get_or (numbers x) i 0) (sym (without_list h e f))
-      where
-        first : (k : ℕ) → k < 1 → 0 ≡ get_or (numbers old_accounts) k 0
-        first zero m = refl
-        first (suc k) m = absurd (omega arith)
-
-    pub bought_old : r ≡ false → 4294967295 ≡ get_or (boughts (accounts_of s)) i 0
-    bought_old f = first i (omega (arith, l, count_without f)) ∙ ap (λ (x : List Account). get_or (boughts x) i 0) (sym (without_list h e f))
-      where
-        first : (k : ℕ) → k < 1 → 4294967295 ≡ get_or (boughts old_accounts) k 0
-        first zero m = refl
-        first (suc k) m = absurd (omega arith)
-
     pub number_listed : r ≡ true → word_at s (header_length + 1 + 6 * i) ≡ get_or (numbers (accounts_of s)) i 0
     number_listed f = sym (ap (λ (x : List Account). get_or (numbers x) i 0) (with_list h e f) ∙ number_there s (header_length + 1) b.accounts i (omega (arith, l, count_with f)))
 
@@ -105,67 +90,54 @@ one_place accounts p i j l m e = go (eq_or_lt i j)
     go (inr (inr q)) = absurd (omega (arith, later accounts p j i q l, e))
 
 -- THE PLACE OF A NUMBER
--- none of the first i has it
-pub record Passed (accounts : List Account) (n i : ℕ) : Type 0 where
-  pub few : i ≤ length accounts
-  pub other : (j : ℕ) → j < i → get_or (numbers accounts) j 0 ≡ n → ⊥
-
 module _ {accounts : List Account} {n : ℕ} where
-  pub passed_none : Passed accounts n 0
-  passed_none = record { few = omega arith; other = λ j l. absurd (omega arith) }
-
-  pub passed_more : {i number : ℕ} → i < length accounts → number ≡ get_or (numbers accounts) i 0 → (number ≡ n → ⊥) → Passed accounts n i → Passed accounts n (i + 1)
-  passed_more {i} {number} l e f h = record {
-    few = omega arith;
-    other = λ j m g. ⊎_elim
-        (λ (q : j ≡ i). f (e ∙ ap (λ (k : ℕ). get_or (numbers accounts) k 0) (sym q) ∙ g)) (λ (q : j < i). h.other j q g) (eq-or-lt_of_le (omega arith));
+  -- it was sought among all of them
+  pub place_sought : {place : Option ℕ} {count : ℕ} → count ≡ length accounts
+      → MatchOption place ((j : ℕ) → 0 ≤ j → j < count → get_or (numbers accounts) j 0 ≡ n → ⊥)
+      (λ i. (0 ≤ i) × (i < count) × (get_or (numbers accounts) i 0 ≡ n) × ((j : ℕ) → 0 ≤ j → j < i → get_or (numbers accounts) j 0 ≡ n → ⊥)) → PlaceOf accounts n place
+  place_sought {place = None} e f = record {
+    there = tt;
+    none = λ g w. let t = place_in accounts w.account w.there in f t.0 (omega arith) (omega (arith, t.1.inside)) (t.1.number_is ∙ w.named);
   }
+  place_sought {place = Some i} e f = record { there = record { here = omega (arith, f.1, e); named = f.2 }; none = λ g. never (sym g) }
 
-  pub place_here : {i number : ℕ} → i < length accounts → number ≡ get_or (numbers accounts) i 0 → number ≡ n → PlaceOf accounts n i
-  place_here l e f = record { most = omega arith; named = λ k. sym e ∙ f; none = λ k. absurd (omega arith) }
+  -- what stands at a place is known,
+  pub known_there : {i : ℕ} → StandsAt accounts n i → KnownAccount accounts n
+  known_there {i} p = let t = account_there accounts i p.here in record { account = t.0; there = t.1; named = sym t.2.number_is ∙ p.named }
 
-  pub place_none : {i count : ℕ} → count ≡ length accounts → count ≤ i → Passed accounts n i → PlaceOf accounts n count
-  place_none {i} {count} e l h = record {
-    most = omega arith;
-    named = λ k. absurd (omega arith);
-    none = λ k w. let t = place_in accounts w.account w.there in h.other t.0 (omega (arith, t.1.inside)) (t.1.number_is ∙ w.named);
-  }
+  pub stands_there : {place : Option ℕ} {i : ℕ} → PlaceOf accounts n place → place ≡ Some i → StandsAt accounts n i
+  stands_there p q = subst (λ (o : Option ℕ). IfSome o (StandsAt accounts n)) q p.there
 
-  -- a known account has its place
-  pub place_known : {i : ℕ} → PlaceOf accounts n i → KnownAccount accounts n → i < length accounts
-  place_known {i} p k = ⊎_elim (λ (q : i ≡ length accounts). absurd (p.none q k)) (λ (q : i < length accounts). q) (eq-or-lt_of_le p.most)
+  -- and a known account has its place
+  pub place_known : {place : Option ℕ} → PlaceOf accounts n place → KnownAccount accounts n → IsSome place
+  place_known {place = None} p k = absurd (p.none refl k)
+  place_known {place = Some i} p k = refl
 
-  pub tests_known : {i count : ℕ} → PlaceOf accounts n i → count ≡ length accounts → Tests (ltb i count) (KnownAccount accounts n)
-  tests_known {i} {count} p e =
-      alike (tests_lt i count)
-      (λ l. let t = account_there accounts i (omega arith) in record { account = t.0; there = t.1; named = sym t.2.number_is ∙ p.named (omega arith) })
-      (λ k. omega (arith, place_known p k))
+  pub tests_known : {place : Option ℕ} → PlaceOf accounts n place → Tests (is_some place) (KnownAccount accounts n)
+  tests_known p = record { yes = λ e. some_known p e; back = place_known p }
+    where
+      some_known : {place : Option ℕ} → PlaceOf accounts n place → IsSome place → KnownAccount accounts n
+      some_known {place = None} p e = never e
+      some_known {place = Some i} p e = known_there p.there
 
   -- what stands at its place is what it has bought
-  pub bought_here : {i bought : ℕ} → Pairwise (λ (a c : Account). a.number < c.number) accounts → PlaceOf accounts n i → i < length accounts
+  pub bought_here : {i bought : ℕ} → Pairwise (λ (a c : Account). a.number < c.number) accounts → StandsAt accounts n i
       → bought ≡ get_or (boughts accounts) i 0 → HasBought accounts n bought
-  bought_here {i} rising p l e a m f =
+  bought_here {i} rising p e a m f =
       let t = place_in accounts a m in
-      let q : i ≡ t.0 = one_place accounts rising i t.0 l t.1.inside (p.named l ∙ sym f ∙ sym t.1.number_is) in
+      let q : i ≡ t.0 = one_place accounts rising i t.0 p.here t.1.inside (p.named ∙ sym f ∙ sym t.1.number_is) in
       e ∙ ap (λ (k : ℕ). get_or (boughts accounts) k 0) q ∙ t.1.bought_is
 
-  pub bought_none : {i count : ℕ} → PlaceOf accounts n i → count ≡ length accounts → count ≤ i → HasBought accounts n 0
-  bought_none p e l a m f = absurd (p.none (omega (arith, p.most)) record { account = a; there = m; named = f })
+  pub bought_none : {place : Option ℕ} → PlaceOf accounts n place → IsNone place → HasBought accounts n 0
+  bought_none p e a m f = absurd (p.none e record { account = a; there = m; named = f })
 
--- EVERY ACCOUNT
--- the first i have bought what all rows can draw
-pub record Asked (accounts : List Account) (i : ℕ) : Type 0 where
-  pub each : (j : ℕ) → j < i → most_drawn ≤ get_or (boughts accounts) j 0
-
-module _ {accounts : List Account} where
-  pub asked_none : Asked accounts 0
-  asked_none = record { each = λ j l. absurd (omega arith) }
-
-  pub asked_more : {i bought : ℕ} → bought ≡ get_or (boughts accounts) i 0 → most_drawn ≤ bought → Asked accounts i → Asked accounts (i + 1)
-  asked_more {i} e l h = record {
-    each = λ j m. ⊎_elim
-        (λ (q : j ≡ i). subst (λ (k : ℕ). most_drawn ≤ get_or (boughts accounts) k 0) (sym q) (omega (arith, l, e))) (λ (q : j < i). h.each j q) (eq-or-lt_of_le (omega arith));
-  }
-
-  pub asked_all : {i : ℕ} → length accounts ≤ i → Asked accounts i → HoldMost accounts
-  asked_all l h a m = let t = place_in accounts a m in omega (arith, h.each t.0 (omega (arith, t.1.inside)), t.1.bought_is)
+-- EVERY ACCOUNT was asked
+pub all_asked : (accounts : List Account) (t : Bool) (No : Type 0) {count : ℕ} → count ≡ length accounts
+    → MatchBool t (AllWithin (λ j. most_drawn ≤ get_or (boughts accounts) j 0) (range_with_len 0 count) 0 (length (range_with_len 0 count))) No → t ≡ true → HoldMost accounts
+all_asked accounts true No {count} e h q a m =
+    let p = place_in accounts a m in
+    let l : p.0 < count = omega (arith, p.1.inside, e) in
+    let k = h p.0 0 (omega arith) (omega (arith, length-range_with_len 0 count)) in
+    let e : get_or (range_with_len 0 count) p.0 0 ≡ p.0 = get_or-range_with_len 0 count p.0 0 l ∙ omega arith in
+    omega (arith, subst (λ (x : ℕ). most_drawn ≤ get_or (boughts accounts) x 0) e k, p.1.bought_is)
+all_asked accounts false No e h q a m = never q

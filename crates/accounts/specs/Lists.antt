@@ -1,13 +1,12 @@
 -- The accounts of an image: their numbers, what a row draws from one, and what is left of each.
-use Rattle.std.specs.Prelude.{◌≡◌, Bool, cond, List, [], ◌∷◌, ◌++◌, ℕ, ◌+◌, ◌*◌, ◌<◌, ◌≤◌, eqb, length, get_or}
+use Rattle.std.specs.Prelude.{◌≡◌, Bool, cond, List, [], ◌∷◌, ◌++◌, ℕ, ◌+◌, ◌*◌, ◌<◌, ◌≤◌, eqb, length, get_or, Option, IfSome, IsNone}
 use Rattle.rules.specs.Words.{◌∈◌, Tests}
 use Rattle.rules.specs.Tiles.{cycle_tiles}
 use Rattle.rules.specs.Topology.{most_route_hops}
-use Rattle.rules.specs.Book.{Account, Row, most_streams, AccountsInRange, KnownAccount, LawfulRow, draws, drawn, Paid}
-use Rattle.rules.specs.Image.{accounts_of, links_place, site_of}
+use Rattle.rules.specs.Book.{Account, Row, most_streams, AccountsInRange, KnownAccount, draws, drawn, Paid}
+use Rattle.rules.specs.Image.{accounts_of, links_place}
 use Rattle.rules.proofs.Reading.{rows_in}
 use Rattle.image.specs.Header.{HeaderOf}
-use Rattle.image.specs.Places.{row_at, Whole}
 use Rattle.image.specs.declared.Book.{Book}
 
 -- the numbers of the accounts,
@@ -20,11 +19,15 @@ abbrev pub boughts : List Account → List ℕ
 boughts [] = []
 boughts (a ∷ accounts) = a.bought ∷ boughts accounts
 
--- the account of the number is the one at the place, and there is none where the place is behind the last
-pub record PlaceOf (accounts : List Account) (n i : ℕ) : Type 0 where
-  pub most : i ≤ length accounts
-  pub named : i < length accounts → get_or (numbers accounts) i 0 ≡ n
-  pub none : i ≡ length accounts → KnownAccount accounts n → ⊥
+-- the account of the number is the one at place i
+pub record StandsAt (accounts : List Account) (n i : ℕ) : Type 0 where
+  pub here : i < length accounts
+  pub named : get_or (numbers accounts) i 0 ≡ n
+
+-- the account of the number is the one at the place, and there is none where there is no place
+pub record PlaceOf (accounts : List Account) (n : ℕ) (place : Option ℕ) : Type 0 where
+  pub there : IfSome place (StandsAt accounts n)
+  pub none : IsNone place → KnownAccount accounts n → ⊥
 
 -- the numbers rise, and the first is no less than a least
 abbrev pub RisesFrom : ℕ → List Account → Type 0
@@ -53,22 +56,17 @@ most_drawn = most_streams * (most_route_hops * cycle_tiles)
 abbrev pub HoldMost : List Account → Type 0
 HoldMost accounts = (a : Account) → a ∈ accounts → most_drawn ≤ a.bought
 
--- a row that draws from them is at the place
-pub record Draws (s : List ℕ) (at : ℕ) : Type 0 where
-  pub whole : Whole s at
-  pub lawful : LawfulRow (site_of s) (row_at s at)
-
 -- with the row behind them the rows overdraw no account, whatever rows left so much
-abbrev pub MayDraw : List ℕ → ℕ → List ℕ → Bool → Type 0
-MayDraw s at left t = (rows : List Row) → LeftBy (accounts_of s) rows left → Tests t (Paid (accounts_of s) (rows ++ (row_at s at ∷ [])))
+abbrev pub MayDraw : List Account → Row → List ℕ → Bool → Type 0
+MayDraw accounts r left t = (rows : List Row) → LeftBy accounts rows left → Tests t (Paid accounts (rows ++ (r ∷ [])))
 
 -- so much is left then
-abbrev pub DrawsMore : List ℕ → ℕ → List ℕ → List ℕ → Type 0
-DrawsMore s at left left' = (rows : List Row) → LeftBy (accounts_of s) rows left → LeftBy (accounts_of s) (rows ++ (row_at s at ∷ [])) left'
+abbrev pub DrawsMore : List Account → Row → List ℕ → List ℕ → Type 0
+DrawsMore accounts r left left' = (rows : List Row) → LeftBy accounts rows left → LeftBy accounts (rows ++ (r ∷ [])) left'
 
 -- some rows left so much, and with the row behind them no account is overdrawn
-abbrev pub CanDraw : List ℕ → ℕ → List ℕ → Type 0
-CanDraw s at left = (rows : List Row) × LeftBy (accounts_of s) rows left × Paid (accounts_of s) (rows ++ (row_at s at ∷ []))
+abbrev pub CanDraw : List Account → Row → List ℕ → Type 0
+CanDraw accounts r left = (rows : List Row) × LeftBy accounts rows left × Paid accounts (rows ++ (r ∷ []))
 
 -- the account of the number, if there is one, has bought so much
 abbrev pub HasBought : List Account → ℕ → ℕ → Type 0

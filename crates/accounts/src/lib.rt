@@ -4,15 +4,18 @@
 
 ghost use Rattle.std.specs.Prelude.{◌≡◌, true, ◌+◌, ◌*◌, ◌<◌, ◌≤◌, length, get_or};
 ghost use Rattle.rules.specs.Words.{Tests};
-ghost use Rattle.rules.specs.Book.{AccountsInRange, KnownAccount, draws, drawn};
+ghost use Rattle.rules.specs.Tiles.{Period};
+ghost use Rattle.rules.specs.Topology.{most_route_hops};
+ghost use Rattle.rules.specs.Book.{AccountsInRange, KnownAccount, hops, draws, drawn};
 ghost use Rattle.rules.specs.Image.{has_accounts, word32_at, accounts_at, accounts_of, links_place};
 ghost use Rattle.rules.specs.Calls.{AccountsGiven};
 ghost use Rattle.rules.proofs.Reading.{rows_in, LawfulImage};
-ghost use Rattle.image.specs.Places.{row_at};
+ghost use Rattle.image.specs.Places.{InRange};
 ghost use Rattle.image.specs.Header.{HeaderOf};
-ghost use Rattle.accounts.specs.Lists.{numbers, boughts, PlaceOf, RisesFrom, ListRead, HoldMost, Draws, HasBought, draws_from, Pays};
+ghost use Rattle.accounts.specs.Lists.{numbers, boughts, PlaceOf, RisesFrom, ListRead, HoldMost, HasBought, draws_from, Pays};
 
 use image::Book;
+use image::row::{Row, Rows};
 
 pub mod purchasing;
 pub mod purses;
@@ -32,22 +35,26 @@ fn has_list(book: Book) -> bool
 
 // Whether the numbers of so many accounts rise, from a place on.
 fn numbers_rise(bytes: &[u8], start: usize, count: usize) -> bool
-    requires { (start + 6 * count ≤ length bytes.now) × (count ≤ 255) × (start ≤ 17) }
+    requires { start + 6 * count ≤ length bytes.now }
     ensures { Tests result (RisesFrom 0 (accounts_at bytes.now start count)) }
 {
-    let mut at = start;
     let mut least: usize = 0;
-    let mut left = count;
-    while 0 < left {
-        let number = image::word_at(bytes, at) as usize;
+    for i in 0..count {
+        let number = usize::from(image::word_at(bytes, start + image::ACCOUNT * i));
         if number < least {
             return false;
         }
         least = number + 1;
-        at += image::ACCOUNT;
-        left -= 1;
     }
     true
+}
+
+// Whether so many accounts from a place on are as many as a book may have, and in their ranges.
+fn in_range(bytes: &[u8], start: usize, count: usize) -> bool
+    requires { start + 6 * count ≤ length bytes.now }
+    ensures { Tests result (AccountsInRange (accounts_at bytes.now start count)) }
+{
+    (1..=Book::ACCOUNTS).contains(&count) && numbers_rise(bytes, start, count)
 }
 
 // Whether the accounts given with a new book, without their count, are whole and in their ranges.
@@ -55,16 +62,7 @@ pub fn given_hold(accounts: &[u8]) -> bool
     ensures { Tests result (AccountsGiven accounts.now) }
 {
     let count = accounts.len() / image::ACCOUNT;
-    if accounts.len() != image::ACCOUNT * count {
-        return false;
-    }
-    if count < 1 {
-        return false;
-    }
-    if Book::ACCOUNTS < count {
-        return false;
-    }
-    numbers_rise(accounts, 0, count)
+    accounts.len() == image::ACCOUNT * count && in_range(accounts, 0, count)
 }
 
 // Whether the account list of an image that does not end inside it is in its range.
@@ -72,17 +70,7 @@ pub fn list_holds(image: &[u8], book: Book) -> bool
     requires { HeaderOf image.now book × (links_place image.now ≤ length image.now) }
     ensures { Tests result (AccountsInRange (accounts_of image.now)) }
 {
-    if !has_list(book) {
-        return true;
-    }
-    let count = book.accounts as usize;
-    if count < 1 {
-        return false;
-    }
-    if Book::ACCOUNTS < count {
-        return false;
-    }
-    numbers_rise(image, image::HEADER + 1, count)
+    !has_list(book) || in_range(image, image::HEADER + 1, usize::from(book.accounts))
 }
 
 // How many accounts the image has: in a version that holds no list, the one of older books.
@@ -91,7 +79,7 @@ fn count_of(image: &[u8], book: Book) -> usize
     ensures { (result ≡ length (accounts_of image.now)) × (result ≤ 255) }
 {
     if has_list(book) {
-        book.accounts as usize
+        usize::from(book.accounts)
     } else {
         1
     }
@@ -108,20 +96,12 @@ fn number_at(image: &[u8], book: Book, i: usize) -> u16
     image::word_at(image, image::HEADER + 1 + image::ACCOUNT * i)
 }
 
-// The place of the account of the number in the list, and the place behind the last where there is none.
-pub fn place_of(image: &[u8], book: Book, account: u16) -> usize
+// The place of the account of the number in the list, if there is one.
+pub fn place_of(image: &[u8], book: Book, account: u16) -> Option<usize>
     requires { HeaderOf image.now book × (links_place image.now ≤ length image.now) }
     ensures { PlaceOf (accounts_of image.now) account result }
 {
-    let count = count_of(image, book);
-    let mut i: usize = 0;
-    while i < count {
-        if number_at(image, book, i) == account {
-            return i;
-        }
-        i += 1;
-    }
-    count
+    (0..count_of(image, book)).find(|i| number_at(image, book, *i) == account)
 }
 
 // Whether an account of the image has the number: in a version that holds none there is account 0.
@@ -129,35 +109,28 @@ pub fn is_known(image: &[u8], book: Book, account: u16) -> bool
     requires { HeaderOf image.now book × (links_place image.now ≤ length image.now) }
     ensures { Tests result (KnownAccount (accounts_of image.now) account) }
 {
-    place_of(image, book, account) < count_of(image, book)
+    place_of(image, book, account).is_some()
 }
 
-// A count as a sum.
-fn wide32(x: u16) -> u32
-    ensures { (result ≡ x) × (result ≤ x) }
+// What a row draws: its hops, as often as they come in a cycle.
+fn row_cost(row: &Row<'_>) -> u32
+    requires { Period row.now.period × (hops row.now ≤ most_route_hops) }
+    ensures { (result ≡ draws row.now) × (result ≤ 15000) }
 {
-    x as u32
-}
-
-// What the row at a place draws: its hops, as often as they come in a cycle.
-fn row_cost(image: &[u8], at: usize) -> u32
-    requires { Draws image.now at }
-    ensures { (result ≡ draws (row_at image.now at)) × (result ≤ 15000) }
-{
-    let turns = rules::repeats_of(image::period_at(image, at));
-    let hops = image::hops_at(image, at) as u32;
-    hops * wide32(turns)
+    let turns = rules::repeats_of(row.period());
+    row.hops() as u32 * u32::from(turns)
 }
 
 // What it draws from the account of the number.
-fn row_draws(image: &[u8], at: usize, account: u16) -> u32
-    requires { Draws image.now at }
-    ensures { (result ≡ draws_from account (row_at image.now at)) × (result ≤ 15000) }
+fn row_draws(row: &Row<'_>, account: u16) -> u32
+    requires { InRange row.now }
+    ensures { (result ≡ draws_from account row.now) × (result ≤ 15000) }
 {
-    if image::account_at(image, at) != account {
-        return 0;
+    if row.account() == account {
+        row_cost(row)
+    } else {
+        0
     }
-    row_cost(image, at)
 }
 
 // What the rows of a lawful image draw from the account of the number.
@@ -166,12 +139,8 @@ pub fn drawn_from(image: &[u8], book: Book, account: u16) -> u32
     ensures { (result ≡ drawn account (rows_in image.now)) × (result ≤ 960000) }
 {
     let mut sum: u32 = 0;
-    let mut at = book.rows_start();
-    let mut left = book.streams;
-    while 0 < left {
-        sum += row_draws(image, at, account);
-        at = image::next(image, at);
-        left -= 1;
+    for row in Rows::of(image, book) {
+        sum += row_draws(&row, account);
     }
     sum
 }
@@ -181,7 +150,7 @@ fn word32_at(bytes: &[u8], at: usize) -> u32
     requires { at + 4 ≤ length bytes.now }
     ensures { result ≡ word32_at bytes.now at }
 {
-    wide32(image::word_at(bytes, at)) * 65536 + wide32(image::word_at(bytes, at + 2))
+    u32::from_be_bytes([bytes[at], bytes[at + 1], bytes[at + 2], bytes[at + 3]])
 }
 
 // What account i has bought: in a version that holds no list, the largest number of 32 bits.
@@ -190,7 +159,7 @@ fn bought_at(image: &[u8], book: Book, i: usize) -> u32
     ensures { result ≡ get_or (boughts (accounts_of image.now)) i 0 }
 {
     if !has_list(book) {
-        return 4294967295;
+        return u32::MAX;
     }
     word32_at(image, image::HEADER + 1 + image::ACCOUNT * i + 2)
 }
@@ -200,12 +169,7 @@ pub fn bought_of(image: &[u8], book: Book, account: u16) -> u32
     requires { ListRead image.now book }
     ensures { HasBought (accounts_of image.now) account result }
 {
-    let i = place_of(image, book, account);
-    if i < count_of(image, book) {
-        bought_at(image, book, i)
-    } else {
-        0
-    }
+    place_of(image, book, account).map_or(0, |i| bought_at(image, book, i))
 }
 
 // Whether every account has bought what the rows of a book draw at most: then none can be overdrawn.
@@ -213,15 +177,7 @@ pub fn all_hold_most(image: &[u8], book: Book) -> bool
     requires { ListRead image.now book }
     ensures { result ≡ true → HoldMost (accounts_of image.now) }
 {
-    let count = count_of(image, book);
-    let mut i: usize = 0;
-    while i < count {
-        if bought_at(image, book, i) < MOST_DRAWN {
-            return false;
-        }
-        i += 1;
-    }
-    true
+    (0..count_of(image, book)).all(|i| MOST_DRAWN <= bought_at(image, book, i))
 }
 
 // Whether what is left of the account of the number pays for so many hop uses more. One that has bought enough for all rows

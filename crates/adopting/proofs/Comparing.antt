@@ -1,24 +1,33 @@
 -- A node's part of the tables and the table that its book expands to.
-use mathlib.Core.Path.{◌≡◌, sym, ap, ap₂, ◌∙◌, subst}
-use mathlib.Core.Bool.{Bool, false}
+use mathlib.Core.Path.{◌≡◌, refl, sym, ap, ap₂, ◌∙◌, subst}
+use mathlib.Core.Bool.{Bool, true, false}
+use Rattle.std.specs.Prelude.{Result, Ok, Err, is_ok}
+use Rattle.std.specs.Bool.{MatchBool}
+use Rattle.std.specs.List.{AllWithin, HoldsAt, range_with_len}
+use Rattle.std.proofs.lemmas.List.FromFn.{length-range_with_len, get_or-range_with_len}
+use Rattle.std.proofs.lemmas.Bool.Decides.{Decides-eqb}
+use Rattle.std.proofs.lemmas.Slice.Eq.{slice_eq-Decides}
+use lib.Dec.{eqb}
+use lib.Pointwise.{pointwise}
+use Rattle.rules.specs.Said.{number_of, said}
+use Rattle.rules.specs.declared.refusals.Refusal.{Refusal}
 use mathlib.Core.List.{List}
 use Prim.Native.Nat.{ℕ, ◌+◌, ◌*◌, ◌-◌, ◌<◌, ◌≤◌}
 use native.Mathlib.Nat.{mul-le-mul, le_refl}
 use native.Mathlib.Omega.{arith}
-use lib.ListN.{length, take, drop, length-drop}
+use lib.ListN.{length, get_or, take, drop, length-drop}
 use lib.Seq.{take_at, length-take-le}
 use Rattle.rules.specs.Words.{Tests}
 use Rattle.rules.specs.Tiles.{Plan, PlanInRange, short_tiles}
 use Rattle.rules.specs.Records.{the_plan}
-use Rattle.rules.specs.Image.{header_length, plan_of, nodes_of, image_refusals}
+use Rattle.rules.specs.Image.{plan_of, nodes_of, image_refusals}
 use Rattle.rules.specs.Table.{table_length, TablePart}
 use Rattle.rules.specs.Tables.{entries_of, table_at}
-use Rattle.rules.proofs.Tests.{alike, said_no}
+use Rattle.rules.proofs.Tests.{alike, never, said_yes, said_no}
 use Rattle.rules.proofs.Says.{says_unique}
 use Rattle.rules.proofs.Encoding.{stored_says}
 use Rattle.rules.proofs.Entries.{table_unique}
 use Rattle.rules.proofs.Reading.{book_in, LawfulImage}
-use Rattle.image.proofs.Stands.{stored_length}
 use Rattle.image.specs.Header.{HeaderOf}
 use Rattle.image.specs.declared.Book as head
 use Rattle.tables.specs.Entries.{Filled}
@@ -62,9 +71,31 @@ module _ {s tables : List ℕ} {node len : ℕ} (w : Room s tables node len) whe
       alike g (λ e. subst (TablePart (book_in s) node 0 short_tiles) (sym written ∙ sym e ∙ part_is) f.part_of)
       (λ p. part_is ∙ table_unique (book_in s) h.lawful node 0 short_tiles (table_at (plan_of s) tables node) f.table p f.part_of ∙ sym written)
 
+-- what `==` says of bytes
+pub tests_equal : (xs ys : List ℕ) (t : Bool) → t ≡ pointwise eqb xs ys → Tests t (xs ≡ ys)
+tests_equal xs ys t e = let d = slice_eq-Decides {E = eqb} Decides-eqb xs ys t e in record { yes = d.0; back = d.1 }
+
+-- EVERY NODE was asked
+pub tests_all : (P : ℕ → Type 0) (t : Bool) (n : ℕ)
+    → MatchBool t (AllWithin P (range_with_len 0 n) 0 (length (range_with_len 0 n)))
+    ((k : ℕ) × (k < length (range_with_len 0 n)) × HoldsAt (λ (j : ℕ). P j → ⊥) (range_with_len 0 n) k) → Tests t ((j : ℕ) → j < n → P j)
+tests_all P true n h = said_yes (λ j l. subst P (get_or-range_with_len 0 n j 0 l ∙ omega arith) (h j 0 (omega arith) (omega (arith, l, length-range_with_len 0 n))))
+tests_all P false n (k, l, h) =
+    let m : k < n = omega (arith, l, length-range_with_len 0 n) in
+    let e : get_or (range_with_len 0 n) k 0 ≡ k = get_or-range_with_len 0 n k 0 m ∙ omega arith in
+    said_no (λ f. subst (λ (j : ℕ). P j → ⊥) e (h 0) (f k m))
+
 -- THE WHOLE
-pub lawful_long : {s : List ℕ} → LawfulImage s → header_length ≤ length s
-lawful_long w = omega (arith, stored_length w)
+pub ok_said : (r : Result (Unit {0}) Refusal) → is_ok r ≡ true → said r ≡ 0
+ok_said (Ok x) e = refl
+ok_said (Err why) e = never e
+
+some_number : (why : Refusal) → 1 ≤ number_of why
+some_number why = grind arith
+
+pub err_said : (r : Result (Unit {0}) Refusal) → is_ok r ≡ false → said r ≡ 0 → ⊥
+err_said (Ok x) e z = never (sym e)
+err_said (Err why) e z = omega (arith, some_number why)
 
 pub size_read : {s : List ℕ} (tables : List ℕ) {b : head.Book} → HeaderOf s b → length tables ≡ 3 * entries_of (plan_of s) (nodes_of s) → length tables ≡ 3 * entries_of (plan_of s) b.nodes
 size_read {s} tables r e = e ∙ ap (λ (n : ℕ). 3 * entries_of (plan_of s) n) (sym r.nodes)

@@ -1,19 +1,18 @@
 -- Over 64 different pairs are shown exactly if over 64 different keys were found.
 use mathlib.Core.Path.{◌≡◌, refl, sym, subst}
 use mathlib.Core.Logic.{inl, inr}
-use mathlib.Core.Bool.{false}
+use mathlib.Core.Bool.{Bool, true, false, not}
 use mathlib.Core.List.{List, [], ◌∷◌}
-use Prim.Native.Nat.{ℕ, suc, ◌*◌, ◌<◌, ◌≤◌}
-use native.Mathlib.Decide.{dec_lt}
+use Prim.Native.Nat.{ℕ, suc, ◌*◌, ◌≤◌}
 use native.Mathlib.Omega.{arith}
-use lib.Dec.{ltb}
+use Rattle.std.proofs.Common.{Option, Some, None}
+use Rattle.std.specs.Option.{is_some}
 use lib.ListN.{length, take, length-take}
 use Rattle.rules.specs.Words.{◌∈◌, Distinct, Tests, With}
 use Rattle.rules.specs.Words.With.{here, there}
 use Rattle.rules.specs.Tiles.{Plan, short_tiles}
-use Rattle.rules.specs.Book.{most_streams}
 use Rattle.rules.specs.Tables.{TooMany}
-use Rattle.rules.proofs.Tests.{never, tests_lt}
+use Rattle.rules.proofs.Tests.{never, said_yes, said_no}
 use Rattle.entries.specs.Keys.{Collected}
 use Rattle.adopting.proofs.drafting.Image.{over_many}
 
@@ -40,17 +39,12 @@ fewer (x ∷ xs) ys d f =
     let l = fewer xs t.0 d.1 (λ z m. still t.1 z (f z (inr m)) (d.0 z m)) in
     omega (arith, one_longer t.1)
 
-pub tests_many : (plan : Plan) (N : ℕ) {tables keys entries : List ℕ} {count r : ℕ} → count ≡ N * (short_tiles * plan.slots) → Collected false tables count r keys entries
-    → Tests (ltb most_streams r) (TooMany plan N tables)
-tests_many plan N {tables} {keys} {count = count} {r} e c = record { yes = λ y. over_many plan N e (c.over ((tests_lt most_streams r).yes y)); back = λ m. (tests_lt most_streams r).back (more m) }
-  where
-    more : TooMany plan N tables → most_streams < r
-    more m = go (dec_lt most_streams r)
-      where
-        go : Dec (most_streams < r) → most_streams < r
-        go (yes l) = l
-        go (no l) =
-            let k = c.few (omega arith) in
-            let few = fewer m.keys (take r keys) m.different (λ x h. let s = m.shown x h in
-            k.all s.place x (omega (arith, s.there)) record { way = s.way; of_stream = s.of_stream; from_source = λ z. never z; pair = s.pair }) in
-            omega (arith, few, m.over, length-take r keys)
+pub tests_many : (plan : Plan) (N : ℕ) {tables : List ℕ} {count : ℕ} (keys entries : List ℕ) (r : Option ℕ) (t : Bool) → is_some r ≡ not t → count ≡ N * (short_tiles * plan.slots)
+    → Collected false tables count r keys entries → Tests t (TooMany plan N tables)
+tests_many plan N keys entries None true n e c = said_yes (over_many plan N e c)
+tests_many plan N keys entries None false n e c = never n
+tests_many plan N keys entries (Some r) true n e c = never (sym n)
+tests_many plan N keys entries (Some r) false n e c =
+    said_no (λ m. let few = fewer m.keys (take r keys) m.different (λ x h. let s = m.shown x h in
+    c.1.all s.place x (omega (arith, s.there)) record { way = s.way; of_stream = s.of_stream; from_source = λ z. never z; pair = s.pair }) in
+    omega (arith, few, m.over, length-take r keys, c.0))

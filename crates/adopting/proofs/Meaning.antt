@@ -1,6 +1,7 @@
 -- The draft is sound and complete: where its image expands to the tables it is their book, and where they have one it is the draft.
 use mathlib.Core.Path.{◌≡◌, refl, sym, ap, ap₂, ◌∙◌, subst, subst₂}
 use mathlib.Core.List.{List}
+use Rattle.std.specs.Prelude.{Option, Some, IfSome}
 use Prim.Native.Nat.{ℕ, ◌+◌, ◌*◌, ◌<◌, ◌≤◌}
 use native.Mathlib.Omega.{arith}
 use lib.ListN.{length, take, drop}
@@ -100,37 +101,36 @@ module _ (plan : Plan) (N : ℕ) (links hearing tables : List ℕ) {len : ℕ} {
       plans = ap (λ (c : Book). c.site.plan) back ∙ ap (λ (t : Site). t.plan) g.on_site
 
 -- WHAT IS SAID
-module _ (plan : Plan) (N : ℕ) (links hearing tables out : List ℕ) {len : ℕ} {image : List ℕ} (d : Drafted plan N links hearing tables len image) where
-  pub no_draft : {number length' : ℕ} → len ≡ 0 → number ≡ 20 → length' ≡ 0 → Adopts plan N links hearing tables out number length' out
-  no_draft z a b = reply_refused (d.none z) (λ y. omega arith) a b
+pub draft_there : (plan : Plan) (N : ℕ) (links hearing tables : List ℕ) {r : Option ℕ} {len : ℕ} {image : List ℕ} → Drafted plan N links hearing tables r image → r ≡ Some len
+    → DraftPut plan N links hearing tables len image
+draft_there plan N links hearing tables {image = image} d e = subst (λ (o : Option ℕ). IfSome o (λ l. DraftPut plan N links hearing tables l image)) e d.put
 
-  module _ (some : len ≡ 0 → ⊥) where
-    pub not_these : {number length' : ℕ} → (Expanded (take len image) tables → ⊥) → number ≡ 20 → length' ≡ 0 → Adopts plan N links hearing tables out number length' out
-    not_these f a b = reply_refused (λ c g. f (complete plan N links hearing tables (d.put some) c g)) (λ y. omega arith) a b
+module _ (plan : Plan) (N : ℕ) (links hearing tables out : List ℕ) {len : ℕ} {image : List ℕ} (d : DraftPut plan N links hearing tables len image) where
+  pub not_these : (Expanded (take len image) tables → ⊥) → Adopts plan N links hearing tables out 20 0 out
+  not_these f = reply_refused (λ c g. f (complete plan N links hearing tables d c g)) (λ y. omega arith) refl refl
 
-    module _ (x : Expanded (take len image) tables) where
-      it : Book
-      it = book_in (take len image)
+  module _ (x : Expanded (take len image) tables) where
+    it : Book
+    it = book_in (take len image)
 
-      this : ShownBy (site_given plan N links hearing old_accounts) tables it
-      unfolding it
-      this = shown plan N links hearing tables (d.put some) x
+    this : ShownBy (site_given plan N links hearing old_accounts) tables it
+    unfolding it
+    this = shown plan N links hearing tables d x
 
-      long : length (encode newest it) ≡ len
-      unfolding it
-      long = sym (ap length (bytes_same plan N links hearing tables (d.put some) x)) ∙ length-take-le len image (d.put some).inside
+    long : length (encode newest it) ≡ len
+    unfolding it
+    long = sym (ap length (bytes_same plan N links hearing tables d x)) ∙ length-take-le len image d.inside
 
-      pub too_short : {number length' : ℕ} → length out < len → number ≡ 12 → length' ≡ 0 → Adopts plan N links hearing tables out number length' out
-      too_short l a b = reply_next (λ f. f it this) (reply_refused (it, this, omega (arith, long)) (λ y. omega arith) a b)
+    pub too_short : length out < len → Adopts plan N links hearing tables out 12 0 out
+    too_short l = reply_next (λ f. f it this) (reply_refused (it, this, omega (arith, long)) (λ y. omega arith) refl refl)
 
-      pub adopted : {number length' : ℕ} {out' : List ℕ} → len ≤ length out → number ≡ 0 → length' ≡ len → out' ≡ over out 0 (take len image)
-          → Adopts plan N links hearing tables out number length' out'
-      unfolding it
-      adopted l a b e =
-          reply_next (λ f. f it this)
-          (reply_next (λ g. omega (arith, long, g.2, ap (λ (c : Book). length (encode newest c)) (shown_unique (site_given plan N links hearing old_accounts) refl tables g.0 it g.1 this)))
-          (reply_done (take len image) (it, this, bytes_same plan N links hearing tables (d.put some) x) a (b ∙ sym (length-take-le len image (d.put some).inside))
-          (e ∙ over_front out (take len image))))
+    pub adopted : {out' : List ℕ} → len ≤ length out → out' ≡ over out 0 (take len image) → Adopts plan N links hearing tables out 0 len out'
+    unfolding it
+    adopted l e =
+        reply_next (λ f. f it this)
+        (reply_next (λ g. omega (arith, long, g.2, ap (λ (c : Book). length (encode newest c)) (shown_unique (site_given plan N links hearing old_accounts) refl tables g.0 it g.1 this)))
+        (reply_done (take len image) (it, this, bytes_same plan N links hearing tables d x) refl (sym (length-take-le len image d.inside))
+        (e ∙ over_front out (take len image))))
 
 -- THE CALL
 module _ (plan : Plan) (N : ℕ) (links hearing tables out : List ℕ) {number length' : ℕ} where
@@ -148,12 +148,6 @@ module _ (plan : Plan) (N : ℕ) (links hearing tables out : List ℕ) {number l
     unsound f a b = said (reply_next (λ k. k r) (reply_refused f (λ y. omega arith) a b))
 
     module _ (t : TopologiesGiven N links hearing) where
-      pub no_entries : (TablesOfEntries plan N tables → ⊥) → number ≡ 19 → length' ≡ 0 → BookOf plan N links hearing tables out number length' out
-      no_entries f a b = said (reply_next (λ k. k r) (reply_next (λ k. k t) (reply_refused f (λ y. omega arith) a b)))
-
       module _ (e : TablesOfEntries plan N tables) where
-        pub too_many : TooMany plan N tables → number ≡ 8 → length' ≡ 0 → BookOf plan N links hearing tables out number length' out
-        too_many m a b = said (reply_next (λ k. k r) (reply_next (λ k. k t) (reply_next (λ k. k e) (reply_refused m (λ y. omega arith) a b))))
-
         pub answered : {out' : List ℕ} → (TooMany plan N tables → ⊥) → Adopts plan N links hearing tables out number length' out' → BookOf plan N links hearing tables out number length' out'
         answered f w = said (reply_next (λ k. k r) (reply_next (λ k. k t) (reply_next (λ k. k e) (reply_next f w))))

@@ -1,9 +1,9 @@
 -- A set is known by its members, and a walk over them from the lowest on meets each.
 use mathlib.Core.Path.{◌≡◌, sym, ◌∙◌, subst}
-use mathlib.Core.Logic.{◌⊎◌, inl, inr, ⊎_elim}
+use mathlib.Core.Logic.{◌⊎◌, inl, inr}
 use Prim.Native.Nat.{ℕ, zero, suc, ◌/◌, ◌-◌, ◌^◌, ◌<◌}
 use native.Mathlib.Nat.{pow-suc}
-use native.Mathlib.Decide.{ℕ_discrete, dec_lt}
+use native.Mathlib.Decide.{ℕ_discrete}
 use native.Mathlib.Omega.{arith}
 use lib.Bits.{and_le_l, and_le_r}
 use lib.Pow.{pow_pos}
@@ -11,7 +11,7 @@ use Rattle.rules.specs.Words.{Has, NoBitFrom}
 use Rattle.rules.proofs.Sets.{bit_suc, zero_none, same_members}
 pub use Rattle.rules.proofs.Sets.{set_unique}
 use Rattle.bitset.specs.Sets.{SetOf, Lowest}
-use Rattle.bitset.proofs.Bits.{within, lowest_law, rest_law, difference_law}
+use Rattle.bitset.proofs.Bits.{within, lowest_law, lowest_unique, rest_law, difference_law}
 
 -- a set is 0 exactly if it has no member
 pub none_zero : (n : ℕ) → NoBitFrom 64 n → ((k : ℕ) → k < 64 → Has n k → ⊥) → n ≡ 0
@@ -34,15 +34,6 @@ all_within zero (suc w) n h f = omega (arith, pow-suc 2 w, all_within zero w n h
 all_within (suc v) (suc w) n h f =
     omega (arith, pow-suc 2 w, all_within v w (n / 2) (omega (arith, pow-suc 2 v)) (λ k i. omega (arith, f (suc k) (bit_suc n k ∙ i))))
 
--- there is one lowest member
-pub lowest_unique : {n a b : ℕ} → Lowest n a → Lowest n b → a ≡ b
-lowest_unique {n} {a} {b} l m = go (dec_lt a b) (dec_lt b a)
-  where
-    go : Dec (a < b) → Dec (b < a) → a ≡ b
-    go (yes h) d = absurd (m.least a h l.member)
-    go (no h) (yes k) = absurd (l.least b k m.member)
-    go (no h) (no k) = omega arith
-
 -- a member is the lowest, or among those left without it
 pub lowest_or_rest : {n m r : ℕ} (k : ℕ) → Lowest n m → SetOf (λ (k : ℕ). Has n k × (Lowest n k → ⊥)) r → Has n k → (k ≡ m) ⊎ Has r k
 lowest_or_rest {m = m} {r} k l s h = go (ℕ_discrete k m)
@@ -62,12 +53,3 @@ without_less {n} {m} {r} h l s k i j = go (ℕ_discrete r n)
     go : Dec (r ≡ n) → r < n
     go (yes e) = absurd ((s.only k (subst (λ (x : ℕ). Has x k) (sym e) i)).1 j)
     go (no e) = omega (arith, set_unique (λ k i. i) (λ k i. i) s (difference_law n m h l), and_le_l n ((2 ^ 64 - 1) - m))
-
--- the set without a member
-pub removed : (set b : ℕ) {one r : ℕ} → SetOf (λ (k : ℕ). Has 0 k ⊎ (k ≡ b)) one → SetOf (λ (k : ℕ). Has set k × (Has one k → ⊥)) r
-    → SetOf (λ (k : ℕ). Has set k × (k ≡ b → ⊥)) r
-removed set b s d = record {
-  fits = d.fits;
-  only = λ k h. ((d.only k h).0, λ e. (d.only k h).1 (s.all k (inr e)));
-  all = λ k p. d.all k (p.0, λ h. ⊎_elim (λ z. zero_none k z) (λ e. p.1 e) (s.only k h));
-}

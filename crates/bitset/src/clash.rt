@@ -16,8 +16,8 @@ pub fn reach_of(hearing: &[u64], from: Node, to: Node) -> Reach
     requires { Between (topology hearing.now) (hop from to) }
     ensures { ReachOf (topology hearing.now) (hop from to) result }
 {
-    let i = from.0 as usize;
-    let j = to.0 as usize;
+    let i = usize::from(from.0);
+    let j = usize::from(to.0);
     let ends = crate::insert(crate::insert(0, i), j);
     Reach {
         senders: crate::union(ends, hearing[j]),

@@ -10,7 +10,7 @@ ghost use Rattle.bitset.specs.Sets.{SetOf, Lowest};
 pub mod clash;
 
 // Every number below 64.
-pub const ALL: u64 = 0xffff_ffff_ffff_ffff;
+pub const ALL: u64 = u64::MAX;
 
 // Every number below n, and below 64.
 pub fn below(n: usize) -> u64
@@ -48,7 +48,7 @@ pub fn remove(set: u64, b: usize) -> u64
     requires { b < 64 }
     ensures { SetOf (λ (k : ℕ). Has set k × (k ≡ b → ⊥)) result }
 {
-    difference(set, insert(0, b))
+    set & !(1 << b)
 }
 
 // What is in one of the two.
@@ -76,7 +76,7 @@ pub fn difference(a: u64, b: u64) -> u64
 pub fn count(set: u64) -> u32
     ensures { Count (Has set) 64 result }
 {
-    u64::count_ones(set)
+    set.count_ones()
 }
 
 // The lowest member.
@@ -84,7 +84,7 @@ pub fn lowest(set: u64) -> usize
     requires { 0 < set }
     ensures { Lowest set result }
 {
-    u64::trailing_zeros(set) as usize
+    set.trailing_zeros() as usize
 }
 
 // The set without its lowest member.

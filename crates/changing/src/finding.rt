@@ -6,7 +6,7 @@ ghost use Rattle.changing.specs.finding.Spot.{SpotOf, place_in};
 use crate::reader;
 use image::Book;
 
-// Where the first row of an id stands, or between which rows it would.
+// Where the first row of an id stands, or between which rows it would: each case holds a place, so neither is none or an error.
 #[derive(Clone, Copy)]
 pub enum Spot {
     Between(usize),
@@ -18,8 +18,7 @@ pub fn place(spot: Spot) -> usize
     ensures { result ≡ place_in spot }
 {
     match spot {
-        Spot::Between(at) => at,
-        Spot::Here(at) => at,
+        Spot::Between(at) | Spot::Here(at) => at,
     }
 }
 
@@ -30,11 +29,9 @@ pub fn find(image: &[u8], id: u16) -> Spot
 {
     let book = Book::read(image);
     let at = reader::seek(image, id, book.rows_start(), book.streams);
-    if image.len() <= at {
-        return Spot::Between(at);
+    if at < image.len() && image::id_at(image, at) == id {
+        Spot::Here(at)
+    } else {
+        Spot::Between(at)
     }
-    if image::id_at(image, at) != id {
-        return Spot::Between(at);
-    }
-    Spot::Here(at)
 }

@@ -1,11 +1,12 @@
 // The rows that can be cut out of an image by their hop counts, one after the other.
-ghost use Rattle.std.specs.Prelude.{◌≤◌, length, drop};
-ghost use Rattle.rules.specs.Words.{Tests};
+ghost use Rattle.std.specs.Prelude.{◌≡◌, ◌≤◌, ◌↔◌, IsSome, IfSome, length, drop};
 ghost use Rattle.rules.specs.Image.{version_of};
 ghost use Rattle.rules.specs.Salvage.{Cuttable};
+ghost use Rattle.image.specs.Places.{row_at};
 ghost use Rattle.damaged.specs.cutting.Cutting.{CutsTo};
 
 use image::Book;
+use image::row::Row;
 
 // How many rows were cut, and where the last of them ends.
 #[derive(Clone, Copy)]
@@ -14,17 +15,13 @@ pub struct Cutting {
     pub end: usize,
 }
 
-// Whether a row can be cut out at the place: 1 to 15 hops, and as many bytes as it needs.
-pub fn is_cuttable(image: &[u8], at: usize) -> bool
+// The row that can be cut out at the place, if one can: it has 1 to 15 hops, and as many bytes as it needs.
+pub fn cuttable(image: &[u8], at: usize) -> Option<Row<'_>>
     requires { at ≤ length image.now }
-    ensures { Tests result (Cuttable (version_of image.now) (drop at image.now)) }
+    ensures there { IsSome result ↔ Cuttable (version_of image.now) (drop at image.now) }
+    ensures row { IfSome result (λ r. r ≡ row_at image.now at) }
 {
-    if !image::is_whole(image, at) {
-        return false;
-    }
-    let h = image::hops_at(image, at);
-    let some = 1 <= h;
-    some && h <= Book::ROUTE_HOPS
+    Row::at(image, at).filter(|row| (1..=Book::ROUTE_HOPS).contains(&row.hops()))
 }
 
 // Cuts rows from a place on while one can be cut out.
@@ -34,7 +31,8 @@ pub fn cut(image: &[u8], start: usize) -> Cutting
 {
     let mut at = start;
     let mut rows = 0;
-    while is_cuttable(image, at) {
+    // A `while`: how many rows there are is known only where none can be cut out.
+    while cuttable(image, at).is_some() {
         at = image::next(image, at);
         rows += 1;
     }

@@ -15,71 +15,59 @@ use Rattle.rules.specs.Table.{on_way}
 use Rattle.rules.specs.Tables.{operation_at, id_at, OfStream}
 use Rattle.rules.proofs.Lists.{at_in, in_append, in_left, in_right}
 use Rattle.rules.proofs.Meeting.{in_at}
-use Rattle.rules.proofs.Tests.{fails}
+use Rattle.rules.proofs.Tests.{fails, tests_eq, said_yes, said_no}
+use Rattle.std.specs.List.{IsAnyAnswer}
+use lib.Dec.{eqb}
+use borrow.Author.Tests.{eqb-true}
 use Rattle.entries.specs.Entries.{WayOf}
-use Rattle.entries.specs.Keys.{ShowsKey, KeyAt, Stands, Noted, KeysOf, Over, Collected}
-use Rattle.entries.specs.Keys.Noted.{zero as no_key, there, full, put}
-use Rattle.entries.proofs.Ways.{stream_range, some_way}
+use Rattle.std.proofs.Common.{Some, None}
+use Rattle.entries.specs.Keys.{ShowsKey, KeyAt, Noted, KeysOf, Over}
+use Rattle.entries.specs.Keys.Noted.{there, full, put}
+use Rattle.entries.proofs.Ways.{some_way}
 
 -- AN ENTRY'S KEY
-module _ {sent : Bool} {tables : List ℕ} {i operation way : ℕ} (e : operation ≡ operation_at tables i) (w : WayOf operation way) where
-  same_way : {k : ℕ} (s : ShowsKey sent tables i k) → way ≡ s.way
-  same_way s = w.is s.way (subst (λ (o : ℕ). OfStream o s.way) (sym e) s.of_stream)
+module _ {sent : Bool} {tables : List ℕ} {i operation : ℕ} (e : operation ≡ operation_at tables i) where
+  pub key_none : ((way : ℕ) → OfStream operation way → ⊥) → KeyAt sent tables i 0
+  key_none none = record { is = λ k s. absurd (none s.way (subst (λ (o : ℕ). OfStream o s.way) (sym e) s.of_stream)); shows = λ f. absurd (f refl) }
 
-  pub key_none : way ≡ 0 → KeyAt sent tables i 0
-  key_none z = record { is = λ k s. absurd (none k s (stream_range s.of_stream)); shows = λ f. absurd (f refl) }
-    where
-      none : (k : ℕ) (s : ShowsKey sent tables i k)
-          → ((s.way ≡ 1) × (1 ≤ operation_at tables i) × (operation_at tables i ≤ 4)) ⊎ ((s.way ≡ 2) × (17 ≤ operation_at tables i) × (operation_at tables i ≤ 20)) → ⊥
-      none k s (inl r) = omega (arith, same_way s, r.0)
-      none k s (inr r) = omega (arith, same_way s, r.0)
+  module _ {way : ℕ} (w : WayOf operation way) where
+    same_way : {k : ℕ} (s : ShowsKey sent tables i k) → way ≡ s.way
+    same_way s = w.only s.way (subst (λ (o : ℕ). OfStream o s.way) (sym e) s.of_stream)
 
-  pub key_not : {t : Bool} → Tests t (sent ≡ true → operation ≡ on_way way 1) → t ≡ false → KeyAt sent tables i 0
-  key_not h n = record {
-    is = λ k s. absurd (fails h n (λ y. e ∙ s.from_source y ∙ ap (λ (u : ℕ). on_way u 1) (sym (same_way s))));
-    shows = λ f. absurd (f refl);
-  }
+    pub key_not : {t : Bool} → Tests t (sent ≡ true → operation ≡ on_way way 1) → t ≡ false → KeyAt sent tables i 0
+    key_not h n = record {
+      is = λ k s. absurd (fails h n (λ y. e ∙ s.from_source y ∙ ap (λ (u : ℕ). on_way u 1) (sym (same_way s))));
+      shows = λ f. absurd (f refl);
+    }
 
-  pub key_shown : {t : Bool} {id key : ℕ} → (way ≡ 0 → ⊥) → Tests t (sent ≡ true → operation ≡ on_way way 1) → t ≡ true → id ≡ id_at tables i → key ≡ key_of id way → KeyAt sent tables i key
-  key_shown z h y f g = record {
-    is = λ k s. g ∙ ap (λ (x : ℕ). key_of x way) f ∙ ap (key_of (id_at tables i)) (same_way s) ∙ sym s.pair;
-    shows = λ n. record {
-      way = way;
-      of_stream = subst (λ (o : ℕ). OfStream o way) e (w.of_stream (omega arith));
-      from_source = λ t. sym e ∙ h.yes y t;
-      pair = g ∙ ap (λ (x : ℕ). key_of x way) f;
-    };
-  }
+    pub key_shown : {t : Bool} {id key : ℕ} → Tests t (sent ≡ true → operation ≡ on_way way 1) → t ≡ true → id ≡ id_at tables i → key ≡ key_of id way → (1 ≤ key) × KeyAt sent tables i key
+    key_shown h y f g = (
+      omega (arith, some_way w.of_stream, g),
+      record {
+        is = λ k s. g ∙ ap (λ (x : ℕ). key_of x way) f ∙ ap (key_of (id_at tables i)) (same_way s) ∙ sym s.pair;
+        shows = λ n. record {
+          way = way;
+          of_stream = subst (λ (o : ℕ). OfStream o way) e w.of_stream;
+          from_source = λ t. sym e ∙ h.yes y t;
+          pair = g ∙ ap (λ (x : ℕ). key_of x way) f;
+        };
+      },
+    )
 
--- AMONG KEYS
-pub stands_here : (keys : List ℕ) {key i : ℕ} → i < length keys → get_or keys i 0 ≡ key → Stands keys key i
-stands_here keys l e = record { most = omega arith; here = λ m. e; none = λ m. absurd (omega arith) }
+-- whether a key is among others
+pub among : (keys : List ℕ) (key : ℕ) {t : Bool} → IsAnyAnswer (λ k u. eqb k key ≡ u) keys t → Tests t (key ∈ keys)
+among keys key {t = true} (i, l, h) = said_yes (subst (λ (k : ℕ). k ∈ keys) (eqb-true _ _ (h 0)) (at_in keys i l))
+among keys key {t = false} h = said_no (λ m. let k = in_at key keys m in fails (tests_eq (get_or keys k.0 0) key) (h k.0 0 (omega arith) k.1) (sym k.2))
 
-pub stands_none : (keys : List ℕ) {key i : ℕ} → i ≤ length keys → length keys ≤ i → ((j : ℕ) → j < i → get_or keys j 0 ≡ key → ⊥) → Stands keys key i
-stands_none keys {key} l m f = record {
-  most = l;
-  here = λ n. absurd (omega arith);
-  none = λ n h. let t = in_at key keys h in f t.0 (omega (arith, t.1)) (sym t.2);
-}
+-- a key and its entry are put behind those that are there
+pub noted_put : (keys entries : List ℕ) {found key : ℕ} (i : ℕ) → (key ∈ take found keys → ⊥) → found < most_streams → found < length keys → found < length entries
+    → Noted keys entries found key i (Some (found + 1)) (set keys found key) (set entries found i)
+noted_put keys entries {found} {key} i absent m a b = put absent m (ap (λ (n : ℕ). take n (set keys found key)) (add-one found) ∙ take-suc-set keys found key a)
+    (ap (λ (n : ℕ). take n (set entries found i)) (add-one found) ∙ take-suc-set entries found i b)
 
--- what is noted of a key and its entry
-module _ (keys : List ℕ) {found key place : ℕ} (few : found ≤ length keys) (nonzero : key ≡ 0 → ⊥) (s : Stands (take found keys) key place) where
-  long : length (take found keys) ≡ found
-  long = length-take-le found keys few
-
-  pub noted_there : (entries : List ℕ) (i : ℕ) → place < found → Noted keys entries found key i found keys entries
-  noted_there entries i l = there (subst (λ (k : ℕ). k ∈ take found keys) (s.here (omega (arith, long))) (at_in (take found keys) place (omega (arith, long))))
-
-  absent : found ≤ place → key ∈ take found keys → ⊥
-  absent l = s.none (omega (arith, long))
-
-  pub noted_full : (entries : List ℕ) (i : ℕ) → found ≤ place → found ≡ most_streams → Noted keys entries found key i (found + 1) keys entries
-  noted_full entries i l e = full nonzero (absent l) e
-
-  pub noted_put : (entries : List ℕ) (i : ℕ) → found ≤ place → found < most_streams → found < length keys → found < length entries
-      → Noted keys entries found key i (found + 1) (set keys found key) (set entries found i)
-  noted_put entries i l m a b = put nonzero (absent l) m (ap (λ (n : ℕ). take n (set keys found key)) (add-one found) ∙ take-suc-set keys found key a)
-      (ap (λ (n : ℕ). take n (set entries found i)) (add-one found) ∙ take-suc-set entries found i b)
+pub noted_few : {keys entries keys' entries' : List ℕ} {found key i found' : ℕ} → found ≤ most_streams → Noted keys entries found key i (Some found') keys' entries' → found' ≤ most_streams
+noted_few l (there m) = l
+noted_few l (put n m e f) = omega arith
 
 -- KEYS OF THE FIRST ENTRIES
 pub shows_some : {sent : Bool} {tables : List ℕ} {i k : ℕ} → ShowsKey sent tables i k → 1 ≤ k
@@ -156,36 +144,23 @@ module _ {sent : Bool} {tables : List ℕ} where
             go (no m) = omega arith
 
   -- A TURN
-  module _ {i key found : ℕ} (keys entries : List ℕ) (at : KeyAt sent tables i key) (few : found ≤ most_streams)
+  module _ {i key found : ℕ} (keys entries : List ℕ) (some : 1 ≤ key) (at : KeyAt sent tables i key) (few : found ≤ most_streams)
       (h : KeysOf sent tables i (take found keys) (take found entries)) where
-    pub keys_more : {found' : ℕ} {keys' entries' : List ℕ} → found' ≤ most_streams → Noted keys entries found key i found' keys' entries'
+    pub keys_more : {found' : ℕ} {keys' entries' : List ℕ} → Noted keys entries found key i (Some found') keys' entries'
         → KeysOf sent tables (i + 1) (take found' keys') (take found' entries')
-    keys_more l (no_key e) = keys_kept at h (λ m. absurd (omega arith))
-    keys_more l (there m) = keys_kept at h (λ k. m)
-    keys_more l (full z n e) = absurd (omega arith)
-    keys_more l (put z n m e f) = subst₂ (KeysOf sent tables (i + 1)) (sym e) (sym f) (keys_put at h z n)
+    keys_more (there m) = keys_kept at h (λ k. m)
+    keys_more (put n m e f) = subst₂ (KeysOf sent tables (i + 1)) (sym e) (sym f) (keys_put at h (λ z. omega arith) n)
 
-    over_one : (count : ℕ) → i < count → found ≤ length keys → found ≡ most_streams → (key ≡ 0 → ⊥) → (key ∈ take found keys → ⊥) → Over sent tables count
-    over_one count l m e z n = record {
+    over_one : (count : ℕ) → i < count → found ≤ length keys → found ≡ most_streams → (key ∈ take found keys → ⊥) → Over sent tables count
+    over_one count l m e n = record {
       keys = key ∷ take found keys;
       different = (λ y m f. n (subst (λ (x : ℕ). x ∈ take found keys) (sym f) m), h.different);
-      shown = λ k m. ⊎_elim (λ (f : k ≡ key). (i, l, subst (ShowsKey sent tables i) (sym f) (at.shows z))) (λ (m : k ∈ take found keys). old k (in_at k (take found keys) m)) m;
+      shown = λ k m. ⊎_elim (λ (f : k ≡ key). (i, l, subst (ShowsKey sent tables i) (sym f) (at.shows (λ z. omega arith)))) (λ (m : k ∈ take found keys). old k (in_at k (take found keys) m)) m;
       over = omega (arith, length-take-le found keys m);
     }
       where
         old : (k : ℕ) → (p : ℕ) × (p < length (take found keys)) × (k ≡ get_or (take found keys) p 0) → (j : ℕ) × (j < count) × ShowsKey sent tables j k
         old k (p, m, f) = (get_or (take found entries) p 0, omega (arith, h.inside p m), subst (ShowsKey sent tables (get_or (take found entries) p 0)) (sym f) (h.shown p m))
 
-    pub keys_over : {count found' : ℕ} {keys' entries' : List ℕ} → i < count → found ≤ length keys → most_streams < found'
-        → Noted keys entries found key i found' keys' entries' → Over sent tables count
-    keys_over l m k (no_key e) = absurd (omega arith)
-    keys_over l m k (there n) = absurd (omega arith)
-    keys_over {count} l m k (full z n e) = over_one count l m e z n
-    keys_over l m k (put z n o e f) = absurd (omega arith)
-
--- AT THE END
-pub keys_done : {sent : Bool} {tables : List ℕ} {i count found : ℕ} (keys entries : List ℕ) → i ≤ count → count ≤ i → found ≤ most_streams
-    → KeysOf sent tables i (take found keys) (take found entries) → Collected sent tables count found keys entries
-keys_done {sent} {tables} {i} {count} {found} keys entries l m n h =
-    let e : i ≡ count = omega arith in
-    record { few = λ k. subst (λ (x : ℕ). KeysOf sent tables x (take found keys) (take found entries)) e h; over = λ k. absurd (omega arith) }
+    pub keys_over : {count : ℕ} {keys' entries' : List ℕ} → i < count → found ≤ length keys → Noted keys entries found key i None keys' entries' → Over sent tables count
+    keys_over {count} l m (full n e) = over_one count l m e n

@@ -6,24 +6,27 @@ use Prim.Native.Nat.{ℕ, ◌+◌, ◌*◌, ◌/◌, ◌%◌, ◌<◌, ◌≤◌
 use native.Mathlib.Nat.{add-mul-div_right, add-mul-mod_self_right, mod-lt, div-add-mod', div-lt_iff_lt-mul, div-eq_of_lt, mod-eq_of_lt, mul_assoc, mul-le-mul, le_refl}
 use native.Mathlib.Omega.{arith}
 use lib.Dec.{ltb, eqb}
-use lib.ListN.{length}
+use lib.ListN.{length, get_or}
+use Rattle.std.specs.Bool.{MatchBool}
+use Rattle.std.specs.List.{AllWithin, HoldsAt, range_with_len}
+use Rattle.std.proofs.lemmas.List.FromFn.{length-range_with_len, get_or-range_with_len}
 use Rattle.rules.specs.Words.{bit, Tests}
 use Rattle.rules.specs.Tiles.{Plan, PlanInRange, short_tiles, slots_of, control_slots, Data}
 use Rattle.rules.specs.Tables.{entries_of, operation_at, id_at, IsEntry, TablesOfEntries}
 use Rattle.rules.specs.Tables.IsEntry.{sleep, works, control}
-use Rattle.rules.proofs.Tests.{never, alike, tests_lt}
+use Rattle.rules.proofs.Tests.{never, alike, tests_lt, said_yes, said_no}
 use Rattle.rules.proofs.Cycle.{kinds_round}
 use Rattle.entries.specs.Entries.{EntryIn, EntriesIn}
 use Rattle.entries.specs.Entries.EntryIn.{control as in_control, sleep as in_sleep, works as in_works}
 
-pub entry_read : {t c : Bool} (tables : List ℕ) (i : ℕ) {operation id : ℕ} → operation ≡ operation_at tables i → id ≡ id_at tables i → Tests t (EntryIn c operation id)
-    → Tests t (EntryIn c (operation_at tables i) (id_at tables i))
-entry_read {t} {c} tables i e f h = subst₂ (λ (o k : ℕ). Tests t (EntryIn c o k)) e f h
-
--- the entries of a tile, as they were looked at
-pub tile_read : {t : Bool} (tables : List ℕ) {first slots n k m u : ℕ} → first ≡ u → slots ≡ k → n ≡ m → Tests t (EntriesIn tables first slots n) → Tests t (EntriesIn tables u k m)
-tile_read {t} tables {first} {slots} {k = k} {m} e f g h =
-    subst (λ (x : ℕ). Tests t (EntriesIn tables x k m)) e (subst₂ (λ (y z : ℕ). Tests t (EntriesIn tables first y z)) f g h)
+-- all of a range
+pub tests_range : (r : Bool) (P : ℕ → Type 0) (n : ℕ)
+    → MatchBool r (AllWithin P (range_with_len 0 n) 0 (length (range_with_len 0 n))) ((k : ℕ) × (k < length (range_with_len 0 n)) × HoldsAt (λ i. P i → ⊥) (range_with_len 0 n) k)
+    → Tests r ((i : ℕ) → i < n → P i)
+tests_range true P n f = said_yes (λ i l. subst P (get_or-range_with_len 0 n i 0 l ∙ omega arith) (f i 0 (omega arith) (omega (arith, length-range_with_len 0 n))))
+tests_range false P n (k, m, g) =
+    let l : k < n = omega (arith, length-range_with_len 0 n) in
+    said_no (λ h. g 0 (h (get_or (range_with_len 0 n) k 0) (omega (arith, get_or-range_with_len 0 n k 0 l))))
 
 -- a tile is inside the tables of so many
 pub tile_inside : {size tiles tile S first slots : ℕ} → first ≡ tile * S → slots ≡ S → tile < tiles → 3 * (tiles * S) ≤ size → 3 * (first + slots) ≤ size

@@ -22,25 +22,19 @@ stream_range {operation} {way} s = ⊎_elim first second s.either
 
 pub first_way : (operation : ℕ) → 1 ≤ operation → operation ≤ 4 → WayOf operation 1
 first_way operation l m = record {
-  most = omega arith;
-  is = λ way s. ⊎_elim (λ (r : (way ≡ 1) × (1 ≤ operation) × (operation ≤ 4)). sym r.0) (λ (r : (way ≡ 2) × (17 ≤ operation) × (operation ≤ 20)). absurd (omega (arith, r.1))) (stream_range s);
-  of_stream = λ k. record { plain = operation; some = l; most = m; either = inl refl; shown = refl };
+  of_stream = record { plain = operation; some = l; most = m; either = inl refl; shown = refl };
+  only = λ way s. ⊎_elim (λ (r : (way ≡ 1) × (1 ≤ operation) × (operation ≤ 4)). sym r.0) (λ (r : (way ≡ 2) × (17 ≤ operation) × (operation ≤ 20)). absurd (omega (arith, r.1))) (stream_range s);
 }
 
 pub second_way : (operation : ℕ) → 17 ≤ operation → operation ≤ 20 → WayOf operation 2
 second_way operation l m = record {
-  most = omega arith;
-  is = λ way s. ⊎_elim (λ (r : (way ≡ 1) × (1 ≤ operation) × (operation ≤ 4)). absurd (omega (arith, r.2))) (λ (r : (way ≡ 2) × (17 ≤ operation) × (operation ≤ 20)). sym r.0) (stream_range s);
-  of_stream = λ k. record { plain = operation - 16; some = omega arith; most = omega arith; either = inr refl; shown = omega arith };
+  of_stream = record { plain = operation - 16; some = omega arith; most = omega arith; either = inr refl; shown = omega arith };
+  only = λ way s. ⊎_elim (λ (r : (way ≡ 1) × (1 ≤ operation) × (operation ≤ 4)). absurd (omega (arith, r.2))) (λ (r : (way ≡ 2) × (17 ≤ operation) × (operation ≤ 20)). sym r.0) (stream_range s);
 }
 
-pub no_way : (operation : ℕ) → (1 ≤ operation → operation ≤ 4 → ⊥) → (17 ≤ operation → operation ≤ 20 → ⊥) → WayOf operation 0
-no_way operation f g = record {
-  most = omega arith;
-  is = λ way s. ⊎_elim (λ (r : (way ≡ 1) × (1 ≤ operation) × (operation ≤ 4)). absurd (f r.1 r.2))
-      (λ (r : (way ≡ 2) × (17 ≤ operation) × (operation ≤ 20)). absurd (g r.1 r.2)) (stream_range s);
-  of_stream = λ k. absurd (omega arith);
-}
+pub no_way : (operation : ℕ) → (1 ≤ operation → operation ≤ 4 → ⊥) → (17 ≤ operation → operation ≤ 20 → ⊥) → (way : ℕ) → OfStream operation way → ⊥
+no_way operation f g way s =
+    ⊎_elim (λ (r : (way ≡ 1) × (1 ≤ operation) × (operation ≤ 4)). f r.1 r.2) (λ (r : (way ≡ 2) × (17 ≤ operation) × (operation ≤ 20)). g r.1 r.2) (stream_range s)
 
 -- AN ENTRY, by whether its slot is control
 tests_control_in : {t : Bool} {operation id : ℕ} → Tests t ((operation ≡ 5) × (id ≡ 0)) → Tests t (EntryIn true operation id)
@@ -68,20 +62,17 @@ no_stream {operation} {way} e s = go (stream_range s)
 pub some_way : {operation way : ℕ} → OfStream operation way → 1 ≤ way
 some_way {operation} {way} s = ⊎_elim (λ (e : way ≡ 1). omega arith) (λ (e : way ≡ 2). omega arith) s.either
 
-pub tests_idle : {c t : Bool} {operation id way : ℕ} → c ≡ false → WayOf operation way → way ≡ 0 → Tests t ((operation ≡ 0) × (id ≡ 0)) → Tests t (EntryIn c operation id)
-tests_idle {t = t} {operation} {id} e w z h =
+pub tests_idle : {c t : Bool} {operation id : ℕ} → c ≡ false → ((way : ℕ) → OfStream operation way → ⊥) → Tests t ((operation ≡ 0) × (id ≡ 0)) → Tests t (EntryIn c operation id)
+tests_idle {t = t} {operation} {id} e none h =
     subst (λ (c : Bool). Tests t (EntryIn c operation id)) (sym e) record {
       yes = λ y. subst₂ (EntryIn false) (sym (h.yes y).0) (sym (h.yes y).1) sleep;
-      back = λ s. ⊎_elim h.back (λ (p : ((way : ℕ) × OfStream operation way) × (1 ≤ id)). absurd (omega (arith, w.is p.0.0 p.0.1, some_way p.0.1))) (free_is s);
+      back = λ s. ⊎_elim h.back (λ (p : ((way : ℕ) × OfStream operation way) × (1 ≤ id)). absurd (none p.0.0 p.0.1)) (free_is s);
     }
 
-pub tests_stream : {c t : Bool} {operation id way : ℕ} → c ≡ false → WayOf operation way → (way ≡ 0 → ⊥) → Tests t (id ≡ 0 → ⊥) → Tests t (EntryIn c operation id)
-tests_stream {t = t} {operation} {id} {way} e w z h =
+pub tests_stream : {c t : Bool} {operation id way : ℕ} → c ≡ false → OfStream operation way → Tests t (id ≡ 0 → ⊥) → Tests t (EntryIn c operation id)
+tests_stream {t = t} {operation} {id} {way} e stream h =
     subst (λ (c : Bool). Tests t (EntryIn c operation id)) (sym e) record {
       yes = λ y. let k = h.yes y in works stream (omega arith);
       back = λ s. ⊎_elim (λ (p : (operation ≡ 0) × (id ≡ 0)). absurd (no_stream p.0 stream))
           (λ (p : ((way : ℕ) × OfStream operation way) × (1 ≤ id)). h.back (λ q. omega (arith, p.1))) (free_is s);
     }
-  where
-    stream : OfStream operation way
-    stream = w.of_stream (omega arith)

@@ -1,14 +1,19 @@
 -- What entries are read for: the way of an operation, whether they are entries, and who receives.
-use Rattle.std.specs.Prelude.{◌≡◌, ◌⊎◌, Bool, true, false, List, ℕ, ◌+◌, ◌*◌, ◌<◌, ◌≤◌, ltb}
+use Rattle.std.specs.Prelude.{◌≡◌, ◌⊎◌, Bool, true, false, List, ℕ, ◌+◌, ◌*◌, ◌<◌, ◌≤◌, ltb, Option, Some, None}
 use Rattle.rules.specs.Table.{on_way}
 use Rattle.rules.specs.Tables.{operation_at, id_at, OfStream}
-use Rattle.rules.proofs.Seen.{Has}
+use Rattle.rules.specs.declared.Node.{Node}
+use Rattle.rules.proofs.Seen.{Has, Next}
 
--- the way of an operation of a stream, and 0 of any other
-pub record WayOf (operation r : ℕ) : Type 0 where
-  pub most : r ≤ 2
-  pub is : (way : ℕ) → OfStream operation way → r ≡ way
-  pub of_stream : 1 ≤ r → OfStream operation r
+-- the way of an operation of a stream
+pub record WayOf (operation way : ℕ) : Type 0 where
+  pub of_stream : OfStream operation way
+  pub only : (other : ℕ) → OfStream operation other → way ≡ other
+
+-- it has one, or it is of no stream
+abbrev pub OfWay : ℕ → Option ℕ → Type 0
+OfWay operation (Some way) = WayOf operation way
+OfWay operation None = (way : ℕ) → OfStream operation way → ⊥
 
 -- an entry of a control slot, and of any other
 pub data EntryIn : Bool → ℕ → ℕ → Type 0 where
@@ -31,3 +36,12 @@ pub record Receiver (tables : List ℕ) (nodes slots slot way id r : ℕ) : Type
   pub most : r ≤ nodes
   pub found : r < nodes → Receives tables (r * slots + slot) way id
   pub first : (node : ℕ) → node < nodes → Receives tables (node * slots + slot) way id → r ≤ node
+
+abbrev pub ReceiverOf : List ℕ → ℕ → ℕ → ℕ → ℕ → ℕ → Option Node → Type 0
+ReceiverOf tables nodes slots slot way id (Some node) = (node.0 < nodes) × Receiver tables nodes slots slot way id node.0
+ReceiverOf tables nodes slots slot way id None = Receiver tables nodes slots slot way id nodes
+
+-- the first entry from one on that has both, before another; that other stands for none
+abbrev pub NextOf : List ℕ → ℕ → ℕ → ℕ → ℕ → Option ℕ → Type 0
+NextOf tables from to operation id (Some i) = (i < to) × Next tables from to operation id i
+NextOf tables from to operation id None = Next tables from to operation id to

@@ -1,9 +1,9 @@
 // The different pairs of id and way that the entries show, as keys.
-ghost use Rattle.std.specs.Prelude.{◌≡◌, true, ◌+◌, ◌*◌, ◌<◌, ◌≤◌, length};
+ghost use Rattle.std.specs.Prelude.{◌≡◌, ◌+◌, ◌*◌, ◌<◌, ◌≤◌, Bool, IfSome, length};
 ghost use Rattle.rules.specs.Words.{Tests};
 ghost use Rattle.rules.specs.Book.{key_of};
 ghost use Rattle.rules.specs.Table.{on_way};
-ghost use Rattle.entries.specs.Keys.{KeyAt, Stands, Noted, Collected};
+ghost use Rattle.entries.specs.Keys.{Counts, KeyOf, Noted, Collected};
 
 use image::Book;
 
@@ -11,88 +11,64 @@ use image::Book;
 fn key_of(id: u16, way: u8) -> u32
     ensures { result ≡ key_of id way }
 {
-    (id as u32) * 256 + (way as u32)
+    u32::from(id) * 256 + u32::from(way)
 }
 
-// Whether an operation of the way counts: any, or only that in which a source sends.
-fn counts(operation: u8, way: u8, sent: bool) -> bool
-    ensures { Tests result (sent ≡ true → operation ≡ on_way way 1) }
+// Whether an operation of the way is that in which a source sends.
+pub fn is_sent(operation: u8, way: u8) -> bool
+    ensures { Tests result (operation ≡ on_way way 1) }
 {
-    if sent {
-        return operation == operations::on_way(way, operations::SEND);
-    }
-    true
+    operation == operations::on_way(way, operations::SEND)
 }
 
-// The key of an entry's stream, where its operation counts, and 0 where there is none.
-fn key_at(tables: &[u8], i: usize, sent: bool) -> u32
-    requires { 3 * i + 3 ≤ length tables.now }
-    ensures { KeyAt sent tables.now i result }
+// The key of an entry's stream, where there is one and its operation counts.
+fn key_at<F: Fn(u8, u8) -> bool>(tables: &[u8], i: usize, counts: &F) -> Option<u32>
+    requires callable { F.IsAlwaysCallable counts.now }
+    requires inside { 3 * i + 3 ≤ length tables.now }
+    ensures { (sent : Bool) → Counts sent (F.post counts.now) → KeyOf sent tables.now i result }
 {
     let operation = crate::operation_at(tables, i);
-    let way = crate::way_of(operation);
-    if way == 0 {
-        return 0;
+    let way = crate::way_of(operation)?;
+    if !counts(operation, way) {
+        return None;
     }
-    if !counts(operation, way, sent) {
-        return 0;
-    }
-    key_of(crate::id_at(tables, i), way)
+    Some(key_of(crate::id_at(tables, i), way))
 }
 
-// Where a key stands among the keys; their number where it does not.
-fn place_of(keys: &[u32], key: u32) -> usize
-    ensures { Stands keys.now key result }
-{
-    let mut i: usize = 0;
-    while i < keys.len() {
-        if keys[i] == key {
-            return i;
-        }
-        i += 1;
-    }
-    i
-}
-
-// Puts a key, and the entry that shows it, behind so many that are there, unless it is one of them or is 0; how many there are then, or one too many.
-fn note(keys: &mut [u32], entries: &mut [u32], found: usize, key: u32, i: u32) -> usize
+// Puts a key, and the entry that shows it, behind so many that are there, unless it is one of them: how many there are then, if there is room.
+fn note(keys: &mut [u32], entries: &mut [u32], found: usize, key: u32, i: u32) -> Option<usize>
     requires { (found ≤ 64) × (length keys.old ≡ 64) × (length entries.old ≡ 64) }
     ensures { Noted keys.old entries.old found key i result keys.new entries.new }
 {
-    if key == 0 {
-        return found;
+    if keys[..found].contains(&key) {
+        return Some(found);
     }
-    if place_of(&keys[..found], key) < found {
-        return found;
-    }
-    if Book::STREAMS <= found {
-        return found + 1;
+    if found == Book::STREAMS {
+        return None;
     }
     keys[found] = key;
     entries[found] = i;
-    found + 1
+    Some(found + 1)
 }
 
-// The different keys of so many entries, and of each the first entry that shows it: their number, or 65 where they are over 64.
-pub fn collect(
+// The different keys of so many entries whose operation counts on its way, and of each the first entry that shows it: their number, if they are at most 64.
+pub fn collect<F: Fn(u8, u8) -> bool>(
     tables: &[u8],
     count: u32,
-    sent: bool,
+    counts: F,
     keys: &mut [u32],
     entries: &mut [u32],
-) -> usize
-    requires { (3 * count ≤ length tables.now) × (length keys.old ≡ 64) × (length entries.old ≡ 64) }
-    ensures { Collected sent tables.now count result keys.new entries.new }
+) -> Option<usize>
+    requires callable { F.IsAlwaysCallable counts }
+    requires room { (3 * count ≤ length tables.now) × (length keys.old ≡ 64) × (length entries.old ≡ 64) }
+    ensures few { IfSome result (λ n. n ≤ 64) }
+    ensures keys { (sent : Bool) → Counts sent (F.post counts) → Collected sent tables.now count result keys.new entries.new }
 {
-    let mut found: usize = 0;
-    let mut i: u32 = 0;
-    while i < count {
-        let key = key_at(tables, i as usize, sent);
-        found = note(keys, entries, found, key, i);
-        if Book::STREAMS < found {
-            return found;
+    let mut found = 0;
+    for i in 0..count {
+        if let Some(key) = key_at(tables, i as usize, &counts) {
+            found = note(keys, entries, found, key, i)?;
         }
-        i += 1;
     }
-    found
+    Some(found)
 }

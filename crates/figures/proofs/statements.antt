@@ -4,3 +4,4 @@ pub mod Summing
 pub mod Lifts
 pub mod Fronts
 pub mod Unique
+pub mod Refusals

@@ -1,3 +1,2 @@
 pub mod statements
 pub mod months
-pub mod printing

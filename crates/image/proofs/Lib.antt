@@ -4,3 +4,4 @@ pub mod Walks
 pub mod Topologies
 pub mod Marks
 pub mod Hops
+pub mod Behind

@@ -1,6 +1,6 @@
 -- The mark and the version at the front of an image.
 use mathlib.Core.Path.{◌≡◌, sym, ap, ◌∙◌, subst}
-use mathlib.Core.Bool.{Bool, false}
+use mathlib.Core.Bool.{Bool}
 use mathlib.Core.List.{List}
 use Prim.Native.Nat.{ℕ, zero, suc, ◌<◌, ◌≤◌}
 use native.Mathlib.Omega.{arith}
@@ -8,7 +8,7 @@ use lib.ListN.{length, get_or, take}
 use lib.Seq.{get_or-take, length-take-le, ext_get_or}
 use Rattle.rules.specs.Words.{Tests}
 use Rattle.rules.specs.Image.{header_length, mark, Version, version_of}
-use Rattle.rules.proofs.Tests.{never, alike}
+use Rattle.rules.proofs.Tests.{alike}
 
 -- the mark, and a version that there is
 abbrev pub Marked : List ℕ → Type 0
@@ -17,9 +17,6 @@ Marked s = (take 3 s ≡ mark) × Version (version_of s)
 module _ (s : List ℕ) (long : header_length ≤ length s) where
   at_front : take 3 s ≡ mark → (i : ℕ) → i < 3 → get_or s i 0 ≡ get_or mark i 0
   at_front e i l = sym (get_or-take 3 s i 0 l) ∙ ap (λ (l : List ℕ). get_or l i 0) e
-
-  pub not_marked : (i : ℕ) → i < 3 → (get_or s i 0 ≡ get_or mark i 0 → ⊥) → Tests false (Marked s)
-  not_marked i l n = record { yes = λ e. never e; back = λ e. absurd (n (at_front e.0 i l)) }
 
   module _ (a : get_or s 0 0 ≡ get_or mark 0 0) (b : get_or s 1 0 ≡ get_or mark 1 0) (c : get_or s 2 0 ≡ get_or mark 2 0) where
     all_front : take 3 s ≡ mark

@@ -19,33 +19,8 @@ use Rattle.rules.proofs.Written.{length_accounts_at}
 use Rattle.rules.proofs.Reading.{read_rows, rows_in}
 use Rattle.image.specs.Places.{hearing_place, row_at, next_at, rows_from, Whole}
 
--- in the versions before 2 a row has no way
-pub place_without : (v : ℕ) → v < 2 → period_place v ≡ 2
-place_without v l = ap (λ (t : Bool). 2 + cond t 1 0) (lt-leb 2 v l)
-
-pub place_with : (v : ℕ) → 2 ≤ v → period_place v ≡ 3
-place_with v l = ap (λ (t : Bool). 2 + cond t 1 0) (le-leb 2 v l)
-
--- in those before 4 its period has one byte
-pub hops_narrow : (v p : ℕ) → v < 4 → p ≡ period_place v → p + 1 ≡ hops_place v
-hops_narrow v p l e = let f = ap (λ (t : Bool). cond {A = ℕ} t 1 0) (lt-leb 4 v l) in omega arith
-
-pub hops_wide : (v p : ℕ) → 4 ≤ v → p ≡ period_place v → p + 2 ≡ hops_place v
-hops_wide v p l e = let f = ap (λ (t : Bool). cond {A = ℕ} t 1 0) (le-leb 4 v l) in omega arith
-
--- in those before 5 it has no account
-pub row_without : (v p : ℕ) → v < 5 → p ≡ hops_place v → p + 2 ≡ row_length v
-row_without v p l e = let f = ap (λ (t : Bool). cond {A = ℕ} t 2 0) (lt-leb 5 v l) in omega arith
-
 pub row_with : (v p : ℕ) → 5 ≤ v → p ≡ hops_place v → p + 4 ≡ row_length v
 row_with v p l e = let f = ap (λ (t : Bool). cond {A = ℕ} t 2 0) (le-leb 5 v l) in omega arith
-
--- and the links stand right behind the header
-pub links_without : (v A : ℕ) → v < 5 → links_start v A ≡ header_length
-links_without v A l = ap (λ (t : Bool). header_length + cond t (1 + 6 * A) 0) (lt-leb 5 v l)
-
-pub links_with : (v A : ℕ) → 5 ≤ v → links_start v A ≡ header_length + 1 + 6 * A
-links_with v A l = let f = ap (λ (t : Bool). header_length + cond t (1 + 6 * A) 0) (le-leb 5 v l) in omega arith
 
 pub links_most : (v A : ℕ) → links_start v A ≤ header_length + 1 + 6 * A
 links_most v A = most (has_accounts v)
@@ -63,13 +38,6 @@ links_counted s = counted (has_accounts (version_of s))
     counted true = ap (λ (k : ℕ). header_length + (1 + 6 * k)) (length_accounts_at s (header_length + 1) (account_count_of s))
     counted false = refl
 
--- in the versions before 3 the hearing stands where the links do
-pub hearing_without : (v A N : ℕ) → v < 3 → hearing_place v A N ≡ links_start v A
-hearing_without v A N l = ap (λ (t : Bool). cond t (links_start v A + 8 * N) (links_start v A)) (lt-leb 3 v l)
-
-pub hearing_with : (v A N : ℕ) → 3 ≤ v → hearing_place v A N ≡ links_start v A + 8 * N
-hearing_with v A N l = ap (λ (t : Bool). cond t (links_start v A + 8 * N) (links_start v A)) (le-leb 3 v l)
-
 pub hearing_most : (v A N : ℕ) → hearing_place v A N ≤ links_start v A + 8 * N
 hearing_most v A N = most (has_hearing v)
   where
@@ -84,9 +52,6 @@ rows_behind v A N = behind (has_hearing v)
     behind : (t : Bool) → cond t (links_start v A + 8 * N) (links_start v A) + 8 * N ≡ links_start v A + 8 * N + cond t (8 * N) 0
     behind true = refl
     behind false = omega arith
-
-pub rows_most : (v A N : ℕ) → rows_start v A N ≤ header_length + 1 + 6 * A + 16 * N
-rows_most v A N = omega (arith, rows_behind v A N, hearing_most v A N, links_most v A)
 
 -- what is read there is the hearing
 pub hearing_there : (s : List ℕ) → topology_at s (hearing_place (version_of s) (account_count_of s) (nodes_of s)) (nodes_of s) ≡ hearing_of s
@@ -162,8 +127,10 @@ module _ (s : List ℕ) (at : ℕ) where
     row_offset_lem = front_offset (version_of s) s at enough
 
     -- its account stands behind its offsets
-    pub account_there : 5 ≤ version_of s → (p h : ℕ) → p ≡ hops_place (version_of s) → h ≡ hops (row_at s at) → word_at s (at + (p + 2 + 3 * h)) ≡ (row_at s at).account
-    account_there l p h e f = ap₂ (λ (x y : ℕ). word_at s (at + (x + 2 + 3 * y))) e (f ∙ row_hops) ∙ sym (account_with l)
+    pub account_there : 5 ≤ version_of s → (n h : ℕ) → n ≡ hops_place (version_of s) + 1 → h ≡ hops (row_at s at) → word_at s (at + (n + 1 + 3 * h)) ≡ (row_at s at).account
+    account_there l n h e f =
+        let behind : n + 1 ≡ hops_place (version_of s) + 2 = omega arith in
+        ap₂ (λ (x y : ℕ). word_at s (at + (x + 3 * y))) behind (f ∙ row_hops) ∙ sym (account_with l)
 
     pub account_inside : 5 ≤ version_of s → at + (hops_place (version_of s) + 2 + 3 * hops (row_at s at)) + 2 ≤ length s
     account_inside l = let g = row_with (version_of s) (hops_place (version_of s)) l refl in omega (arith, g, enough, row_hops)

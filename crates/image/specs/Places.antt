@@ -1,8 +1,10 @@
 -- Places in an image: the row that stands at a place, and the rows that stand from there on.
-use Rattle.std.specs.Prelude.{◌≡◌, cond, List, [], ◌∷◌, ◌++◌, ℕ, zero, suc, ◌+◌, ◌*◌, ◌≤◌, ◌-◌, length, get_or, take, drop, replicate}
+use Rattle.std.specs.Prelude.{◌≡◌, cond, List, [], ◌∷◌, ◌++◌, ℕ, zero, suc, ◌+◌, ◌*◌, ◌<◌, ◌≤◌, ◌-◌, length, get_or, take, drop, replicate}
 use Rattle.rules.specs.Words.{◌∈◌}
-use Rattle.rules.specs.Book.{Row, LawfulRow}
-use Rattle.rules.specs.Image.{has_hearing, header_length, links_start, hops_place, row_length, in_turn, encode_row, sets_at, version_of, site_of}
+use Rattle.rules.specs.Tiles.{Period}
+use Rattle.rules.specs.Topology.{most_route_hops}
+use Rattle.rules.specs.Book.{Row, hops, row_offset, LawfulRow}
+use Rattle.rules.specs.Image.{has_hearing, header_length, links_start, hops_place, row_length, word, in_turn, encode_row, sets_at, version_of, site_of}
 use Rattle.rules.proofs.Encoding.{front_row}
 use Rattle.rules.proofs.Reading.{rows_in, LawfulImage}
 
@@ -27,6 +29,30 @@ rows_from s (suc n) at = row_at s at ∷ rows_from s n (next_at s at)
 pub record Whole (s : List ℕ) (at : ℕ) : Type 0 where
   pub front : at + row_length (version_of s) ≤ length s
   pub fits : next_at s at ≤ length s
+
+-- the whole row at a place, whose nodes stand so many bytes behind its start, has so many hops
+pub record RowRead (s : List ℕ) (at nodes h : ℕ) : Type 0 where
+  pub whole : Whole s at
+  pub nodes_behind : nodes ≡ hops_place (version_of s) + 1
+  pub hops_are : h ≡ hops (row_at s at)
+  pub few : h < 256
+
+-- the bytes of a row from its hop count up to its account
+abbrev pub hop_bytes : Row → List ℕ
+hop_bytes r = hops r ∷ (r.route ++ in_turn word r.offsets)
+
+-- the numbers of a row are in the ranges of a lawful book
+pub record InRange (r : Row) : Type 0 where
+  pub period : Period r.period
+  pub some : 1 ≤ hops r
+  pub most : hops r ≤ most_route_hops
+  pub nodes : (i : ℕ) → i ≤ hops r → get_or r.route i 0 < 64
+  pub offsets : (i : ℕ) → i < hops r → row_offset r i < r.period * 32
+
+-- n whole rows stand from the place on
+unfoldable pub WholeRows : List ℕ → ℕ → ℕ → Type 0
+WholeRows s zero at = Unit {0}
+WholeRows s (suc n) at = Whole s at × WholeRows s n (next_at s at)
 
 -- the image of a lawful book, of whose rows the last `left` stand from the place on
 pub record Stands (s : List ℕ) (at left : ℕ) : Type 0 where

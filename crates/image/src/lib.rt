@@ -11,6 +11,7 @@ ghost use Rattle.image.specs.Places.{hearing_place, row_at, next_at, Whole};
 ghost use Rattle.image.specs.Header.{HeaderOf};
 
 pub mod fields;
+pub mod row;
 
 use rules::{Node, Plan, Slot, Tile};
 
@@ -20,7 +21,7 @@ pub const HEADER: usize = 16;
 // The mark.
 pub const MARK: [u8; 3] = *b"SLB";
 
-// The newest version, in which new and changed books are written.
+// The newest version, in which new and changed books are written: versions are the format's numbers, and compared in order.
 pub const NEWEST: u16 = 5;
 
 // The first version whose rows hold their ways.
@@ -58,53 +59,22 @@ pub struct Book {
     pub accounts: u8,
 }
 
-fn wide16(x: u8) -> u16
-    ensures { (result ≡ x) × (result < 256) }
-{
-    x as u16
-}
-
-fn wide64(x: u16) -> u64
-    ensures { (result ≡ x) × (result < 65536) }
-{
-    x as u64
-}
-
-fn count(x: u8) -> usize
-    ensures { (result ≡ x) × (result < 256) }
-{
-    x as usize
-}
-
-fn long(x: u16) -> usize
-    ensures { (result ≡ x) × (result < 65536) }
-{
-    x as usize
-}
-
 // The number in 2 bytes from a place on.
 pub fn word_at(image: &[u8], at: usize) -> u16
     requires { at + 2 ≤ length image.now }
     ensures { (result ≡ word_at image.now at) × TwoBytes result }
 {
-    wide16(image[at]) * 256 + wide16(image[at + 1])
+    u16::from_be_bytes([image[at], image[at + 1]])
 }
 
-// The same as a longer number.
-fn long_word_at(image: &[u8], at: usize) -> u64
-    requires { at + 2 ≤ length image.now }
-    ensures { (result ≡ word_at image.now at) × (result < 65536) }
-{
-    wide64(word_at(image, at))
-}
-
-// The number in 8 bytes from a place on, in a form that compilers make one load of.
+// The number in 8 bytes from a place on.
 pub fn word64_at(image: &[u8], at: usize) -> u64
     requires { at + 8 ≤ length image.now }
     ensures { result ≡ word64_at image.now at }
 {
-    let half = long_word_at(image, at) * 65536 + long_word_at(image, at + 2);
-    (half * 65536 + long_word_at(image, at + 4)) * 65536 + long_word_at(image, at + 6)
+    let mut bytes = [0u8; 8];
+    bytes.copy_from_slice(&image[at..at + 8]);
+    u64::from_be_bytes(bytes)
 }
 
 // In a row of a version, the bytes before the period: its id, and its way where the version holds it.
@@ -143,7 +113,7 @@ fn period_place_in(image: &[u8]) -> usize
 }
 
 // In a row of the image, the bytes before the hop count.
-pub fn hops_place_in(image: &[u8]) -> usize
+fn hops_place_in(image: &[u8]) -> usize
     requires { 5 ≤ length image.now }
     ensures { (result ≡ hops_place (version_of image.now)) × (result ≤ 5) }
 {
@@ -159,7 +129,7 @@ fn row_length_in(image: &[u8]) -> usize
 }
 
 // Whether the image holds its periods in two bytes.
-pub fn is_wide(image: &[u8]) -> bool
+fn is_wide(image: &[u8]) -> bool
     requires { 5 ≤ length image.now }
     ensures { result ≡ has_wide (version_of image.now) }
 {
@@ -185,7 +155,7 @@ impl Book {
     pub const HOPS: usize = 512;
 
     // 15 hops a route,
-    pub const ROUTE_HOPS: usize = 15;
+    pub const ROUTE_HOPS: usize = rules::ROUTE_HOPS;
 
     // and 32 accounts.
     pub const ACCOUNTS: usize = 32;
@@ -200,20 +170,27 @@ impl Book {
     {
         let version = word_at(image, 3);
         let plan = Plan {
-            slots: Slot(wide16(image[5])),
-            tiles: Tile(wide16(image[6])),
+            slots: Slot(u16::from(image[5])),
+            tiles: Tile(u16::from(image[6])),
             kinds: word_at(image, 7),
-            down: Slot(wide16(image[9])),
-            up: Slot(wide16(image[10])),
+            down: Slot(u16::from(image[9])),
+            up: Slot(u16::from(image[10])),
         };
         Book {
             version,
             plan,
-            nodes: count(image[11]),
-            streams: count(image[12]),
-            hops: long(word_at(image, 13)),
+            nodes: usize::from(image[11]),
+            streams: usize::from(image[12]),
+            hops: usize::from(word_at(image, 13)),
             accounts: account_count(image),
         }
+    }
+
+    // Whether its image holds its periods in two bytes.
+    pub fn is_wide(self) -> bool
+        ensures { result ≡ has_wide self.version }
+    {
+        WIDE <= self.version
     }
 
     // Where its links stand: behind the accounts, in a version that holds them.
@@ -223,7 +200,7 @@ impl Book {
         if self.version < ACCOUNTS {
             HEADER
         } else {
-            HEADER + 1 + ACCOUNT * count(self.accounts)
+            HEADER + 1 + ACCOUNT * usize::from(self.accounts)
         }
     }
 
@@ -269,16 +246,7 @@ pub fn is_marked(image: &[u8]) -> bool
     requires { header_length ≤ length image.now }
     ensures { Tests result ((take 3 image.now ≡ mark) × Version (version_of image.now)) }
 {
-    if image[0] != MARK[0] {
-        return false;
-    }
-    if image[1] != MARK[1] {
-        return false;
-    }
-    if image[2] != MARK[2] {
-        return false;
-    }
-    is_version(word_at(image, 3))
+    image.starts_with(&MARK) && is_version(word_at(image, 3))
 }
 
 // Whether a whole row, as long as it says, is at the place.
@@ -294,7 +262,7 @@ pub fn is_whole(image: &[u8], at: usize) -> bool
     if left < beside {
         return false;
     }
-    beside + HOP * count(image[at + hops_place_in(image)]) <= left
+    beside + HOP * usize::from(image[at + hops_place_in(image)]) <= left
 }
 
 // The row's id.
@@ -326,7 +294,7 @@ pub fn period_at(image: &[u8], at: usize) -> Tile
     if is_wide(image) {
         Tile(word_at(image, place))
     } else {
-        Tile(wide16(image[place]))
+        Tile(u16::from(image[place]))
     }
 }
 
@@ -335,11 +303,11 @@ pub fn hops_at(image: &[u8], at: usize) -> usize
     requires { Whole image.now at }
     ensures { (result ≡ hops (row_at image.now at)) × (result < 256) }
 {
-    count(image[at + hops_place_in(image)])
+    usize::from(image[at + hops_place_in(image)])
 }
 
 // Node i of its route, whose nodes stand so many bytes behind the row's start: who reads many hops reads the layout once.
-pub fn node_in(image: &[u8], at: usize, nodes: usize, i: usize) -> Node
+fn node_in(image: &[u8], at: usize, nodes: usize, i: usize) -> Node
     requires { Whole image.now at × (nodes ≡ hops_place (version_of image.now) + 1) × (i ≤ hops (row_at image.now at)) }
     ensures { (result.0 ≡ get_or (row_at image.now at).route i 0) × (result.0 < 256) }
 {
@@ -347,28 +315,11 @@ pub fn node_in(image: &[u8], at: usize, nodes: usize, i: usize) -> Node
 }
 
 // The offset of hop i of its h hops: the offsets stand behind the nodes.
-pub fn offset_in(image: &[u8], at: usize, nodes: usize, h: usize, i: usize) -> Slot
+fn offset_in(image: &[u8], at: usize, nodes: usize, h: usize, i: usize) -> Slot
     requires { Whole image.now at × (nodes ≡ hops_place (version_of image.now) + 1) × (h ≡ hops (row_at image.now at)) × (i < h) }
     ensures { (result.0 ≡ row_offset (row_at image.now at) i) × TwoBytes result.0 }
 {
     Slot(word_at(image, at + (nodes + 1) + h + 2 * i))
-}
-
-// Node i of its route.
-pub fn node_at(image: &[u8], at: usize, i: usize) -> Node
-    requires { Whole image.now at × (i ≤ hops (row_at image.now at)) }
-    ensures { (result.0 ≡ get_or (row_at image.now at).route i 0) × (result.0 < 256) }
-{
-    node_in(image, at, hops_place_in(image) + 1, i)
-}
-
-// The offset of its hop i.
-pub fn offset_at(image: &[u8], at: usize, i: usize) -> Slot
-    requires { Whole image.now at × (i < hops (row_at image.now at)) }
-    ensures { (result.0 ≡ row_offset (row_at image.now at) i) × TwoBytes result.0 }
-{
-    let h = hops_at(image, at);
-    offset_in(image, at, hops_place_in(image) + 1, h, i)
 }
 
 // The place after it.
@@ -377,18 +328,5 @@ pub fn next(image: &[u8], at: usize) -> usize
     ensures { (result ≡ next_at image.now at) × (result ≤ length image.now) }
 {
     let beside = row_length_in(image);
-    at + (beside + HOP * count(image[at + hops_place_in(image)]))
-}
-
-// The account that it belongs to: in a version that holds none it is account 0.
-pub fn account_at(image: &[u8], at: usize) -> u16
-    requires { Whole image.now at }
-    ensures { (result ≡ (row_at image.now at).account) × TwoBytes result }
-{
-    if word_at(image, 3) < ACCOUNTS {
-        return 0;
-    }
-    let h = hops_at(image, at);
-    let behind = hops_place_in(image) + 2;
-    word_at(image, at + (behind + HOP * h))
+    at + (beside + HOP * usize::from(image[at + hops_place_in(image)]))
 }

@@ -5,25 +5,20 @@ use mathlib.Core.List.{List}
 use Prim.Native.Nat.{ℕ, ◌+◌, ◌*◌, ◌<◌, ◌≤◌}
 use native.Mathlib.Omega.{arith}
 use native.Mathlib.Nat.{eq-or-lt_of_le, mul-le-mul_right}
-use lib.ListN.{length, get_or, length-set, set}
+use lib.ListN.{length, get_or, set}
 use Rattle.rules.specs.Words.{Has}
-use Rattle.rules.specs.Topology.{Hop}
 use Rattle.bitset.specs.Sets.{SetOf}
-use Rattle.bitset.proofs.Bits.{zero_none}
 use Rattle.bitset.specs.clash.Reach.{End}
 use Rattle.bitset.specs.clash.Reach.End.{sender, receiver}
 use Rattle.index.specs.Areas.{quick_tiles, quick_place, fold_place, index_slots, word_at, AtWork}
 use Rattle.index.specs.Folding.{InTens, Folded, Refolds}
-use Rattle.index.proofs.Adding.{after, the_word, here, elsewhere, behind_slots}
+use Rattle.index.proofs.Setting.{after, the_word, as_long, here, elsewhere, behind_slots}
 
 -- ONE TEN AFTER THE OTHER: the node is at work in one of the first n
 pub record FirstTens (fold : ℕ) (words : List ℕ) (end : End) (slot n node : ℕ) : Type 0 where
   pub ten : ℕ
   pub few : ten < n
   pub there : AtWork words end (slot + ten * fold) node
-
-pub tens_none : (fold : ℕ) (words : List ℕ) (end : End) (slot : ℕ) → SetOf (FirstTens fold words end slot 0) 0
-tens_none fold words end slot = record { fits = omega arith; only = λ k m. absurd (zero_none k m); all = λ k f. omega (arith, f.few) }
 
 pub tens_more : {fold : ℕ} {words : List ℕ} (end : End) {slot n other had next : ℕ} → other ≡ slot + n * fold → SetOf (λ (k : ℕ). Has had k ⊎ AtWork words end other k) next
     → SetOf (FirstTens fold words end slot n) had → SetOf (FirstTens fold words end slot (n + 1)) next
@@ -36,33 +31,26 @@ tens_more {fold} {words} end {slot} {n} {other} e u w = record {
       (λ (l : f.ten < n). inl (w.all k (record { ten = f.ten; few = l; there = f.there }))) (eq-or-lt_of_le (omega (arith, f.few))));
 }
 
-pub all_tens : {fold : ℕ} {words : List ℕ} {end : End} {slot n set : ℕ} → n ≡ quick_tiles → SetOf (FirstTens fold words end slot n) set
-    → SetOf (FirstTens fold words end slot quick_tiles) set
-all_tens {fold} {words} {end} {slot} {set = set} e w = subst (λ (n : ℕ). SetOf (FirstTens fold words end slot n) set) e w
-
 -- THE SLOT of the fold is set to what they have
 module _ (t : List ℕ) (fold slot v w : ℕ) (size : 2 * (fold_place + slot) + 1 < length t) (low : fold_place + slot < index_slots)
     (first : SetOf (FirstTens fold t sender slot quick_tiles) v) (second : SetOf (FirstTens fold t receiver slot quick_tiles) w) where
-  abbrev nobody : Hop
-  nobody = record { from = 0; to = 0 }
-
   abbrev u : List ℕ
-  u = after t (fold_place + slot) nobody v w size
+  u = after t (fold_place + slot) v w size
 
-  sets : (end : End) → SetOf (FirstTens fold t end slot quick_tiles) (the_word t (fold_place + slot) nobody v w size end)
+  sets : (end : End) → SetOf (FirstTens fold t end slot quick_tiles) (the_word t (fold_place + slot) v w size end)
   sets sender = first
   sets receiver = second
 
   pub refolds : Refolds fold slot t u
   refolds = record {
-    size = length-set (set t (2 * (fold_place + slot)) v) (2 * (fold_place + slot) + 1) w ∙ length-set t (2 * (fold_place + slot)) v;
+    size = as_long t (fold_place + slot) v w size;
     only = λ end node m.
-        let f = (sets end).only node (subst (λ (x : ℕ). Has x node) (here t (fold_place + slot) nobody v w size end) m) in
+        let f = (sets end).only node (subst (λ (x : ℕ). Has x node) (here t (fold_place + slot) v w size end) m) in
         record { ten = f.ten; few = f.few; there = f.there };
     all = λ end node f.
-        subst (λ (x : ℕ). Has x node) (sym (here t (fold_place + slot) nobody v w size end)) ((sets end).all node (record { ten = f.ten; few = f.few; there = f.there }));
-    same = λ end other f. elsewhere t (fold_place + slot) nobody v w size end other f;
-    behind = behind_slots t (fold_place + slot) nobody v w size low;
+        subst (λ (x : ℕ). Has x node) (sym (here t (fold_place + slot) v w size end)) ((sets end).all node (record { ten = f.ten; few = f.few; there = f.there }));
+    same = λ end other f. elsewhere t (fold_place + slot) v w size end other f;
+    behind = behind_slots t (fold_place + slot) v w size low;
   }
 
 -- the tens of a slot of the fold are slots of 100 tiles

@@ -1,5 +1,5 @@
 -- A hop marked, looked for and taken out, by the areas of its slots.
-use mathlib.Core.Path.{◌≡◌, refl, sym, ap, ◌∙◌, subst}
+use mathlib.Core.Path.{◌≡◌, sym, ap, ◌∙◌, subst}
 use mathlib.Core.Logic.{◌⊎◌, inl, inr, ⊎_elim}
 use mathlib.Core.Bool.{Bool}
 use mathlib.Core.List.{List}
@@ -19,14 +19,11 @@ use Rattle.index.specs.Turns.Looks.{in_ten, in_fold, in_hundred, once_in_ten}
 use Rattle.index.specs.Marks.{Adds, Clears, FindsFirst, Finds}
 use Rattle.index.specs.Folding.{InTens, Folded, Refolds, Removes}
 use Rattle.index.proofs.Adding.{adds_none, adds_alike, adds_both}
+use Rattle.index.proofs.Changing.{InTurn}
 use Rattle.index.proofs.Turns.{quick_below, short_below, first_turn, turn_first}
 use Rattle.index.proofs.Folding.{ten_low, fold_alike}
 
--- the hop is in the slots of so many turns from a slot on,
-abbrev pub InTurn : ℕ → ℕ → ℕ → Hop → End → ℕ → ℕ → Type 0
-InTurn span start turns h end slot node = TakesFirst span start turns slot × (node ≡ node_at end h)
-
--- and in all those where it is marked
+-- the hop is in all the slots where it is marked
 abbrev pub InAll : Repeats → ℕ → Hop → End → ℕ → ℕ → Type 0
 InAll r o h end slot node = TakesIn r o slot × (node ≡ node_at end h)
 
@@ -71,23 +68,6 @@ module _ {r : Repeats} {o : ℕ} (w : InIndex r o) (h : Hop) where
 
 -- LOOKED FOR
 module _ {r : Repeats} {o : ℕ} (w : InIndex r o) {C : End → ℕ → Type 0} {words : List ℕ} where
-  pub found_quick : FindsFirst C words r.span.0 (quick_place + o) r.few → Finds C words r o
-  found_quick f = record { slot = f.slot; looked = in_ten (quick_below w f.takes) f.takes; busy = f.busy }
-
-  pub found_short : r.few ≡ 0 → FindsFirst C words r.span.0 o r.turns → Finds C words r o
-  found_short z f = record { slot = f.slot; looked = in_hundred z (short_below w f.takes) f.takes; busy = f.busy }
-
-  -- it is not among ten tiles: then what the fold says is so
-  pub tests_quick : {b : Bool} → 0 < r.few → (FindsFirst C words r.span.0 (quick_place + o) r.few → ⊥)
-      → Tests b (FindsFirst C words r.span.0 (fold_place + o) r.few) → Tests b (Finds C words r o)
-  tests_quick some miss t = alike t (λ f. record { slot = f.slot; looked = in_fold f.takes; busy = f.busy }) (λ f. go f f.looked)
-    where
-      go : (f : Finds C words r o) → LooksIn r o f.slot → FindsFirst C words r.span.0 (fold_place + o) r.few
-      go f (in_ten l k) = absurd (miss (record { slot = f.slot; takes = k; busy = f.busy }))
-      go f (in_fold k) = record { slot = f.slot; takes = k; busy = f.busy }
-      go f (in_hundred z l k) = absurd (omega (arith, some, z))
-      go f (once_in_ten z m l k) = absurd (omega (arith, some, z))
-
   module _ (none : r.few ≡ 0) where
     pub tests_none : r.turns ≡ 0 → Finds C words r o → ⊥
     tests_none e f = go f.looked
@@ -130,17 +110,6 @@ module _ {r : Repeats} {o : ℕ} (w : InIndex r o) (h : Hop) where
       other : {slot : ℕ} → TakesFirst r.span.0 (quick_place + o) r.few slot → (slot < quick_place) ⊎ ((fold_place ≤ slot) × (slot < index_slots)) → ⊥
       other k (inl l) = omega (arith, k.at, l)
       other k (inr l) = omega (arith, l.0, quick_below w k)
-
-  -- or of none
-  pub out_none : (t : List ℕ) → r.few ≡ 0 → r.turns ≡ 0 → Removes r.fold.0 (InAll r o h) t t
-  out_none t z e = record {
-    size = refl;
-    fits = λ end slot l n. n;
-    only = λ end slot node l m. (m, in_none w h z e end slot node);
-    all = λ end slot node l m n. m;
-    folded = λ f. f;
-    behind = refl;
-  }
 
   -- or of 100, with the slot of the fold worked out again
   module _ {s t u : List ℕ} {f₀ : ℕ} (none : r.few ≡ 0) (some : 0 < r.turns) (place : f₀ ≡ o % r.fold.0)

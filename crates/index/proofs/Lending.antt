@@ -1,5 +1,5 @@
 -- The whole index, put one ten after the other: what stands among the 100 tiles beside what stands among the ten.
-use mathlib.Core.Path.{◌≡◌, refl, sym, ap, ◌∙◌, subst, subst₂}
+use mathlib.Core.Path.{◌≡◌, sym, ap, ◌∙◌, subst, subst₂}
 use mathlib.Core.Logic.{◌⊎◌, ⊎_elim}
 use mathlib.Core.List.{List}
 use Prim.Native.Nat.{ℕ, zero, suc, ◌+◌, ◌*◌, ◌/◌, ◌%◌, ◌<◌, ◌≤◌}
@@ -25,9 +25,6 @@ abbrev pub Both : List ℕ → ℕ → ℕ → ℕ → Type 0
 Both index i j k = Has (get_or index i 0) k ⊎ Has (get_or index j 0) k
 
 -- ONE WORD AFTER THE OTHER
-pub ten_none : (ten : ℕ) (index t : List ℕ) → TenLent ten 0 index t t
-ten_none ten index t = record { size = refl; each = λ i l. absurd (omega arith); front = λ i l. refl; behind = refl }
-
 pub ten_more : {ten i v : ℕ} {index s t : List ℕ} → TenLent ten i index s t → ten + i < length t → SetOf (Both index (ten + i) (2 * quick_place + i)) v
     → TenLent ten (i + 1) index s (set t (ten + i) v)
 ten_more {ten} {i} {v} {index} {s} {t} w l b = record {
@@ -47,17 +44,11 @@ ten_more {ten} {i} {v} {index} {s} {t} w l b = record {
         let e : ten + i + 1 ≡ ten + (i + 1) = omega arith in
         drop-set-lt (ten + (i + 1)) t (ten + i) v (omega arith) ∙ subst (λ (n : ℕ). drop n t ≡ drop n s) e (further (ten + i) 1 s t w.behind)
 
-pub all_words : {ten i words : ℕ} {index s t : List ℕ} → i ≡ words → TenLent ten i index s t → TenLent ten words index s t
-all_words {ten} {index = index} {s} {t} e w = subst (λ (n : ℕ). TenLent ten n index s t) e w
-
 -- ONE TEN AFTER THE OTHER: the first n, of so many words each
 pub record TensLent (words n : ℕ) (index before after : List ℕ) : Type 0 where
   pub size : length after ≡ length before
   pub each : (ten i : ℕ) → ten < n → i < words → SetOf (Both index (ten * words + i) (2 * quick_place + i)) (get_or after (ten * words + i) 0)
   pub behind : drop (n * words) after ≡ drop (n * words) before
-
-pub tens_start : (words : ℕ) (index t : List ℕ) → TensLent words 0 index t t
-tens_start words index t = record { size = refl; each = λ ten i l h. absurd (omega arith); behind = refl }
 
 pub tens_next : {words n at : ℕ} {index s t u : List ℕ} → at ≡ n * words → TensLent words n index s t → TenLent at words index t u → TensLent words (n + 1) index s u
 tens_next {words} {n} {at} {index} {s} {t} {u} e w b = record {

@@ -1,10 +1,10 @@
 pub mod Classes
 pub mod Adding
 pub mod Turns
+pub mod Setting
+pub mod Changing
 pub mod Noting
 pub mod Seeing
-pub mod Passing
-pub mod Clearing
 pub mod Folding
 pub mod Hops
 pub mod Lending

@@ -24,9 +24,6 @@ noted K t e = record { size = length-set t slow_place 1; same = same; kept = λ 
     same sender slot l = get_or-set_other t slow_place (2 * slot) 1 0 (λ q. omega arith)
     same receiver slot l = get_or-set_other t slow_place (2 * slot + 1) 1 0 (λ q. omega arith)
 
-pub not_slow : {K : ℕ} (t : List ℕ) → K ≤ short_tiles → Notes K t t
-not_slow t l = record { size = refl; same = λ end slot m. refl; kept = λ z. z; short = λ z. l; behind = refl }
-
 -- where the test of the word says no, it is 0
 pub none_noted : (x : ℕ) → not (eqb x 0) ≡ false → x ≡ 0
 none_noted x e = eqb-true x 0 (not-false _ e)

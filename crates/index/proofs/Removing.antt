@@ -1,9 +1,8 @@
 -- The index of a row less, its hops taken out one after the other.
-use mathlib.Core.Path.{◌≡◌, refl, subst, ◌∙◌}
+use mathlib.Core.Path.{◌≡◌, subst, ◌∙◌}
 use mathlib.Core.Logic.{◌⊎◌, inl, inr, ⊎_elim}
 use mathlib.Core.List.{List, ◌∷◌}
 use Prim.Native.Nat.{ℕ, ◌+◌, ◌*◌, ◌<◌}
-use native.Mathlib.Omega.{arith}
 use Rattle.rules.specs.Words.{◌∈◌}
 use Rattle.rules.specs.Book.{Row, hops, row_hop, row_offset}
 use Rattle.bitset.specs.clash.Reach.{End, node_at}
@@ -42,16 +41,6 @@ removes_both a b = record {
 
 -- ONE HOP AFTER THE OTHER
 module _ (S : ℕ) (r : Row) where
-  pub unhops_none : (t : List ℕ) → Removes (quick_tiles * S) (HopsTake S r 0) t t
-  unhops_none t = record {
-    size = refl;
-    fits = λ end slot l n. n;
-    only = λ end slot node l m. (m, λ h. omega (arith, h.there));
-    all = λ end slot node l m n. m;
-    folded = λ w. w;
-    behind = refl;
-  }
-
   pub unhops_more : (n : ℕ) {repeats : Repeats} {before t u : List ℕ} → RepeatsOf S r.period repeats → Removes (quick_tiles * S) (HopsTake S r n) before t
       → Removes repeats.fold.0 (λ (end : End) (slot node : ℕ). TakesIn repeats (row_offset r n) slot × (node ≡ node_at end (row_hop r n))) t u
       → Removes (quick_tiles * S) (HopsTake S r (n + 1)) before u

@@ -1,23 +1,15 @@
 -- The slots of a hop's turns, and its marks there.
-use mathlib.Core.Path.{◌≡◌, sym, ap, ◌∙◌, subst, subst₂}
+use mathlib.Core.Path.{◌≡◌, sym, ap, ◌∙◌, subst₂}
 use mathlib.Core.Logic.{◌⊎◌, inl, inr, ⊎_elim}
-use mathlib.Core.List.{List}
 use Prim.Native.Nat.{ℕ, zero, suc, ◌+◌, ◌*◌, ◌/◌, ◌%◌, ◌<◌, ◌≤◌}
 use native.Mathlib.Omega.{arith}
 use native.Mathlib.Nat.{eq-or-lt_of_le, mul-le-mul_right, div-add-mod', div-zero, zero-mul, mul-div_cancel}
 use lib.Ieee.Nearest.{div_mono}
-use lib.ListN.{length, set}
 use Rattle.rules.specs.Tiles.{Period, Takes, cycle_tiles, short_tiles}
-use Rattle.rules.specs.Topology.{Hop}
-use Rattle.bitset.specs.Sets.{SetOf}
-use Rattle.bitset.specs.clash.Reach.{End, node_at}
-use Rattle.bitset.specs.clash.Reach.End.{sender, receiver}
 use Rattle.index.specs.declared.Repeats.{Repeats}
-use Rattle.index.specs.Areas.{quick_tiles, quick_place, fold_place, index_slots, AtWork}
+use Rattle.index.specs.Areas.{quick_tiles, quick_place, fold_place, index_slots}
 use Rattle.index.specs.Turns.{RepeatsOf, TakesFirst, Places, Looks, MarkedAt, LooksAt, TakesIn, LooksIn, InTurns, InIndex}
-use Rattle.index.specs.Marks.{Adds}
 use Rattle.index.proofs.Classes.{Class, class_of}
-use Rattle.index.proofs.Adding.{adds_none, adds_alike, adds_both, one_law}
 
 -- a period that has a turn in so many tiles has a tile
 turn_some : (T K : ℕ) {t : ℕ} → t < T / K → 0 < K
@@ -106,17 +98,8 @@ module _ {S K : ℕ} {r : Repeats} (w : RepeatsOf S K r) where
 
 -- THE AREAS of a hop that is in the index
 module _ {r : Repeats} {o : ℕ} (w : InIndex r o) where
-  pub quick_turns : InTurns r.span.0 (quick_place + o) r.few
-  quick_turns = record { apart = w.apart; inside = λ turn l. omega (arith, w.in_ten turn l) }
-
   pub quick_below : {slot : ℕ} → TakesFirst r.span.0 (quick_place + o) r.few slot → slot < fold_place
   quick_below h = omega (arith, h.at, w.in_ten h.turn h.within)
-
-  pub fold_turns : InTurns r.span.0 (fold_place + o) r.few
-  fold_turns = record { apart = w.apart; inside = λ turn l. omega (arith, w.in_ten turn l) }
-
-  pub short_turns : InTurns r.span.0 o r.turns
-  short_turns = record { apart = w.apart; inside = λ turn l. omega (arith, w.in_hundred turn l) }
 
   pub short_below : {slot : ℕ} → TakesFirst r.span.0 o r.turns slot → slot < quick_place
   short_below h = omega (arith, h.at, w.in_hundred h.turn h.within)
@@ -132,51 +115,16 @@ first_turn span start h = let none : h.turn * span ≡ 0 = ap (λ (x : ℕ). x *
 pub turn_first : (span start : ℕ) {slot : ℕ} → slot ≡ start → TakesFirst span start 1 slot
 turn_first span start e = record { turn = 0; within = omega arith; at = omega (arith, e) }
 
--- ONE TURN AFTER THE OTHER: the slot is that of the next turn
-pub record Turning (span o turns turn slot : ℕ) : Type 0 where
-  pub most : turn ≤ turns
-  pub at : slot ≡ o + turn * span
-  pub apart : 0 < span
-  pub each : (n : ℕ) → n < turns → o + n * span < index_slots
+-- ONE TURN AFTER THE OTHER: no turn before takes its slot, and with it they are the turns up to the next
+module _ {span o turn : ℕ} where
+  pub turn_new : 0 < span → TakesFirst span o turn (o + turn * span) → ⊥
+  turn_new some h = omega (arith, h.at, mul-le-mul_right span h.within)
 
-pub turning_start : {span start turns : ℕ} → InTurns span start turns → Turning span start turns 0 start
-turning_start w = record { most = omega arith; at = omega arith; apart = w.apart; each = w.inside }
+  pub turn_more : {t : ℕ} → TakesFirst span o turn t ⊎ (t ≡ o + turn * span) → TakesFirst span o (turn + 1) t
+  turn_more (inl h) = record { turn = h.turn; within = omega (arith, h.within); at = h.at }
+  turn_more (inr e) = record { turn = turn; within = omega arith; at = e }
 
-module _ {span o turns turn slot : ℕ} (w : Turning span o turns turn slot) where
-  -- no turn before takes this turn's slot
-  pub turning_new : TakesFirst span o turn slot → ⊥
-  turning_new h = omega (arith, w.at, h.at, w.apart, mul-le-mul_right span h.within)
-
-  module _ (l : turn < turns) where
-    pub turning_inside : slot < index_slots
-    turning_inside = omega (arith, w.at, w.each turn l)
-
-    pub turning_next : Turning span o turns (turn + 1) (slot + span)
-    turning_next = record { most = omega arith; at = omega (arith, w.at); apart = w.apart; each = w.each }
-
-    pub more : (t : ℕ) → TakesFirst span o turn t ⊎ (t ≡ slot) → TakesFirst span o (turn + 1) t
-    more t (inl h) = record { turn = h.turn; within = omega (arith, h.within); at = h.at }
-    more t (inr e) = record { turn = turn; within = omega arith; at = e ∙ w.at }
-
-    pub split : (t : ℕ) → TakesFirst span o (turn + 1) t → TakesFirst span o turn t ⊎ (t ≡ slot)
-    split t h =
-        ⊎_elim (λ (e : h.turn ≡ turn). inr (h.at ∙ ap (λ (x : ℕ). o + x * span) e ∙ sym w.at))
-        (λ (k : h.turn < turn). inl (record { turn = h.turn; within = k; at = h.at })) (eq-or-lt_of_le (omega (arith, h.within)))
-
--- MARKING: the ends of the hop are in the sets of the first turns' slots
-abbrev pub MarksFirst : ℕ → ℕ → Hop → List ℕ → ℕ → List ℕ → Type 0
-MarksFirst span o h before turn words = Adds (λ (end : End) (slot node : ℕ). TakesFirst span o turn slot × (node ≡ node_at end h)) before words
-
-pub marks_none : (span o : ℕ) (h : Hop) (t : List ℕ) → MarksFirst span o h t 0 t
-marks_none span o h t = adds_none t (λ end slot node p. omega (arith, p.0.within))
-
-pub marks_more : {span o turns turn slot : ℕ} (h : Hop) {v w : ℕ} {before t : List ℕ} → Turning span o turns turn slot → turn < turns → 2 * slot + 1 < length t
-    → SetOf (λ (node : ℕ). AtWork t sender slot node ⊎ (node ≡ h.from)) v
-    → SetOf (λ (node : ℕ). AtWork t receiver slot node ⊎ (node ≡ h.to)) w
-    → MarksFirst span o h before turn t → MarksFirst span o h before (turn + 1) (set (set t (2 * slot) v) (2 * slot + 1) w)
-marks_more {slot = slot} h {v} {w} {t = t} g l inside first second a =
-    adds_alike (λ end x node p. ⊎_elim (λ q. (more g l x (inl q.0), q.1)) (λ q. (more g l x (inr q.0), q.1)) p)
-    (λ end x node p. ⊎_elim (λ q. inl (q, p.1)) (λ e. inr (e, p.1)) (split g l x p.0)) (adds_both a (one_law t slot h v w inside (turning_inside g l) first second))
-
-pub marks_done : (span o : ℕ) (h : Hop) {turn turns : ℕ} {before t : List ℕ} → turn ≡ turns → MarksFirst span o h before turn t → MarksFirst span o h before turns t
-marks_done span o h {before = before} {t} e a = subst (λ (n : ℕ). MarksFirst span o h before n t) e a
+  pub turn_split : {t : ℕ} → TakesFirst span o (turn + 1) t → TakesFirst span o turn t ⊎ (t ≡ o + turn * span)
+  turn_split h =
+      ⊎_elim (λ (e : h.turn ≡ turn). inr (h.at ∙ ap (λ (x : ℕ). o + x * span) e))
+      (λ (k : h.turn < turn). inl (record { turn = h.turn; within = k; at = h.at })) (eq-or-lt_of_le (omega (arith, h.within)))

@@ -2,12 +2,20 @@
 use Rattle.std.specs.Prelude.{◌≡◌, ◌⊎◌, List, ℕ, ◌<◌, ◌≤◌, length, get_or, drop}
 use Rattle.rules.specs.Words.{Has, NoBitFrom}
 use Rattle.rules.specs.Tiles.{short_tiles}
+use Rattle.rules.specs.Topology.{Hop}
 use Rattle.rules.specs.Book.{Row, row_hop, row_offset}
 use Rattle.bitset.specs.clash.Reach.{End, node_at, set_at}
 use Rattle.bitset.specs.declared.clash.Reach.{Reach}
 use Rattle.index.specs.Areas.{index_slots, slow_place, links_behind, word_at, AtWork}
 use Rattle.index.specs.Turns.{TakesFirst, MarkedAt, LooksAt, LooksIn}
 use Rattle.index.specs.declared.Repeats.{Repeats}
+
+-- in the slots with P each of the two words was changed by the node at its end of the hop, and all other words are as before
+pub record Changed (Change : ℕ → ℕ → ℕ → Type 0) (h : Hop) (P : ℕ → Type 0) (before after : List ℕ) : Type 0 where
+  pub size : length after ≡ length before
+  pub made : (end : End) (slot : ℕ) → P slot → Change (get_or before (word_at end slot) 0) (node_at end h) (get_or after (word_at end slot) 0)
+  pub kept : (end : End) (slot : ℕ) → (P slot → ⊥) → get_or after (word_at end slot) 0 ≡ get_or before (word_at end slot) 0
+  pub behind : drop slow_place after ≡ drop slow_place before
 
 -- the sets have the nodes that they had before, and those with P
 pub record Adds (P : End → ℕ → ℕ → Type 0) (before after : List ℕ) : Type 0 where

@@ -56,7 +56,7 @@ pub fn words_for(slots: Slot) -> usize
     requires { slots.0 ≤ 32 }
     ensures { result ≡ 2 * (short_tiles * slots.0) }
 {
-    2 * (rules::SHORT as usize * slots.0 as usize)
+    2 * (usize::from(rules::SHORT) * usize::from(slots.0))
 }
 
 // How a period repeats: one over 100 has no turn, and is neither marked nor found, and one over ten has none in ten tiles.
@@ -94,11 +94,7 @@ pub fn put_words(words: &[u64], out: &mut [u64], at: usize)
     requires { at + length words.now ≤ length out.old }
     ensures { out.new ≡ paste out.old at words.now (length words.now) }
 {
-    let mut i: usize = 0;
-    while i < words.len() {
-        out[at + i] = words[i];
-        i += 1;
-    }
+    out[at..at + words.len()].copy_from_slice(words);
 }
 
 // Puts the links and the hearing of a site behind an index.
@@ -110,22 +106,12 @@ pub fn put_site(links: &[u64], hearing: &[u64], index: &mut [u64; WORDS])
     put_words(links, index, LINKS);
 }
 
-// So many words of an index from a place on.
-fn part(index: &[u64; WORDS], place: usize, count: usize) -> &[u64]
-    requires { place + count ≤ index_length }
-    ensures { result.now ≡ take count (drop place index.now) }
-{
-    let all = &index[..];
-    let end = place + count;
-    &all[place..end]
-}
-
 // The links of the site, which has so many nodes.
 pub fn links(index: &[u64; WORDS], nodes: usize) -> &[u64]
     requires { nodes ≤ 64 }
     ensures { result.now ≡ take nodes (drop links_behind index.now) }
 {
-    part(index, LINKS, nodes)
+    &index[LINKS..LINKS + nodes]
 }
 
 // Its hearing.
@@ -133,7 +119,7 @@ pub fn hearing(index: &[u64; WORDS], nodes: usize) -> &[u64]
     requires { nodes ≤ 64 }
     ensures { result.now ≡ take nodes (drop hearing_behind index.now) }
 {
-    part(index, HEARING, nodes)
+    &index[HEARING..HEARING + nodes]
 }
 
 // Marks a hop with these repeats and this offset.
@@ -141,7 +127,7 @@ pub fn put(index: &mut [u64; WORDS], repeats: Repeats, offset: Slot, from: Node,
     requires { (length index.old ≡ index_length) × InIndex repeats offset.0 × (from.0 < 64) × (to.0 < 64) }
     ensures { Adds (λ (end : End) (slot node : ℕ). TakesIn repeats offset.0 slot × (node ≡ node_at end (hop from to))) index.old index.new }
 {
-    let o = offset.0 as usize;
+    let o = usize::from(offset.0);
     if 0 < repeats.few {
         slots::put(index, repeats.span, repeats.few, QUICK + o, from, to);
         return;
@@ -169,10 +155,12 @@ pub fn next_quiet(index: &[u64; WORDS], repeats: Repeats, lo: Slot, reach: Reach
     requires { SpanInIndex repeats }
     ensures { FirstQuiet (InReach reach) index.now repeats lo.0 result.0 }
 {
-    if 0 < repeats.few {
-        return quiet::next_quick(index, repeats, lo, reach);
+    for o in lo.0..repeats.span.0 {
+        if !finds(index, repeats, Slot(o), reach) {
+            return Slot(o);
+        }
     }
-    quiet::next_short(index, repeats, lo, reach)
+    Slot(lo.0.max(repeats.span.0))
 }
 
 // Takes the ends of a marked hop out of every slot where it is marked.
@@ -181,7 +169,7 @@ pub fn unmark(index: &mut [u64; WORDS], repeats: Repeats, offset: Slot, from: No
     ensures { Removes repeats.fold.0 (λ (end : End) (slot node : ℕ). TakesIn repeats offset.0 slot × (node ≡ node_at end (hop from to)))
         index.old index.new }
 {
-    let o = offset.0 as usize;
+    let o = usize::from(offset.0);
     if 0 < repeats.few {
         slots::clear(index, repeats.span, repeats.few, QUICK + o, from, to);
         return;

@@ -13,9 +13,9 @@ pub fn place(offset: Slot, fold: Slot) -> usize
     ensures { (result ≡ offset.0 % fold.0) × (result < fold.0) × (result < quick_tiles * 32) }
 {
     if offset.0 < fold.0 {
-        return offset.0 as usize;
+        return usize::from(offset.0);
     }
-    (offset.0 % fold.0) as usize
+    usize::from(offset.0 % fold.0)
 }
 
 // Works out a slot of the fold from the slots of the tens that are laid over it.
@@ -23,17 +23,13 @@ pub fn refold(index: &mut [u64; WORDS], fold: Slot, slot: usize)
     requires { (length index.old ≡ index_length) × (slot < fold.0) × (fold.0 ≤ quick_tiles * 32) }
     ensures { Refolds fold.0 slot index.old index.new }
 {
-    let mut senders: u64 = 0;
-    let mut receivers: u64 = 0;
-    let step = fold.0 as usize;
-    let mut other = slot;
-    let mut ten = 0;
-    while ten < QUICK_TILES {
-        let at = 2 * other;
+    let mut senders = 0;
+    let mut receivers = 0;
+    let step = usize::from(fold.0);
+    for ten in 0..usize::from(QUICK_TILES) {
+        let at = 2 * (slot + ten * step);
         senders = bitset::union(senders, index[at]);
         receivers = bitset::union(receivers, index[at + 1]);
-        other += step;
-        ten += 1;
     }
     let to = 2 * (FOLD + slot);
     index[to] = senders;
@@ -45,10 +41,8 @@ fn lend_ten(index: &[u64], ten: usize, words: usize, out: &mut [u64])
     requires { (length index.now ≡ index_length) × (words ≤ 2 * (quick_tiles * 32)) × (ten + words ≤ 2 * quick_place) × (ten + words ≤ length out.old) }
     ensures { TenLent ten words index.now out.old out.new }
 {
-    let mut i: usize = 0;
-    while i < words {
+    for i in 0..words {
         out[ten + i] = bitset::union(index[ten + i], index[2 * QUICK + i]);
-        i += 1;
     }
 }
 
@@ -57,12 +51,9 @@ pub fn lend(index: &[u64], slots: Slot, out: &mut [u64])
     requires { (length index.now ≡ index_length) × (slots.0 ≤ 32) × (2 * (short_tiles * slots.0) ≤ length out.old) }
     ensures { Lent slots.0 index.now out.old out.new }
 {
-    let words = 2 * (QUICK_TILES as usize * slots.0 as usize);
-    let mut at: usize = 0;
-    let mut ten = 0;
-    while ten < QUICK_TILES {
-        lend_ten(index, at, words, out);
-        at += words;
-        ten += 1;
+    let tens = usize::from(QUICK_TILES);
+    let words = 2 * (tens * usize::from(slots.0));
+    for ten in 0..tens {
+        lend_ten(index, ten * words, words, out);
     }
 }

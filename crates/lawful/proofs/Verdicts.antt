@@ -50,18 +50,12 @@ module _ (s : List ℕ) where
       out_of_range n = refusal (inr (not_short, inr (λ f. f marked, inl (n, refl)))) (λ e. omega arith)
 
       module _ (w : FieldsInRange s) where
-        pub list_cut : {words : List ℕ} → length s < links_place s → Verdict s 14 words
-        list_cut l = refusal (inr (not_short, inr (λ f. f marked, inr (λ f. f w, inl (l, refl))))) (λ e. omega arith)
-
         module _ (inside : links_place s ≤ length s) where
           not_cut : length s < links_place s → ⊥
           not_cut l = omega (arith, l, inside)
 
           pub list_out : {words : List ℕ} → (AccountsInRange (accounts_of s) → ⊥) → Verdict s 10 words
           list_out n = refusal (inr (not_short, inr (λ f. f marked, inr (λ f. f w, inr (not_cut, inl (n, refl)))))) (λ e. omega arith)
-
-          pub wrong_length : {words : List ℕ} → AccountsInRange (accounts_of s) → (length s ≡ stated_length s → ⊥) → Verdict s 14 words
-          wrong_length g n = refusal (inr (not_short, inr (λ f. f marked, inr (λ f. f w, inr (not_cut, inr (λ f. f g, inl (n, refl))))))) (λ e. omega arith)
 
 module _ (s : List ℕ) (marked : Marked s) (w : Framed s) (list : AccountsInRange (accounts_of s)) where
   long : header_length ≤ length s

@@ -1,11 +1,11 @@
--- A request judged by itself, refusal by refusal.
-use mathlib.Core.Path.{◌≡◌, refl, sym, ◌∙◌, subst}
-use mathlib.Core.Logic.{◌⊎◌, inl, inr, ⊎_elim}
+-- What a request that was judged by itself does on a book.
+use mathlib.Core.Path.{◌≡◌, sym, ◌∙◌, subst}
+use mathlib.Core.Logic.{inl, inr}
 use mathlib.Core.List.{List}
+use Rattle.std.specs.Prelude.{Ok, Err}
 use Prim.Native.Nat.{ℕ, ◌<◌, ◌≤◌}
 use native.Mathlib.Omega.{arith}
 use native.Mathlib.Decide.{dec_lt}
-use Rattle.rules.specs.Tiles.{Period}
 use Rattle.rules.specs.Topology.{nodes}
 use Rattle.rules.specs.Placing.{Asked}
 use Rattle.rules.specs.Image.{links_place, nodes_of, links_of, site_of}
@@ -21,32 +21,9 @@ use Rattle.index.specs.Beside.{ImageBeside, Works}
 use Rattle.opening.specs.Open.{JudgedBy, Outcome, OpensAsked}
 use Rattle.opening.specs.Beside.{AskedBeside}
 use Rattle.opening.proofs.Outcomes.{out_first, out_then}
-use Rattle.opening.specs.declared.Judged.TheVariants.{Refused, InOrder}
-
-module _ (q : Asked) (N : ℕ) where
-  pub no_id : q.id ≡ 0 → JudgedBy q N (Refused 1)
-  no_id e = (inl (e, refl), λ z. omega arith)
-
-  module _ (id : q.id ≡ 0 → ⊥) where
-    pub no_source : N ≤ q.source → JudgedBy q N (Refused 4)
-    no_source l = (inr (id, inl (inl l, refl)), λ z. omega arith)
-
-    pub no_destination : N ≤ q.destination → JudgedBy q N (Refused 4)
-    no_destination l = (inr (id, inl (inr l, refl)), λ z. omega arith)
-
-    module _ (source : q.source < N) (destination : q.destination < N) where
-      known : (N ≤ q.source) ⊎ (N ≤ q.destination) → ⊥
-      known h = ⊎_elim (λ (l : N ≤ q.source). omega arith) (λ (l : N ≤ q.destination). omega arith) h
-
-      pub one_node : q.source ≡ q.destination → JudgedBy q N (Refused 5)
-      one_node e = (inr (id, inr (known, inl (e, refl))), λ z. omega arith)
-
-      module _ (apart : q.source ≡ q.destination → ⊥) where
-        pub no_period : (Period q.period → ⊥) → JudgedBy q N (Refused 6)
-        no_period f = (inr (id, inr (known, inr (apart, inl (f, refl)))), λ z. omega arith)
-
-        pub in_order : Period q.period → JudgedBy q N InOrder
-        in_order p = ((id, (known, (apart, ((λ f. f p), tt)))), p)
+use Rattle.rules.specs.Said.{number_of}
+use Rattle.rules.specs.declared.refusals.Refusal.{Refusal}
+use Rattle.rules.proofs.Said.{refuses}
 
 -- ON A BOOK: what was judged by the nodes that the header gives
 known_nodes : {s : List ℕ} {book : head.Book} → HeaderOf s book → book.nodes ≡ nodes (links_of s)
@@ -69,13 +46,12 @@ below {s} h a f = go (dec_lt a (nodes_of s))
     go (no l) = absurd (f (omega (arith, h.nodes)))
 
 module _ {s : List ℕ} {book : head.Book} {q : Asked} (h : HeaderOf s book) where
-  pub judged_refused : {n mains at number len : ℕ} {out words : List ℕ} → JudgedBy q book.nodes (Refused n) → number ≡ n → Beside (site_of s) (rows_in s) words
-      → Works mains s (Open q) at number len out words
-  judged_refused {number = number} j e i =
-      let k = subst (λ (N : ℕ). JudgedBy q N (Refused number)) (known_nodes h) (subst (λ (m : ℕ). JudgedBy q book.nodes (Refused m)) (sym e) j) in
-      works (out_first (asked_refusals q (nodes (links_of s))) _ k.0 k.1 i)
+  pub judged_refused : (r : Refusal) {mains at len : ℕ} {out words : List ℕ} → JudgedBy q book.nodes (Err r) → Beside (site_of s) (rows_in s) words
+      → Works mains s (Open q) at (number_of r) len out words
+  judged_refused r j i =
+      works (out_first (asked_refusals q (nodes (links_of s))) _ (subst (λ (N : ℕ). JudgedBy q N (Err r)) (known_nodes h) j) (refuses r) i)
 
-  module _ (j : JudgedBy q book.nodes InOrder) where
+  module _ (j : JudgedBy q book.nodes (Ok tt)) where
     pub judged_opens : {mains at number len : ℕ} {out words : List ℕ} → OpensAsked s mains q at number len out words → Works mains s (Open q) at number len out words
     judged_opens r = works (out_then (asked_refusals q (nodes (links_of s))) _ (subst (λ (N : ℕ). None (asked_refusals q N)) (known_nodes h) j.0) r)
 

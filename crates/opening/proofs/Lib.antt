@@ -4,7 +4,7 @@ pub mod Routed
 pub mod Planned
 pub mod Around
 pub mod Placed
-pub mod Both
+pub mod Kept
 pub mod Seconds
 pub mod Keeping
 pub mod Costs

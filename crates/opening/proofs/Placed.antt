@@ -2,6 +2,9 @@
 use mathlib.Core.Path.{◌≡◌, refl, sym, ap, ◌∙◌, subst, subst₂}
 use mathlib.Core.Logic.{◌⊎◌, inl, inr}
 use mathlib.Core.List.{List, [], ◌∷◌}
+use Rattle.std.specs.Prelude.{Option, Some, None}
+use Rattle.std.specs.Option.{ok_or}
+use Rattle.rules.specs.declared.refusals.Refusal.TheVariants.{NoSlots}
 use Prim.Native.Nat.{ℕ, ◌-◌, ◌<◌, ◌≤◌}
 use native.Mathlib.Omega.{arith}
 use lib.ListN.{length, get_or, take, drop}
@@ -24,22 +27,17 @@ use Rattle.placing.specs.plain.Plain.{nth_row, RowsThere, Weighs}
 use Rattle.placing.specs.Covers.{RowOn, Covers}
 use Rattle.placing.specs.Answers as placing
 use Rattle.placing.specs.Answers.{around, Standing, AnswersBy}
-use Rattle.placing.specs.declared.Placing.{Placing}
-use Rattle.placing.specs.declared.Found.TheVariants.{Placed, NoPlacing}
 use Rattle.placing.proofs.Beside.{first_beside, none_beside}
 use Rattle.changing.specs.adding.Puts.{row_on}
-use Rattle.opening.specs.Beside.{RouteAsked, RouteBeside, PlacedOn, PlacedBeside}
+use Rattle.opening.specs.Beside.{RouteAsked, PlacedIn}
+use Rattle.opening.specs.Keeping.{RouteHeld}
 use Rattle.opening.proofs.Around.{image_beside}
 use Rattle.opening.proofs.Planned.{hearing_behind_lem}
 
--- the first placing of the route in each book with the rows of the image, and beside them one on the first route, or that there is none
-abbrev PlacedBy : List ℕ → Asked → List ℕ → List ℕ → List ℕ → Placing → Type 0
-PlacedBy s q route first taken r = (c : books.Book) → Covers s (rows_in s) q.period first taken c
-    → (r.found ≡ Placed → FirstPlacing c q.period route (take (hop_count route) (slot_numbers r.offsets))) × (r.found ≡ NoPlacing → placings.NoPlacing c q.period route)
-
--- what is asked of a route is known where its row would stand
-pub asked_route : {s words : List ℕ} {book : Book} {q : Asked} {at : ℕ} {route : List ℕ} → RouteBeside s words book q at route → RouteAsked s words book q route
-asked_route w = record { asked = w.new.asked; path = w.path; few = w.few }
+-- the first placing of the route in a book, or that there is none
+abbrev PlacedBy : books.Book → Asked → List ℕ → Option (List Slot) → Type 0
+PlacedBy c q route (Some offsets) = FirstPlacing c q.period route (take (hop_count route) (slot_numbers offsets))
+PlacedBy c q route None = placings.NoPlacing c q.period route
 
 module _ {s words : List ℕ} {book : Book} {q : Asked} {route : List ℕ} (w : RouteAsked s words book q route) {hearing : List ℕ}
     (t : hearing ≡ take book.nodes (drop hearing_behind words)) where
@@ -77,29 +75,30 @@ module _ {s words : List ℕ} {book : Book} {q : Asked} {route : List ℕ} (w : 
       stands_around fits small =
           record { there = record { each = λ i l. rows_stand.each i (omega (arith, l, v.most)); few = omega (arith, v.most, rows_stand.few) }; fits = fits; small = small }
 
-      pub placed_by : (r : Placing) → AnswersBy (the_plan book.plan) (topology hearing) (around words s start rows moduli first taken) q.period route r.found (slot_numbers r.offsets)
-          → PlacedBy s q route first taken r
-      placed_by r a c h =
-          let b = image_beside w.asked.image in
-          let weighs = subst₂ (λ (k m : ℕ). Weighs s k m q.period moduli rows) e f (subst (λ (K : ℕ). Weighs s start n K moduli rows) g v) in (
-            first_beside b w.asked.period weighs h route r.found (slot_numbers r.offsets) answers,
-            none_beside b w.asked.period weighs h route r.found (slot_numbers r.offsets) answers,
-          )
+      -- in each book with the rows of the image, and beside them one on the first route
+      pub placed_by : (r : Option (List Slot)) → AnswersBy (the_plan book.plan) (topology hearing) (around words s start rows moduli first taken) q.period route r
+          → (c : books.Book) → Covers s (rows_in s) q.period first taken c → PlacedBy c q route r
+      placed_by r a c h = placed r answers
         where
-          answers : AnswersBy (plan_of s) (hearing_of s) (around words s (rows_place s) rows moduli first taken) q.period route r.found (slot_numbers r.offsets)
+          answers : AnswersBy (plan_of s) (hearing_of s) (around words s (rows_place s) rows moduli first taken) q.period route r
           answers =
-              subst (λ (k : ℕ). AnswersBy (plan_of s) (hearing_of s) (around words s k rows moduli first taken) q.period route r.found (slot_numbers r.offsets)) e
-              (subst₂ (λ (plan : Plan) (T : Topology). AnswersBy plan T (around words s start rows moduli first taken) q.period route r.found (slot_numbers r.offsets))
+              subst (λ (k : ℕ). AnswersBy (plan_of s) (hearing_of s) (around words s k rows moduli first taken) q.period route r) e
+              (subst₂ (λ (plan : Plan) (T : Topology). AnswersBy plan T (around words s start rows moduli first taken) q.period route r)
               w.asked.header.plan same_topology a)
 
+          weighs : Weighs s (rows_place s) (streams_of s) q.period moduli rows
+          weighs = subst₂ (λ (k m : ℕ). Weighs s k m q.period moduli rows) e f (subst (λ (K : ℕ). Weighs s start n K moduli rows) g v)
+
+          placed : (r : Option (List Slot)) → AnswersBy (plan_of s) (hearing_of s) (around words s (rows_place s) rows moduli first taken) q.period route r → PlacedBy c q route r
+          placed (Some offsets) x = first_beside (image_beside w.asked.image) w.asked.period weighs h route offsets x
+          placed None x = none_beside (image_beside w.asked.image) w.asked.period weighs h route x
+
 -- as the code's records hold it, where the hops are those of the route
-pub placed_on : {s : List ℕ} {q : Asked} {first taken : List ℕ} (route : Route) (r : Placing) → hop_count (the_route route) ≡ route.hops → PlacedBy s q (the_route route) first taken r
-    → PlacedOn s q route first taken r
+pub placed_in : (c : books.Book) (q : Asked) (route : Route) (r : Option (List Slot)) → hop_count (the_route route) ≡ route.hops → PlacedBy c q (the_route route) r
+    → PlacedIn c q route (ok_or r NoSlots)
 unfolding the_offsets
-placed_on {q = q} route r k h c g = record {
-  placed = λ e. subst (λ (n : ℕ). FirstPlacing c q.period (the_route route) (take n (slot_numbers r.offsets))) k ((h c g).0 e);
-  none = (h c g).1;
-}
+placed_in c q route (Some offsets) k h = subst (λ (n : ℕ). FirstPlacing c q.period (the_route route) (take n (slot_numbers offsets))) k h
+placed_in c q route None k h = (refl, h)
 
 -- a route of no hops with node 0 alone: nothing is beside it, and the book itself has no other row
 module _ (nodes : List Node) (offsets : List Slot) where
@@ -131,26 +130,30 @@ module _ (nodes : List Node) (offsets : List Slot) where
       (record { site = refl; known = λ x m. m; each = λ x m. inl m; other = λ l. absurd (omega arith); count = refl; within = λ o m. absurd m })
 
 -- and with the first's row it has that one
-pub covers_first : {s words : List ℕ} {book : Book} {q : Asked} {at : ℕ} {first offsets second : List ℕ} → PlacedBeside s words book q at first offsets second
+pub covers_first : {s : List ℕ} (q : Asked) {first offsets : List ℕ} → FirstPlacing (book_in s) q.period first offsets
     → Covers s (rows_in s) q.period first offsets (beside (row_on q 1 first offsets) (book_in s))
-covers_first {s} {q = q} {first = first} {offsets} w = record {
+covers_first {s} q {first} {offsets} w = record {
   site = refl;
   known = λ x m. inr m;
   each = each;
   other = λ l. (row_on q 1 first offsets, inl refl, record { period_is = refl; route_is = refl; offsets_are = refl });
-  count = w.placed.placing.offsets_hold.count;
-  within = w.placed.placing.offsets_hold.within;
+  count = w.placing.offsets_hold.count;
+  within = w.placing.offsets_hold.within;
 }
   where
     each : (x : Row) → x ∈ (row_on q 1 first offsets ∷ rows_in s) → (x ∈ rows_in s) ⊎ RowOn q.period first offsets x
     each x (inl e) = inr (record { period_is = ap (λ (r : Row). r.period) e; route_is = ap (λ (r : Row). r.route) e; offsets_are = ap (λ (r : Row). r.offsets) e })
     each x (inr m) = inl m
 
--- the second is asked for beside the first
-pub beside_asked : {s words : List ℕ} {book : Book} {q : Asked} {at : ℕ} {first offsets second : List ℕ} → PlacedBeside s words book q at first offsets second
-    → RouteAsked s words book q second × (length offsets ≤ length first - 1) × ((a : ℕ) → a ∈ first → a < 64)
-beside_asked w = (
-  asked_route w.routes.second_route,
-  omega (arith, w.placed.placing.offsets_hold.count),
-  λ a m. omega (arith, w.routes.first_route.path.known a m, w.routes.first_route.new.asked.image.newest.lawful.lawful.site.nodes.1),
+-- the second is placed beside it
+pub first_bounds : {s words : List ℕ} {book : Book} {q : Asked} {first offsets : List ℕ} → RouteAsked s words book q first
+    → FirstPlacing (book_in s) q.period first offsets → (length offsets ≤ length first - 1) × ((a : ℕ) → a ∈ first → a < 64)
+first_bounds w p = (
+  omega (arith, p.placing.offsets_hold.count),
+  λ a m. omega (arith, w.path.known a m, w.asked.image.newest.lawful.lawful.site.nodes.1),
 )
+
+-- what is asked of a route that is placed
+pub route_held : {s words : List ℕ} {book : Book} {q : Asked} (p : held.Placed) → RouteAsked s words book q (the_route p.route)
+    → hop_count (the_route p.route) ≡ p.route.hops → RouteHeld s p
+route_held p w e = record { path = w.path; few = w.few; hops_are = e }

@@ -1,13 +1,15 @@
 -- The links and the hearing behind the index are the book's, and the planner's answer over the links is that of the book.
-use mathlib.Core.Path.{◌≡◌, sym, ap, ◌∙◌, subst, subst₂}
+use mathlib.Core.Path.{◌≡◌, sym, ap, ◌∙◌, subst}
 use mathlib.Core.List.{List}
 use Prim.Native.Nat.{ℕ, ◌≤◌}
 use native.Mathlib.Omega.{arith}
 use lib.ListN.{take, drop}
+use Rattle.std.specs.Prelude.{Option, Result, Ok}
 use Rattle.rules.specs.Topology.{Topology, nodes, hop_count, Route}
-use Rattle.rules.specs.Topology as topologies
 use Rattle.rules.specs.Image.{links_place, nodes_of, links_of, hearing_of}
 use Rattle.rules.specs.Records.{the_route}
+use Rattle.rules.specs.declared.Route as held
+use Rattle.rules.specs.declared.refusals.Refusal.{Refusal}
 use Rattle.rules.specs.Placing as placing
 use Rattle.rules.proofs.Written.{length_sets_at}
 use Rattle.rules.proofs.Reading.{LawfulImage}
@@ -16,12 +18,8 @@ use Rattle.image.specs.declared.Book as head
 use Rattle.image.proofs.Topologies.{hearing_nodes}
 use Rattle.index.specs.Index.{links_behind, hearing_behind}
 use Rattle.bitset.specs.Rows.{topology}
-use Rattle.routes.specs.Planner.{Asked, Says, PlannerSays}
+use Rattle.routes.specs.Planner.{Asked, PlannerSays}
 use Rattle.routes.specs.Second.{SecondSays}
-use Rattle.routes.specs.declared.Planned.{Planned}
-use Rattle.routes.specs.declared.second.Sought.{Sought}
-use Rattle.routes.specs.declared.Reach.{Reach}
-use Rattle.routes.specs.declared.Reach.TheVariants.{Found, TooFar, NoRoute}
 use Rattle.opening.specs.Beside.{AskedBeside}
 
 module _ {s : List ℕ} (h : LawfulImage s) where
@@ -61,28 +59,23 @@ module _ {s words : List ℕ} {book : head.Book} {q : placing.Asked} (w : AskedB
     pub asked : Asked (topology links) q.source q.destination
     asked = subst (λ (T : Topology). Asked T q.source q.destination) (sym same_topology) asked_book
 
-    says : (mains : ℕ) (r : Planned) (reach : Reach) → PlannerSays (topology links) mains q.source q.destination r → r.reach ≡ reach
-        → Says (links_of s) mains q.source q.destination reach r.route
-    says mains r reach p e = subst₂ (λ (T : Topology) (reach : Reach). Says T mains q.source q.destination reach r.route) same_topology e p
+    module _ (mains : ℕ) where
+      -- what is said over those links is said over the book's
+      pub planner_says : (r : Result held.Route Refusal) → PlannerSays (topology links) mains q.source q.destination r → PlannerSays (links_of s) mains q.source q.destination r
+      planner_says r = subst (λ (T : Topology). PlannerSays T mains q.source q.destination r) same_topology
 
-    pub planned_hops : (mains : ℕ) (r : Planned) → PlannerSays (topology links) mains q.source q.destination r → r.reach ≡ Found → hop_count (the_route r.route) ≡ r.route.hops
-    planned_hops mains r p e =
-        let w = says mains r Found p e in
-        omega (arith, route_length r.route w.most w.size)
+      module _ (r : held.Route) (p : PlannerSays (topology links) mains q.source q.destination (Ok r)) where
+        pub planned_hops : hop_count (the_route r) ≡ r.hops
+        planned_hops =
+            let w = planner_says (Ok r) p in
+            omega (arith, route_length r w.most w.size)
 
-    module _ {mains : ℕ} (r : Planned) (p : PlannerSays (topology links) mains q.source q.destination r) where
-      pub planned_route : r.reach ≡ Found → Route (links_of s) mains q.source q.destination (the_route r.route)
-      planned_route e = (says mains r Found p e).route
+        pub planned_route : Route (links_of s) mains q.source q.destination (the_route r)
+        planned_route = (planner_says (Ok r) p).route
 
-      pub planned_none : r.reach ≡ NoRoute → topologies.NoRoute (links_of s) mains q.source q.destination
-      planned_none e = (says mains r NoRoute p e).0
+      module _ (first : List ℕ) where
+        pub route_on : Route (links_of s) mains q.source q.destination first → Route (topology links) mains q.source q.destination first
+        route_on = subst (λ (T : Topology). Route T mains q.source q.destination first) (sym same_topology)
 
-      pub planned_far : r.reach ≡ TooFar → topologies.TooFar (links_of s) mains q.source q.destination
-      planned_far e = (says mains r TooFar p e).0
-
-    module _ {mains : ℕ} {first : List ℕ} where
-      pub route_on : Route (links_of s) mains q.source q.destination first → Route (topology links) mains q.source q.destination first
-      route_on = subst (λ (T : Topology). Route T mains q.source q.destination first) (sym same_topology)
-
-      pub second_says : {r : Sought} → SecondSays (topology links) mains q.source q.destination first r → SecondSays (links_of s) mains q.source q.destination first r
-      second_says {r} = subst (λ (T : Topology). SecondSays T mains q.source q.destination first r) same_topology
+        pub second_says : (r : Option held.Route) → SecondSays (topology links) mains q.source q.destination first r → SecondSays (links_of s) mains q.source q.destination first r
+        second_says r = subst (λ (T : Topology). SecondSays T mains q.source q.destination first r) same_topology

@@ -1,5 +1,6 @@
 -- Where the routes are known: the refusals that are left are those of the open, and its rows are one list.
-use mathlib.Core.Path.{◌≡◌, refl, sym, ◌∙◌, subst}
+use Rattle.std.specs.Prelude.{Err}
+use mathlib.Core.Path.{◌≡◌, refl, sym, ap, ◌∙◌, subst}
 use mathlib.Core.Logic.{◌⊎◌, inl, inr, ⊎_elim, ◌↔◌}
 use mathlib.Core.Bool.{Bool, true}
 use mathlib.Core.List.{List, [], ◌∷◌}
@@ -13,20 +14,25 @@ use Rattle.rules.specs.Topology.{Topology, Route, NoRoute, TooFar, SecondPath, h
 use Rattle.rules.specs.Book.{Row, Book, most_streams, most_hops, hops_in_all}
 use Rattle.rules.specs.Placing.{Asked, Planned, NoSecond, FirstPlacing, NoPlacings, Full, NewRow, beside, NewRows, NotPaid}
 use Rattle.rules.specs.Placing.Planned.{one, two}
-use Rattle.rules.specs.Image.{streams_of, hops_of, site_of}
+use Rattle.rules.specs.Said.{number_of}
+use Rattle.rules.proofs.Said.{refuses}
+use Rattle.rules.specs.declared.Placed.{Placed}
+use Rattle.rules.specs.declared.refusals.Refusal.{Refusal}
+use Rattle.rules.specs.Image.{streams_of, hops_of, links_of, site_of}
 use Rattle.rules.specs.Calls.{OfRoutes, Opened}
 use Rattle.rules.proofs.Choice.{best_unique, planned_unique, new_unique}
-use Rattle.rules.proofs.Cases.{route_near, route_some}
+use Rattle.rules.proofs.Cases.{route_near, route_some, far_some}
 use Rattle.rules.proofs.Tests.{never, alike}
 use Rattle.rules.proofs.Reading.{rows_in, book_in, LawfulImage}
 use Rattle.image.specs.Header.{HeaderOf}
 use Rattle.image.specs.declared.Book as head
 use Rattle.image.proofs.Stands.{stored_rows}
 use Rattle.index.specs.Index.{Beside}
-use Rattle.changing.specs.adding.Puts.{row_on}
-use Rattle.opening.specs.Keeping.{Keeps}
+use Rattle.routes.specs.Planner.{PlannerSays}
+use Rattle.changing.specs.adding.Puts.{row_on, rows_on}
+use Rattle.opening.specs.Keeping.{Keeps, PlacedAll, RoutesPlaced, routes_of}
 use Rattle.opening.specs.Open.{OpenedOn, routed_refusals, Routed, OpensNew}
-use Rattle.opening.proofs.Outcomes.{out_refused, out_next, out_more, out_alike}
+use Rattle.opening.proofs.Outcomes.{out_refused, out_next, out_first, out_more, out_alike}
 
 -- rows that are placed leave no route without a placing
 some_placed : (b : Book) (q : Asked) (way : ℕ) (ps : List (List ℕ)) (rs : List Row) → NewRows b q way ps rs → NoPlacings b q way ps → ⊥
@@ -41,6 +47,18 @@ pub routed_in : (s : List ℕ) {out words : List ℕ} {at number len : ℕ} (q :
     → NewRows (book_in s) q 1 routes new → (Full (book_in s) routes → ⊥) → Keeps s q routes new at number len out words → Routed s q routes at number len out words
 routed_in s q routes new h full w =
     out_next full (out_next (some_placed (book_in s) q 1 routes new h) (out_more (λ c p. record { new = new; placed = h; plus = p }) w))
+
+-- placed routes that were kept, or are refused
+pub routed_all : {s out words : List ℕ} {at number len : ℕ} {q : Asked} {routes : List (List ℕ)} {ps : List Placed} → RoutesPlaced s q routes ps
+    → Keeps s q (routes_of ps) (rows_on q 1 ps) at number len out words → Routed s q routes at number len out words
+routed_all {s} {out} {words} {at} {number} {len} {q} {routes} {ps} r k =
+    routed_in s q routes (rows_on q 1 ps) r.rows r.room
+    (subst (λ (routes : List (List ℕ)). Keeps s q routes (rows_on q 1 ps) at number len out words) (sym r.routes_are) k)
+
+pub refused_all : {s out words : List ℕ} {at len : ℕ} (q : Asked) (routes : List (List ℕ)) (r : Refusal) → PlacedAll s q routes (Err r)
+    → Beside (site_of s) (rows_in s) words → Routed s q routes at (number_of r) len out words
+refused_all {s} q routes r h i =
+    out_first ((8 when Full (book_in s) routes) ∷ (9 when NoPlacings (book_in s) q 1 routes) ∷ []) ((23 when NotPaid (book_in s) q routes) ∷ []) h (refuses r) i
 
 -- where there are routes, there is one
 some_route : {T : Topology} {middle : ℕ} {q : Asked} {routes : List (List ℕ)} → Planned T middle q routes → NoRoute T middle q.source q.destination → ⊥
@@ -78,13 +96,19 @@ routed_new s mains q routes planned w =
     )
     (opened_on b mains q routes planned) w)))
 
--- where a route is missing
-pub second_refused : (s : List ℕ) {out words : List ℕ} {at number len : ℕ} (mains : ℕ) (q : Asked) (first : List ℕ) → q.second ≡ true
+-- where there is no route, or none of at most 15 hops
+pub route_refused : (s : List ℕ) {out words : List ℕ} {at len : ℕ} (mains : ℕ) (q : Asked) (r : Refusal) → PlannerSays (links_of s) mains q.source q.destination (Err r)
+    → Beside (site_of s) (rows_in s) words → OpensNew s mains q at (number_of r) len out words
+route_refused s mains q r (inl h) i = out_refused h.1 (λ z. omega arith) (ap number_of h.0) i
+route_refused s mains q r (inr h) i = out_next (far_some h.1) (out_refused h.1 (λ z. omega arith) (ap number_of h.0) i)
+
+-- where a second route is missing
+pub second_refused : (s : List ℕ) {out words : List ℕ} {at len : ℕ} (mains : ℕ) (q : Asked) (first : List ℕ) → q.second ≡ true
     → Route (book_in s).site.links mains q.source q.destination first
     → ((p : List ℕ) → SecondPath (book_in s).site.links mains q.source q.destination first p → ⊥)
-    → number ≡ 18 → Beside (site_of s) (rows_in s) words → OpensNew s mains q at number len out words
-second_refused s mains q first y r none e i =
-    out_next (route_some r) (out_next (route_near r) (out_refused (record { asked = y; first = first; planned = r; none = none }) (λ z. omega arith) e i))
+    → Beside (site_of s) (rows_in s) words → OpensNew s mains q at 18 len out words
+second_refused s mains q first y r none i =
+    out_next (route_some r) (out_next (route_near r) (out_refused (record { asked = y; first = first; planned = r; none = none }) (λ z. omega arith) refl i))
 
 -- THE ROWS
 

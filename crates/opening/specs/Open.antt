@@ -1,6 +1,8 @@
 -- What an open says of a lawful image, part by part.
-use Rattle.std.specs.Prelude.{◌≡◌, List, [], ◌∷◌, ℕ}
+use Rattle.std.specs.Prelude.{◌≡◌, List, [], ◌∷◌, ℕ, Result, Ok, Err}
 use Rattle.rules.specs.Says.{Refusal, ◌when◌, Says}
+use Rattle.rules.specs.Said.{number_of}
+use Rattle.rules.specs.declared.refusals.Refusal as refusals
 use Rattle.rules.specs.Tiles.{Period}
 use Rattle.rules.specs.Topology.{NoRoute, TooFar}
 use Rattle.rules.specs.Book.{Row, Book, KnownAccount, Known, Plus}
@@ -11,8 +13,6 @@ use Rattle.rules.proofs.Says.{None}
 use Rattle.rules.proofs.Reading.{rows_in, book_in}
 use Rattle.image.specs.Places.{Laid}
 use Rattle.index.specs.Index.{Beside}
-use Rattle.opening.specs.declared.Judged.{Judged}
-use Rattle.opening.specs.declared.Judged.TheVariants.{Refused, InOrder}
 
 -- the image of a book with R is laid out from the place on, and the words are the index of its rows
 pub record Kept (R : Book → Type 0) (s : List ℕ) (at len : ℕ) (out words : List ℕ) : Type 0 where
@@ -22,9 +22,9 @@ pub record Kept (R : Book → Type 0) (s : List ℕ) (at len : ℕ) (out words :
   pub index : Beside (site_of s) after.rows words
 
 -- what is wrong with a request by itself; or nothing is
-abbrev pub JudgedBy : Asked → ℕ → Judged → Type 0
-JudgedBy q N (Refused n) = Says (asked_refusals q N) n × (n ≡ 0 → ⊥)
-JudgedBy q N InOrder = None (asked_refusals q N) × Period q.period
+abbrev pub JudgedBy : Asked → ℕ → Result Unit refusals.Refusal → Type 0
+JudgedBy q N (Err r) = Says (asked_refusals q N) (number_of r)
+JudgedBy q N (Ok u) = None (asked_refusals q N) × Period q.period
 
 -- the number that the refusals say; where it is done, the image of a book with R and the index of its rows, and otherwise the index as it was
 pub record Outcome (refusals : List Refusal) (R : Book → Type 0) (s : List ℕ) (at number len : ℕ) (out words : List ℕ) : Type 0 where

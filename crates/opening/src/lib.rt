@@ -3,6 +3,7 @@
 #![tactic(auto)]
 
 ghost use Rattle.rules.specs.Records.{the_asked};
+ghost use Rattle.rules.specs.Said.{said, written};
 ghost use Rattle.rules.specs.Calls.Request.{Open};
 ghost use Rattle.index.specs.Beside.{ImageBeside, Works};
 ghost use Rattle.changing.specs.finding.Spot.{SpotOf, place_in};
@@ -11,21 +12,14 @@ ghost use Rattle.opening.specs.Beside.{AskedBeside, NewBeside};
 
 use changing::finding::Spot;
 use image::Book;
-use routes::Reach;
-use rules::answers::Answer;
-use rules::{Asked, answers};
+use rules::Asked;
+use rules::refusals::Refusal;
 
 mod paying;
 mod ways;
 
-// What is wrong with a request by itself; or nothing is.
-#[derive(Clone, Copy)]
-pub enum Judged {
-    Refused(u8),
-    InOrder,
-}
-
-// Seeks the route of a request that is in order, with only members of the set in the middle, and opens the stream on it.
+// Opens the stream of a request that is in order on the planner's route, and on a second one where it is asked for, with only
+// members of the set in the middle.
 fn open_new(
     image: &[u8],
     index: &mut [u64; index::WORDS],
@@ -34,19 +28,21 @@ fn open_new(
     q: Asked,
     at: usize,
     out: &mut [u8; Book::LONGEST],
-) -> Answer
+) -> Result<usize, Refusal>
     requires { NewBeside image.now index.old book (the_asked q) at }
-    ensures { OpensNew image.now mains (the_asked q) at result.number result.length out.new index.new }
+    ensures { OpensNew image.now mains (the_asked q) at (said result) (written result) out.new index.new }
 {
     let links = index::links(index, book.nodes);
-    let planned = routes::plan(links, mains, q.source, q.destination);
-    let reach = planned.reach;
-    let route = planned.route;
-    match reach {
-        Reach::NoRoute => answers::refused(7),
-        Reach::TooFar => answers::refused(17),
-        Reach::Found => ways::open_routed(image, index, mains, book, q, at, route, out),
+    let route = routes::plan(links, mains, q.source, q.destination)?;
+    if !q.second {
+        let placed = ways::place_one(image, index, book, q, route)?;
+        return ways::keep(image, index, book, q, at, &placed, out);
     }
+    let second = routes::second::second(links, mains, q.source, q.destination, route).ok_or(
+        Refusal::NoSecondRoute,
+    )?;
+    let placed = ways::place_both(image, index, book, q, route, second)?;
+    ways::keep(image, index, book, q, at, &placed, out)
 }
 
 // Opens the stream of a request that is in order.
@@ -58,39 +54,36 @@ fn open_asked(
     q: Asked,
     spot: Spot,
     out: &mut [u8; Book::LONGEST],
-) -> Answer
+) -> Result<usize, Refusal>
     requires { AskedBeside image.now index.old book (the_asked q) × SpotOf image.now q.id spot }
-    ensures { OpensAsked image.now mains (the_asked q) (place_in spot) result.number result.length out.new index.new }
+    ensures { OpensAsked image.now mains (the_asked q) (place_in spot) (said result) (written result) out.new index.new }
 {
     if !accounts::is_known(image, book, q.account) {
-        return answers::refused(22);
+        return Err(Refusal::NoSuchAccount);
     }
     match spot {
-        Spot::Here(_) => answers::refused(2),
+        Spot::Here(_) => Err(Refusal::IdTaken),
         Spot::Between(at) => open_new(image, index, mains, book, q, at, out),
     }
 }
 
 // Judges a request by itself, on a site of so many nodes.
-fn judge(q: Asked, nodes: usize) -> Judged
+fn judge(q: Asked, nodes: usize) -> Result<(), Refusal>
     ensures { JudgedBy (the_asked q) nodes result }
 {
     if q.id == 0 {
-        return Judged::Refused(1);
+        return Err(Refusal::ZeroId);
     }
-    if nodes <= q.source.0 as usize {
-        return Judged::Refused(4);
+    if nodes <= usize::from(q.source.0) || nodes <= usize::from(q.destination.0) {
+        return Err(Refusal::NoSuchNode);
     }
-    if nodes <= q.destination.0 as usize {
-        return Judged::Refused(4);
-    }
-    if q.source.0 == q.destination.0 {
-        return Judged::Refused(5);
+    if q.source == q.destination {
+        return Err(Refusal::SameNode);
     }
     if !rules::is_period(q.period) {
-        return Judged::Refused(6);
+        return Err(Refusal::NoSuchPeriod);
     }
-    Judged::InOrder
+    Ok(())
 }
 
 // Opens the stream that is asked for, which has its spot in the image, with only members of the set in the middle of its routes.
@@ -101,13 +94,11 @@ pub fn open_on(
     q: Asked,
     spot: Spot,
     out: &mut [u8; Book::LONGEST],
-) -> Answer
+) -> Result<usize, Refusal>
     requires { ImageBeside image.now index.old × SpotOf image.now q.id spot }
-    ensures { Works mains image.now (Open (the_asked q)) (place_in spot) result.number result.length out.new index.new }
+    ensures { Works mains image.now (Open (the_asked q)) (place_in spot) (said result) (written result) out.new index.new }
 {
     let book = Book::read(image);
-    match judge(q, book.nodes) {
-        Judged::Refused(number) => answers::refused(number),
-        Judged::InOrder => open_asked(image, index, mains, book, q, spot, out),
-    }
+    judge(q, book.nodes)?;
+    open_asked(image, index, mains, book, q, spot, out)
 }

@@ -16,7 +16,7 @@ fn cost(hops: usize, period: Tile) -> u32
     requires { (hops ≤ 30) × Period period.0 }
     ensures { (result ≡ hops * repeats period.0) × (result ≤ 30000) }
 {
-    hops as u32 * rules::repeats_of(period) as u32
+    hops as u32 * u32::from(rules::repeats_of(period))
 }
 
 // Whether what is left of the account of the number pays for so many hops of a period.

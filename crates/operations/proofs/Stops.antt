@@ -2,48 +2,38 @@
 use mathlib.Core.Path.{◌≡◌, sym, ap, ◌∙◌, subst}
 use mathlib.Core.Logic.{◌⊎◌, inl, inr}
 use mathlib.Core.Bool.{Bool, cond}
+use Rattle.std.specs.Prelude.{Option, Some, None, MatchOption}
 use Prim.Native.Nat.{ℕ, suc, ◌+◌, ◌-◌, ◌<◌, ◌≤◌}
 use native.Mathlib.Decide.{dec_lt, ℕ_discrete}
 use native.Mathlib.Omega.{arith}
 use borrow.Author.Tests.{eq-eqb, ne_eqb}
 use lib.ListN.{get_or}
+use Rattle.rules.specs.Words.{Distinct}
 use Rattle.rules.specs.Topology.{Touches}
-use Rattle.rules.specs.Book.{Site, Row, hops, row_hop, LawfulRow}
+use Rattle.rules.specs.Book.{Row, hops, row_hop}
 use Rattle.rules.specs.Table.{Does}
 use Rattle.rules.specs.Table.Does.{sends, receives, forwards, delivers}
 use Rattle.rules.proofs.Lists.{pair_at}
-use Rattle.operations.specs.declared.Stop.{Stop}
-use Rattle.operations.specs.declared.Stop.TheVariants.{At, Nowhere}
-use Rattle.operations.specs.Operations.{StopsAt, NoStop, StopOf, arrival, departure}
-
-pub stop_at : {node place : ℕ} {r : Row} {stop : Stop} → StopOf node r stop → stop ≡ At place → StopsAt node r place
-stop_at {node} {r} h e = subst (StopOf node r) e h
-
-pub stop_none : {node : ℕ} {r : Row} {stop : Stop} → StopOf node r stop → stop ≡ Nowhere → NoStop node r
-stop_none {node} {r} h e = subst (StopOf node r) e h
-
--- THE SEARCH: the node stands at none of the first n places
-pub record Unmet (node : ℕ) (r : Row) (n : ℕ) : Type 0 where
-  pub so_far : (k : ℕ) → k < n → node ≡ get_or r.route k 0 → ⊥
-
-pub unmet_more : {node n : ℕ} {r : Row} → Unmet node r n → (node ≡ get_or r.route n 0 → ⊥) → Unmet node r (n + 1)
-unmet_more {node} {n} {r} f g = record { so_far = λ k l e. go k l e (ℕ_discrete k n) }
-  where
-    go : (k : ℕ) → k < n + 1 → node ≡ get_or r.route k 0 → Dec (k ≡ n) → ⊥
-    go k l e (yes q) = g (e ∙ ap (λ (x : ℕ). get_or r.route x 0) q)
-    go k l e (no q) = f.so_far k (omega arith) e
+use Rattle.operations.specs.Operations.{StopsAt, StopOf, arrival, departure}
 
 -- a place where it stands is its only one
-pub stops_at : {site : Site} {r : Row} {node place : ℕ} → LawfulRow site r → place ≤ hops r → node ≡ get_or r.route place 0 → StopsAt node r place
+pub stops_at : {r : Row} {node place : ℕ} → Distinct r.route → place ≤ hops r → node ≡ get_or r.route place 0 → StopsAt node r place
 stops_at {r} {node} {place} w l e = record { within = l; here = e; only = λ k m f. go k m f (dec_lt k place) (dec_lt place k) }
   where
     apart : (i j : ℕ) → i < j → j ≤ hops r → get_or r.route i 0 ≡ get_or r.route j 0 → ⊥
-    apart i j m h = pair_at (λ (x y : ℕ). x ≡ y → ⊥) r.route i j w.route.distinct m (omega (arith, w.route.some))
+    apart i j m h = pair_at (λ (x y : ℕ). x ≡ y → ⊥) r.route i j w m (omega arith)
 
     go : (k : ℕ) → k ≤ hops r → node ≡ get_or r.route k 0 → Dec (k < place) → Dec (place < k) → k ≡ place
     go k m f (yes h) q = absurd (apart k place h l (sym f ∙ e))
     go k m f (no h) (yes q) = absurd (apart place k q m (sym e ∙ f))
     go k m f (no h) (no q) = omega arith
+
+-- it was sought at all places
+pub stop_sought : (r : Row) (node : ℕ) (place : Option ℕ) {end : ℕ} → Distinct r.route → end ≡ hops r + 1
+    → MatchOption place ((k : ℕ) → 0 ≤ k → k < end → get_or r.route k 0 ≡ node → ⊥)
+    (λ i. (0 ≤ i) × (i < end) × (get_or r.route i 0 ≡ node) × ((k : ℕ) → 0 ≤ k → k < i → get_or r.route k 0 ≡ node → ⊥)) → StopOf node r place
+stop_sought r node None w e f = record { nowhere = λ k l q. f k (omega arith) (omega arith) (sym q) }
+stop_sought r node (Some i) w e f = stops_at w (omega (arith, f.1, e)) (sym f.2)
 
 module _ {r : Row} {node place : ℕ} (s : StopsAt node r place) where
   -- the hops that it is an end of

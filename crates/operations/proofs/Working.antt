@@ -12,9 +12,6 @@ pub working : (operation n : ℕ) → Working operation → n ≡ where_working 
 working operation n (inl w) = rw (le-leb 1 operation w.0, le-leb operation 4 w.1)
 working operation n (inr w) = rw (le-leb 1 operation (omega (arith, w)), lt-leb operation 4 (omega (arith, w)), le-leb 17 operation w.0, le-leb operation 20 w.1)
 
-pub sleeping : (operation n : ℕ) → operation ≡ 0 → 0 ≡ where_working operation n
-sleeping operation n e = rw (lt-leb 1 operation (omega arith), lt-leb 17 operation (omega arith))
-
 -- above the first four it is below the second or above them
 pub between : (operation n : ℕ) → 4 < operation → operation < 17 → 0 ≡ where_working operation n
 between operation n h k = rw (le-leb 1 operation (omega arith), lt-leb operation 4 h, lt-leb 17 operation k)

@@ -1,8 +1,6 @@
 -- Where a node stands in a route, what it does there, and the operations in which it works for a stream.
-use Rattle.std.specs.Prelude.{◌≡◌, Bool, cond, ◌&&◌, ◌||◌, ℕ, ◌≤◌, eqb, leb, get_or}
+use Rattle.std.specs.Prelude.{◌≡◌, Bool, cond, ◌&&◌, ◌||◌, ℕ, ◌≤◌, eqb, leb, get_or, Option, Some, None}
 use Rattle.rules.specs.Book.{Row, hops}
-use Rattle.operations.specs.declared.Stop.{Stop}
-use Rattle.operations.specs.declared.Stop.TheVariants.{At, Nowhere}
 
 -- the operation is one of 1 to 4, in which a node works for a stream, or one of 17 to 20, in which it does so on a second route
 abbrev pub is_working : ℕ → Bool
@@ -23,9 +21,9 @@ pub record NoStop (node : ℕ) (r : Row) : Type 0 where
   pub nowhere : (k : ℕ) → k ≤ hops r → node ≡ get_or r.route k 0 → ⊥
 
 -- where it stands
-abbrev pub StopOf : ℕ → Row → Stop → Type 0
-StopOf node r (At place) = StopsAt node r place
-StopOf node r Nowhere = NoStop node r
+abbrev pub StopOf : ℕ → Row → Option ℕ → Type 0
+StopOf node r (Some place) = StopsAt node r place
+StopOf node r None = NoStop node r
 
 -- in the hop to its place a node receives: for above at the last place, and else to its buffer
 abbrev pub arrival : ℕ → ℕ → ℕ

@@ -3,15 +3,19 @@
 #![tactic(auto)]
 
 ghost use Rattle.std.specs.Prelude.{◌≡◌, ◌≤◌};
+ghost use Rattle.rules.specs.Words.{Distinct};
 ghost use Rattle.rules.specs.Table.{on_way};
-ghost use Rattle.image.specs.Places.{row_at, RowHere};
 ghost use Rattle.operations.specs.Operations.{where_working, StopOf, arrival, departure};
 
 pub mod balances;
 
+use image::row::Row;
 use rules::Node;
 
-// The operations: sleep,
+// The bytes of an entry of a table: an operation and an id.
+pub const ENTRY: usize = 3;
+
+// The operations, as numbers of a table's bytes, which are matched by ranges: sleep,
 pub const SLEEP: u8 = 0;
 
 // send from above,
@@ -29,10 +33,7 @@ pub const DELIVER: u8 = 4;
 // and control slot.
 pub const CONTROL: u8 = 5;
 
-// The way of a second route,
-const SECOND_WAY: u8 = 2;
-
-// on which an operation gains 16,
+// On the way of a second route an operation gains 16,
 const GAIN: u8 = 16;
 
 // so that they go from send
@@ -40,13 +41,6 @@ pub const SECOND_SEND: u8 = 17;
 
 // to receive for above.
 pub const SECOND_DELIVER: u8 = 20;
-
-// Where a node stands in a route: at the place of its list of nodes, or nowhere.
-#[derive(Clone, Copy)]
-pub enum Stop {
-    At(usize),
-    Nowhere,
-}
 
 // The number n in the operations 1 to 4 and 17 to 20, which have a stream, and 0 in the others.
 pub fn where_working(operation: u8, n: u16) -> u16
@@ -59,20 +53,12 @@ pub fn where_working(operation: u8, n: u16) -> u16
     }
 }
 
-// Where the node stands in the route of the row at a place.
-pub fn stop_of(image: &[u8], at: usize, node: Node) -> Stop
-    requires { RowHere image.now at }
-    ensures { StopOf node.0 (row_at image.now at) result }
+// Where the node stands in the list of nodes of a row, if it does.
+pub fn stop_of(row: &Row<'_>, node: Node) -> Option<usize>
+    requires { Distinct row.now.route }
+    ensures { StopOf node.0 row.now result }
 {
-    let last = image::hops_at(image, at);
-    let mut place: usize = 0;
-    while place <= last {
-        if node.0 == image::node_at(image, at, place).0 {
-            return Stop::At(place);
-        }
-        place += 1;
-    }
-    Stop::Nowhere
+    (0..row.hops() + 1).find(|place| row.node(*place) == node)
 }
 
 // What the node at a place of a route does in the hop that leads there.
@@ -94,7 +80,7 @@ pub fn on_way(way: u8, operation: u8) -> u8
     requires { operation ≤ 4 }
     ensures { result ≡ on_way way operation }
 {
-    if way == SECOND_WAY {
+    if way == rules::SECOND_WAY {
         GAIN + operation
     } else {
         operation

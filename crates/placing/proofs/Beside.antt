@@ -23,8 +23,9 @@ use Rattle.placing.proofs.plain.Agreeing.{agrees_meets, meets_agrees}
 use Rattle.placing.proofs.plain.Beside.{IndexBeside, meets_some, some_meets}
 use Rattle.placing.specs.Covers.{RowOn, Covers}
 use Rattle.placing.specs.Answers.{around, FreeBy, FreeAt, AnswersBy}
-use Rattle.placing.specs.declared.Found.{Found}
-use Rattle.placing.specs.declared.Found.TheVariants.{Placed, NoPlacing}
+use Rattle.std.specs.Prelude.{Some, None}
+use Rattle.rules.specs.Records.{slot_numbers}
+use Rattle.rules.specs.declared.Slot.{Slot}
 
 -- places that serve for F serve for what holds wherever F does
 places_alike : {F G : ℕ → ℕ → Type 0} {B : ℕ} → ((i o : ℕ) → o < B → F i o → G i o) → (n i lo : ℕ) (os : List ℕ) → Places F B n i lo os → Places G B n i lo os
@@ -100,7 +101,7 @@ module _ {s : List ℕ} {start n : ℕ} {rows : List Row} {words : List ℕ} (w 
       by : (x : Row) × (x ∈ rows) × MeetsClashing (site_of s) x K h o → ⊥
       by k = never k.0 (g.known k.0 k.1) k.2
 
-  module _ (route : List ℕ) (r : Found) (offsets : List ℕ) (a : AnswersBy (plan_of s) (hearing_of s) (around words s start upto moduli first taken) K route r offsets) where
+  module _ (route : List ℕ) where
     same_bound : K * (plan_of s).slots ≡ K * c.site.plan.slots
     same_bound = ap (λ (site : Site). K * site.plan.slots) (sym g.site)
 
@@ -111,15 +112,16 @@ module _ {s : List ℕ} {start n : ℕ} {rows : List Row} {words : List ℕ} (w 
         places_alike (λ i o l f. beside_free _ o l f) (hop_count route) 0 0 ps
         (subst (λ (B : ℕ). Places (λ (i o : ℕ). Free c K (hop_at route i) o) B (hop_count route) 0 0 ps) (sym same_bound) (placing_places c K route ps q))
 
-    pub first_beside : r ≡ Placed → FirstPlacing c K route (take (hop_count route) offsets)
-    first_beside e =
-        let d = (subst (λ (x : Found). AnswersBy (plan_of s) (hearing_of s) (around words s start upto moduli first taken) K route x offsets) e a).0 in
+    pub first_beside : (offsets : List Slot) → AnswersBy (plan_of s) (hearing_of s) (around words s start upto moduli first taken) K route (Some offsets)
+        → FirstPlacing c K route (take (hop_count route) (slot_numbers offsets))
+    first_beside offsets a =
+        let os = take (hop_count route) (slot_numbers offsets) in
         record {
-          placing = places_placing c K route (take (hop_count route) offsets)
-              (subst (λ (B : ℕ). Places (λ (i o : ℕ). Free c K (hop_at route i) o) B (hop_count route) 0 0 (take (hop_count route) offsets)) same_bound
-              (places_alike (λ i o l f. free_beside _ o l f) (hop_count route) 0 0 _ d.places));
-          first = λ ps q. d.first ps (by_index ps q);
+          placing = places_placing c K route os
+              (subst (λ (B : ℕ). Places (λ (i o : ℕ). Free c K (hop_at route i) o) B (hop_count route) 0 0 os) same_bound
+              (places_alike (λ i o l f. free_beside _ o l f) (hop_count route) 0 0 _ a.0.places));
+          first = λ ps q. a.0.first ps (by_index ps q);
         }
 
-    pub none_beside : r ≡ NoPlacing → rules.NoPlacing c K route
-    none_beside e ps q = (subst (λ (x : Found). AnswersBy (plan_of s) (hearing_of s) (around words s start upto moduli first taken) K route x offsets) e a).0 ps (by_index ps q)
+    pub none_beside : AnswersBy (plan_of s) (hearing_of s) (around words s start upto moduli first taken) K route None → rules.NoPlacing c K route
+    none_beside a ps q = a ps (by_index ps q)

@@ -1,8 +1,8 @@
 -- Offsets chosen hop by hop, each the least after the one before, are the first placing.
-use mathlib.Core.Path.{◌≡◌, refl, sym, ap, ◌∙◌, subst, subst₂}
+use mathlib.Core.Path.{◌≡◌, sym, ap, ◌∙◌, subst, subst₂}
 use mathlib.Core.List.{List, [], ◌∷◌, ◌++◌, append_assoc, append-nil}
 use Prim.Native.Nat.{ℕ, suc, ◌+◌, ◌-◌, ◌<◌, ◌≤◌}
-use native.Mathlib.Nat.{zero-add, add-zero}
+use native.Mathlib.Nat.{add-zero}
 use native.Mathlib.Numerals.{add-one}
 use native.Mathlib.Omega.{arith}
 use lib.ListN.{length, take, drop, set, replicate, length-set}
@@ -13,7 +13,7 @@ use Rattle.rules.specs.declared.Slot.{Slot}
 use Rattle.rules.proofs.Records.{map_set}
 use Rattle.rules.proofs.Greedy.{Least, FirstPlaces, NoPlaces, none_from, none_behind, first_behind}
 use Rattle.placing.specs.Answers.{Answers}
-use Rattle.placing.specs.declared.Found.TheVariants.{Placed, NoPlacing}
+use Rattle.std.specs.Prelude.{Some, None}
 
 -- what is first from the hop h on, put behind what was chosen, is first from the start; and where there is nothing from there on, there is no placing
 pub record Rest (F : ℕ → ℕ → Type 0) (B n h lo : ℕ) (chosen : List ℕ) : Type 0 where
@@ -21,12 +21,6 @@ pub record Rest (F : ℕ → ℕ → Type 0) (B n h lo : ℕ) (chosen : List ℕ
   pub none : (m : ℕ) → h + m ≡ n → NoPlaces F B m h lo → NoPlaces F B n 0 0
 
 module _ (F : ℕ → ℕ → Type 0) (B n : ℕ) where
-  rest_start : Rest F B n 0 0 []
-  rest_start = record {
-    first = λ m e os p. subst (λ (x : ℕ). FirstPlaces F B x 0 0 os) (sym (zero-add m) ∙ e) p;
-    none = λ m e p. subst (λ (x : ℕ). NoPlaces F B x 0 0) (sym (zero-add m) ∙ e) p;
-  }
-
   rest_more : (h lo o : ℕ) (chosen : List ℕ) → Least (F h) lo B o → Rest F B n h lo chosen → Rest F B n (h + 1) (o + 1) (chosen ++ (o ∷ []))
   rest_more h lo o chosen l w = subst₂ (λ (x y : ℕ). Rest F B n x y (chosen ++ (o ∷ []))) (sym (add-one h)) (sym (add-one o)) record {
     first = λ m e os p.
@@ -43,9 +37,6 @@ pub record Chosen (F : ℕ → ℕ → Type 0) (B n h lo : ℕ) (offsets : List 
   pub rest : Rest F B n h lo (take h offsets)
 
 module _ (F : ℕ → ℕ → Type 0) (B n : ℕ) where
-  pub chosen_none : n ≤ most_route_hops → Chosen F B n 0 0 (replicate most_route_hops 0)
-  chosen_none few = record { few = few; most = omega arith; size = refl; zeros = refl; rest = rest_start F B n }
-
   less : (h : ℕ) → h < most_route_hops → drop {A = ℕ} 1 (replicate (most_route_hops - h) 0) ≡ replicate (most_route_hops - (h + 1)) 0
   less h l =
       let e : most_route_hops - h ≡ suc (most_route_hops - (h + 1)) = omega arith in
@@ -68,15 +59,15 @@ module _ (F : ℕ → ℕ → Type 0) (B n : ℕ) where
       })
 
   -- every hop has its offset
-  pub chosen_all : (h lo : ℕ) (offsets : List ℕ) → n ≤ h → Chosen F B n h lo offsets → Answers F B n Placed offsets
+  pub chosen_all : (h lo : ℕ) (offsets : List Slot) → n ≤ h → Chosen F B n h lo (slot_numbers offsets) → Answers F B n (Some offsets)
   chosen_all h lo offsets l w =
       let e : h ≡ n = omega (arith, w.most) in
-      let p : FirstPlaces F B n 0 0 (take h offsets) =
-      subst (FirstPlaces F B n 0 0) (append-nil (take h offsets)) (w.rest.first 0 (add-zero h ∙ e) [] record { places = tt; first = λ ps q. tt }) in
-      (subst (λ (k : ℕ). FirstPlaces F B n 0 0 (take k offsets)) e p, ap (λ (k : ℕ). drop k offsets) (sym e) ∙ w.zeros ∙ ap (λ (k : ℕ). replicate (most_route_hops - k) 0) e)
+      let os = slot_numbers offsets in
+      let p : FirstPlaces F B n 0 0 (take h os) =
+      subst (FirstPlaces F B n 0 0) (append-nil (take h os)) (w.rest.first 0 (add-zero h ∙ e) [] record { places = tt; first = λ ps q. tt }) in
+      (subst (λ (k : ℕ). FirstPlaces F B n 0 0 (take k os)) e p, ap (λ (k : ℕ). drop k os) (sym e) ∙ w.zeros ∙ ap (λ (k : ℕ). replicate (most_route_hops - k) 0) e)
 
   -- the search for the hop h found nothing
-  pub chosen_failed : (h lo : ℕ) (offsets : List ℕ) → h < n → Chosen F B n h lo offsets → ((k : ℕ) → lo ≤ k → k < B → F h k → ⊥)
-      → Answers F B n NoPlacing (replicate most_route_hops 0)
+  pub chosen_failed : (h lo : ℕ) (offsets : List ℕ) → h < n → Chosen F B n h lo offsets → ((k : ℕ) → lo ≤ k → k < B → F h k → ⊥) → Answers F B n None
   chosen_failed h lo offsets l w s =
-      let q : h + suc (n - suc h) ≡ n = omega arith in (w.rest.none (suc (n - suc h)) q (none_from F B (n - suc h) h lo s), refl)
+      let q : h + suc (n - suc h) ≡ n = omega arith in w.rest.none (suc (n - suc h)) q (none_from F B (n - suc h) h lo s)

@@ -1,15 +1,13 @@
 -- The search for an offset that is free for a hop.
 use mathlib.Core.Path.{◌≡◌, refl, sym, ap, ◌∙◌, subst, subst₂}
-use Prim.Native.Nat.{ℕ, ◌+◌, ◌*◌, ◌<◌, ◌≤◌}
+use Prim.Native.Nat.{ℕ, ◌+◌, ◌<◌, ◌≤◌}
 use native.Mathlib.Omega.{arith}
-use native.Mathlib.Nat.{mul-le-mul}
 use native.Mathlib.Numerals.{add-one}
 use lib.ListN.{length, get_or}
-use Rattle.rules.specs.Tiles.{Plan, PlanInRange, Period, cycle_tiles}
+use Rattle.rules.specs.Tiles.{Plan}
 use Rattle.rules.specs.Topology.{Topology, nodes, Hop, most_route_hops}
 use Rattle.rules.specs.Records.{the_route}
 use Rattle.rules.specs.declared.Route.{Route}
-use Rattle.rules.proofs.Bytes.{period_small}
 use Rattle.rules.proofs.Greedy.{Least}
 use Rattle.rules.proofs.Records.{node_at_lem, node_of, node_holds}
 use Rattle.rules.proofs.Tests.{fails, said_yes, said_no}
@@ -21,12 +19,8 @@ use Rattle.index.specs.Marks.{FirstQuiet, InReach, MeetsIn}
 use Rattle.index.proofs.Meets.{tests_in, reach_meets, meets_reach}
 use Rattle.placing.proofs.plain.Alike.{agrees_for, route_for}
 use Rattle.placing.specs.Answers.{Around, FreeBy, FreeAt, Searched, Asked}
-use Rattle.placing.specs.declared.Next.{Next}
-use Rattle.placing.specs.declared.Next.TheVariants.{At, Nowhere}
-
--- the offsets of a period fit two bytes
-pub span_most : {plan : Plan} {K : ℕ} → PlanInRange plan → Period K → K * plan.slots ≤ cycle_tiles * 32
-span_most {K = K} w h = mul-le-mul (period_small K h) w.most
+use Rattle.std.specs.Prelude.{Option, Some, None}
+use Rattle.rules.specs.declared.Slot.{Slot}
 
 -- FROM QUIET OFFSET TO QUIET OFFSET: none before from is free, and o is the first from there on at which the index is quiet
 module _ {C : End → ℕ → Type 0} {plan : Plan} {a : Around} {K : ℕ} {repeats : Repeats} {lo from o : ℕ} (w : RepeatsOf plan.slots K repeats)
@@ -40,12 +34,12 @@ module _ {C : End → ℕ → Type 0} {plan : Plan} {a : Around} {K : ℕ} {repe
   passed_quiet l = fails (tests_in w (said_no (q.quiet l))) refl
 
 -- a search for what holds alike finds the same
-pub searched_alike : {F G : ℕ → Type 0} (lo end : ℕ) (r : Next) → ((k : ℕ) → F k → G k) → ((k : ℕ) → G k → F k) → Searched F lo end r → Searched G lo end r
-searched_alike lo end (At o) f g s = record { above = s.above; below = s.below; holds = f o s.holds; none_before = λ k l m h. s.none_before k l m (g k h) }
-searched_alike lo end Nowhere f g s = λ k l m h. s k l m (g k h)
+pub searched_alike : {F G : ℕ → Type 0} (lo end : ℕ) (r : Option Slot) → ((k : ℕ) → F k → G k) → ((k : ℕ) → G k → F k) → Searched F lo end r → Searched G lo end r
+searched_alike lo end (Some o) f g s = record { above = s.above; below = s.below; holds = f o.0 s.holds; none_before = λ k l m h. s.none_before k l m (g k h) }
+searched_alike lo end None f g s = λ k l m h. s k l m (g k h)
 
 -- what the reach leaves free, the hop may have
-pub search_law : (hearing : Topology) (h : Hop) (reach : Reach) (plan : Plan) (a : Around) (K lo end : ℕ) (r : Next) → ReachOf hearing h reach
+pub search_law : (hearing : Topology) (h : Hop) (reach : Reach) (plan : Plan) (a : Around) (K lo end : ℕ) (r : Option Slot) → ReachOf hearing h reach
     → Searched (FreeBy (InReach reach) plan a K) lo end r → Searched (FreeBy (Clashes hearing h) plan a K) lo end r
 search_law hearing h reach plan a K lo end r w =
     searched_alike lo end r
@@ -74,15 +68,16 @@ module _ (plan : Plan) (hearing : Topology) (a : Around) (K : ℕ) (route : Rout
   abbrev pub FreeHop : ℕ → ℕ → Type 0
   FreeHop h = FreeBy (Clashes hearing (hop (node_of route h) (node_of route (h + 1)))) plan a K
 
-  hop_searched : (h lo end : ℕ) (r : Next) → h < route.hops → Searched (FreeHop h) lo end r → Searched (FreeAt plan hearing a K (the_route route) h) lo end r
+  hop_searched : (h lo end : ℕ) (r : Option Slot) → h < route.hops → Searched (FreeHop h) lo end r → Searched (FreeAt plan hearing a K (the_route route) h) lo end r
   hop_searched h lo end r l s =
       subst₂ (λ (x y : ℕ). Searched (FreeBy (Clashes hearing (record { from = x; to = y })) plan a K) lo end r) (sym (node_at_lem route h (omega arith)))
       (sym (node_at_lem route (h + 1) (omega arith)) ∙ ap (λ (i : ℕ). get_or (the_route route) i 0) (add-one h)) s
 
-  pub search_found : (h lo end o : ℕ) {r : Next} → h < route.hops → r ≡ At o → Searched (FreeHop h) lo end r → Least (FreeAt plan hearing a K (the_route route) h) lo end o
+  pub search_found : (h lo end : ℕ) (o : Slot) {r : Option Slot} → h < route.hops → r ≡ Some o → Searched (FreeHop h) lo end r
+      → Least (FreeAt plan hearing a K (the_route route) h) lo end o.0
   search_found h lo end o {r} l e s = subst (Searched (FreeAt plan hearing a K (the_route route) h) lo end) e (hop_searched h lo end r l s)
 
-  pub search_failed : (h lo end : ℕ) {r : Next} → h < route.hops → r ≡ Nowhere → Searched (FreeHop h) lo end r
+  pub search_failed : (h lo end : ℕ) {r : Option Slot} → h < route.hops → r ≡ None → Searched (FreeHop h) lo end r
       → (k : ℕ) → lo ≤ k → k < end → FreeAt plan hearing a K (the_route route) h k → ⊥
   search_failed h lo end {r} l e s = subst (Searched (FreeAt plan hearing a K (the_route route) h) lo end) e (hop_searched h lo end r l s)
 

@@ -1,17 +1,16 @@
 -- What a search for an offset and for a placing answers, by the words of an index and by the plain test.
-use Rattle.std.specs.Prelude.{◌≡◌, List, ℕ, ◌*◌, ◌-◌, ◌<◌, ◌≤◌, length, take, drop, replicate}
+use Rattle.std.specs.Prelude.{◌≡◌, List, ℕ, ◌*◌, ◌-◌, ◌<◌, ◌≤◌, Option, Some, None, length, take, drop, replicate}
 use Rattle.rules.specs.Words.{◌∈◌}
 use Rattle.rules.specs.Tiles.{Plan, PlanInRange, Period}
 use Rattle.rules.specs.Topology.{Topology, nodes, SoundTopology, hop_at, hop_count, most_route_hops}
 use Rattle.rules.specs.Book.{OnData}
+use Rattle.rules.specs.Records.{slot_numbers, the_route, the_offsets}
+use Rattle.rules.specs.declared.Slot.{Slot}
+use Rattle.placing.specs.declared.Around.{Around as Lent}
 use Rattle.rules.proofs.Greedy.{Least, FirstPlaces, NoPlaces}
 use Rattle.bitset.specs.clash.Reach.{End, Clashes}
 use Rattle.index.specs.Marks.{MeetsIn}
 use Rattle.placing.specs.plain.Plain.{RowsThere, Agrees, MeetsRoute}
-use Rattle.placing.specs.declared.Next.{Next}
-use Rattle.placing.specs.declared.Next.TheVariants.{At, Nowhere}
-use Rattle.placing.specs.declared.Found.{Found}
-use Rattle.placing.specs.declared.Found.TheVariants.{Placed, NoPlacing}
 
 -- what hops are placed beside: the words of an index, rows of an image that have moduli, and a route of the same period with its offsets
 pub record Around : Type 0 where
@@ -27,6 +26,10 @@ abbrev pub around : List ℕ → List ℕ → ℕ → ℕ → List ℕ → List 
 around words image start rows moduli first offsets =
     record { words = words; image = image; start = start; rows = rows; moduli = moduli; first = first; offsets = offsets }
 
+-- those that the code has
+abbrev pub the_around : Lent → Around
+the_around a = around a.index.now a.image.now a.start a.rows a.moduli.now (the_route a.beside.route) (the_offsets a.beside)
+
 -- the rows stand, and the route has a hop for each offset
 pub record Standing (a : Around) : Type 0 where
   pub there : RowsThere a.image a.start a.rows
@@ -41,9 +44,9 @@ pub record FreeBy (C : End → ℕ → Type 0) (plan : Plan) (a : Around) (K o :
   pub alone : MeetsRoute C a.first a.offsets o → ⊥
 
 -- the least number from lo on, below the end, with F, or that there is none
-abbrev pub Searched : (ℕ → Type 0) → ℕ → ℕ → Next → Type 0
-Searched F lo end (At o) = Least F lo end o
-Searched F lo end Nowhere = (k : ℕ) → lo ≤ k → k < end → F k → ⊥
+abbrev pub Searched : (ℕ → Type 0) → ℕ → ℕ → Option Slot → Type 0
+Searched F lo end (Some o) = Least F lo end o.0
+Searched F lo end None = (k : ℕ) → lo ≤ k → k < end → F k → ⊥
 
 -- what a placing is asked for: a plan, a topology, a route over its nodes, a period
 pub record Asked (plan : Plan) (hearing : Topology) (route : List ℕ) (K : ℕ) : Type 0 where
@@ -59,11 +62,11 @@ pub record Asked (plan : Plan) (hearing : Topology) (route : List ℕ) (K : ℕ)
 abbrev pub FreeAt : Plan → Topology → Around → ℕ → List ℕ → ℕ → ℕ → Type 0
 FreeAt plan hearing a K route i o = FreeBy (Clashes hearing (hop_at route i)) plan a K o
 
--- the first offsets with F for n hops, below B, and zeros after them; or that there are none, and zeros
-abbrev pub Answers : (ℕ → ℕ → Type 0) → ℕ → ℕ → Found → List ℕ → Type 0
-Answers F B n Placed offsets = FirstPlaces F B n 0 0 (take n offsets) × (drop n offsets ≡ replicate (most_route_hops - n) 0)
-Answers F B n NoPlacing offsets = NoPlaces F B n 0 0 × (offsets ≡ replicate most_route_hops 0)
+-- the first offsets with F for n hops, below B, and zeros after them; or that there are none
+abbrev pub Answers : (ℕ → ℕ → Type 0) → ℕ → ℕ → Option (List Slot) → Type 0
+Answers F B n (Some offsets) = FirstPlaces F B n 0 0 (take n (slot_numbers offsets)) × (drop n (slot_numbers offsets) ≡ replicate (most_route_hops - n) 0)
+Answers F B n None = NoPlaces F B n 0 0
 
 -- those of the route's hops, beside what is around
-abbrev pub AnswersBy : Plan → Topology → Around → ℕ → List ℕ → Found → List ℕ → Type 0
+abbrev pub AnswersBy : Plan → Topology → Around → ℕ → List ℕ → Option (List Slot) → Type 0
 AnswersBy plan hearing a K route = Answers (FreeAt plan hearing a K route) (K * plan.slots) (hop_count route)

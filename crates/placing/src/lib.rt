@@ -2,17 +2,16 @@
 
 #![tactic(auto)]
 
-ghost use Rattle.std.specs.Prelude.{List, ℕ, ◌*◌, ◌<◌, ◌≤◌};
-ghost use Rattle.rules.specs.Words.{◌∈◌, Tests};
+ghost use Rattle.std.specs.Prelude.{◌*◌, ◌<◌, ◌≤◌};
+ghost use Rattle.rules.specs.Words.{Tests};
 ghost use Rattle.rules.specs.Tiles.{PlanInRange, Period};
 ghost use Rattle.rules.specs.Topology.{most_route_hops};
-ghost use Rattle.rules.specs.Records.{the_plan, slot_numbers, the_route, the_offsets};
+ghost use Rattle.rules.specs.Records.{the_plan, the_route};
 ghost use Rattle.bitset.specs.Rows.{topology};
 ghost use Rattle.bitset.specs.clash.Reach.{hop, Clashes, Between};
 ghost use Rattle.index.specs.Turns.{RepeatsOf};
 ghost use Rattle.index.specs.Marks.{InReach, MeetsIn};
-ghost use Rattle.placing.specs.plain.Plain.{RowsThere};
-ghost use Rattle.placing.specs.Answers.{around, Standing, FreeBy, Searched, Asked, AnswersBy};
+ghost use Rattle.placing.specs.Answers.{the_around, Standing, FreeBy, Searched, Asked, AnswersBy};
 
 pub mod marking;
 pub mod plain;
@@ -22,160 +21,105 @@ use bitset::clash::Reach;
 use index::Repeats;
 use rules::{Node, Placed, Plan, Route, Slot, Tile};
 
-// Whether a route has a placing.
+// What hops are placed beside: the index of an image's rows, so many of its rows from the start on, which have moduli, and a
+// route of the same period with its offsets.
 #[derive(Clone, Copy)]
-pub enum Found {
-    Placed,
-    NoPlacing,
-}
-
-// The first placing: an offset for each hop, and zeros after them.
-#[derive(Clone, Copy)]
-pub struct Placing {
-    pub found: Found,
-    pub offsets: [Slot; rules::ROUTE_HOPS],
-}
-
-// Where a search for an offset ends.
-#[derive(Clone, Copy)]
-enum Next {
-    At(u16),
-    Nowhere,
+pub struct Around<'a> {
+    pub index: &'a [u64; index::WORDS],
+    pub image: &'a [u8],
+    pub start: usize,
+    pub rows: usize,
+    pub moduli: &'a [u16; plain::ROWS],
+    pub beside: Placed,
 }
 
 // Whether a quiet offset takes only data slots, and meets no hop in reach by moduli of rows, or of the route beside.
-fn is_free(
-    plan: Plan,
-    period: Tile,
-    image: &[u8],
-    start: usize,
-    rows: usize,
-    moduli: &[u16; plain::ROWS],
-    beside: Placed,
-    reach: Reach,
-    o: u16,
-) -> bool
-    requires { PlanInRange (the_plan plan) × Period period.0 × (o < period.0 * plan.slots.0) × RowsThere image.now start rows
-        × (beside.route.hops ≤ most_route_hops) × ((a : ℕ) → a ∈ the_route beside.route → a < 64) }
-    ensures { (words : List ℕ) → (MeetsIn (InReach reach) plan.slots.0 words period.0 o → ⊥) → Tests result (FreeBy (InReach reach) (the_plan plan)
-        (around words image.now start rows moduli.now (the_route beside.route) (the_offsets beside)) period.0 o) }
+fn is_free(around: &Around<'_>, plan: Plan, period: Tile, reach: Reach, o: Slot) -> bool
+    requires { PlanInRange (the_plan plan) × Period period.0 × (o.0 < period.0 * plan.slots.0) × Standing (the_around around.now)
+        × (around.now.beside.route.hops ≤ most_route_hops) }
+    ensures { (MeetsIn (InReach reach) plan.slots.0 (the_around around.now).words period.0 o.0 → ⊥)
+        → Tests result (FreeBy (InReach reach) (the_plan plan) (the_around around.now) period.0 o.0) }
 {
-    if !rules::on_data(plan, period, Slot(o)) {
-        return false;
-    }
-    if plain::agrees(image, start, rows, moduli, reach, Slot(o)) {
-        return false;
-    }
-    !plain::route_meets(beside, reach, Slot(o))
+    rules::on_data(plan, period, o)
+        && !plain::agrees(
+            around.image,
+            around.start,
+            around.rows,
+            around.moduli,
+            reach,
+            o,
+        )
+        && !plain::route_meets(around.beside, reach, o)
 }
 
 // The least of those offsets from lo on.
 fn next_free(
+    around: &Around<'_>,
     plan: Plan,
     period: Tile,
     repeats: Repeats,
-    index: &[u64; index::WORDS],
-    image: &[u8],
-    start: usize,
-    rows: usize,
-    moduli: &[u16; plain::ROWS],
-    beside: Placed,
     reach: Reach,
-    lo: u16,
-) -> Next
-    requires { PlanInRange (the_plan plan) × Period period.0 × RepeatsOf plan.slots.0 period.0 repeats
-        × Standing (around index.now image.now start rows moduli.now (the_route beside.route) (the_offsets beside)) × (beside.route.hops ≤ most_route_hops) }
-    ensures { Searched (FreeBy (InReach reach) (the_plan plan)
-        (around index.now image.now start rows moduli.now (the_route beside.route) (the_offsets beside)) period.0) lo (period.0 * plan.slots.0) result }
+    lo: Slot,
+) -> Option<Slot>
+    requires { PlanInRange (the_plan plan) × Period period.0 × RepeatsOf plan.slots.0 period.0 repeats × Standing (the_around around.now)
+        × (around.now.beside.route.hops ≤ most_route_hops) }
+    ensures { Searched (FreeBy (InReach reach) (the_plan plan) (the_around around.now) period.0) lo.0 (period.0 * plan.slots.0) result }
 {
     let mut from = lo;
+    // ends with the span or a free offset, whichever of two searches in turn comes to it: no range says so
     loop {
-        let o = index::next_quiet(index, repeats, Slot(from), reach).0;
-        if repeats.span.0 <= o {
-            return Next::Nowhere;
+        let o = index::next_quiet(around.index, repeats, from, reach);
+        if repeats.span <= o {
+            return None;
         }
-        if is_free(plan, period, image, start, rows, moduli, beside, reach, o) {
-            return Next::At(o);
+        if is_free(around, plan, period, reach, o) {
+            return Some(o);
         }
-        from = o + 1;
+        from = Slot(o.0 + 1);
     }
 }
 
 // The least offset from lo on that is free for the hop.
 fn next_offset(
+    around: &Around<'_>,
     plan: Plan,
     hearing: &[u64],
     from: Node,
     to: Node,
     period: Tile,
     repeats: Repeats,
-    index: &[u64; index::WORDS],
-    image: &[u8],
-    start: usize,
-    rows: usize,
-    moduli: &[u16; plain::ROWS],
-    beside: Placed,
-    lo: u16,
-) -> Next
+    lo: Slot,
+) -> Option<Slot>
     requires { PlanInRange (the_plan plan) × Period period.0 × RepeatsOf plan.slots.0 period.0 repeats × Between (topology hearing.now) (hop from to)
-        × Standing (around index.now image.now start rows moduli.now (the_route beside.route) (the_offsets beside)) × (beside.route.hops ≤ most_route_hops) }
-    ensures { Searched (FreeBy (Clashes (topology hearing.now) (hop from to)) (the_plan plan)
-        (around index.now image.now start rows moduli.now (the_route beside.route) (the_offsets beside)) period.0) lo
+        × Standing (the_around around.now) × (around.now.beside.route.hops ≤ most_route_hops) }
+    ensures { Searched (FreeBy (Clashes (topology hearing.now) (hop from to)) (the_plan plan) (the_around around.now) period.0) lo.0
         (period.0 * plan.slots.0) result }
 {
     let reach = clash::reach_of(hearing, from, to);
-    next_free(
-        plan, period, repeats, index, image, start, rows, moduli, beside, reach, lo,
-    )
+    next_free(around, plan, period, repeats, reach, lo)
 }
 
-// The first placing of the route, of the period.
+// The first placing of the route, of the period: an offset for each hop, and zeros after them; or it has none.
 pub fn first_placing(
+    around: &Around<'_>,
     plan: Plan,
     hearing: &[u64],
     route: Route,
     period: Tile,
-    index: &[u64; index::WORDS],
-    image: &[u8],
-    start: usize,
-    rows: usize,
-    moduli: &[u16; plain::ROWS],
-    beside: Placed,
-) -> Placing
+) -> Option<[Slot; rules::ROUTE_HOPS]>
     requires { Asked (the_plan plan) (topology hearing.now) (the_route route) period.0 × (route.hops ≤ most_route_hops)
-        × Standing (around index.now image.now start rows moduli.now (the_route beside.route) (the_offsets beside)) × (beside.route.hops ≤ most_route_hops) }
-    ensures { AnswersBy (the_plan plan) (topology hearing.now)
-        (around index.now image.now start rows moduli.now (the_route beside.route) (the_offsets beside))
-        period.0 (the_route route) result.found (slot_numbers result.offsets) }
+        × Standing (the_around around.now) × (around.now.beside.route.hops ≤ most_route_hops) }
+    ensures { AnswersBy (the_plan plan) (topology hearing.now) (the_around around.now) period.0 (the_route route) result }
 {
-    let hops = route.hops;
     let repeats = index::repeats_of(plan.slots, period);
     let mut offsets = [Slot(0); rules::ROUTE_HOPS];
-    let mut lo: u16 = 0;
-    let mut h = 0;
-    while h < hops {
-        let nodes = route.nodes;
-        let from = nodes[h];
-        let to = nodes[h + 1];
-        match next_offset(
-            plan, hearing, from, to, period, repeats, index, image, start, rows, moduli, beside, lo,
-        ) {
-            Next::At(o) => {
-                offsets[h] = Slot(o);
-                lo = o + 1;
-            }
-            Next::Nowhere => {
-                let none = [Slot(0); rules::ROUTE_HOPS];
-                return Placing {
-                    found: Found::NoPlacing,
-                    offsets: none,
-                };
-            }
-        }
-        h += 1;
+    let mut lo = Slot(0);
+    for h in 0..route.hops {
+        let from = route.nodes[h];
+        let to = route.nodes[h + 1];
+        let o = next_offset(around, plan, hearing, from, to, period, repeats, lo)?;
+        offsets[h] = o;
+        lo = Slot(o.0 + 1);
     }
-    Placing {
-        found: Found::Placed,
-        offsets,
-    }
+    Some(offsets)
 }

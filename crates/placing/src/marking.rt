@@ -13,14 +13,9 @@ pub fn mark(slots: Slot, period: Tile, placed: Placed, index: &mut [u64; index::
     ensures { Marked slots.0 period.0 (the_route placed.route) (the_offsets placed) index.old index.new }
 {
     let repeats = index::repeats_of(slots, period);
-    let hops = placed.route.hops;
-    let mut i = 0;
-    while i < hops {
-        let route = placed.route;
-        let nodes = route.nodes;
-        let offsets = placed.offsets;
-        index::put(index, repeats, offsets[i], nodes[i], nodes[i + 1]);
-        i += 1;
+    let nodes = &placed.route.nodes;
+    for i in 0..placed.route.hops {
+        index::put(index, repeats, placed.offsets[i], nodes[i], nodes[i + 1]);
     }
     index::note(index, period);
 }

@@ -8,10 +8,10 @@ ghost use Rattle.rules.specs.Image.{plan_of};
 ghost use Rattle.rules.specs.Records.{the_route, the_offsets};
 ghost use Rattle.bitset.specs.clash.Reach.{hop};
 ghost use Rattle.index.specs.Marks.{InReach};
-ghost use Rattle.image.specs.Places.{row_at};
-ghost use Rattle.placing.specs.plain.Plain.{LeftOut, Weighed, nth_row, RowThere, RowsThere, Weighs, HasEnd, AgreesHop, AgreesRow, Agrees, MeetsRouteHop, MeetsRoute};
+ghost use Rattle.placing.specs.plain.Plain.{LeftOut, Weighed, nth_row, SmallRow, RowsThere, Weighs, HasEnd, AgreesHop, AgreesRow, Agrees, MeetsRouteHop, MeetsRoute};
 
 use bitset::clash::Reach;
+use image::row::{Row, Rows};
 use rules::{Node, Placed, Slot, Tile};
 
 // A modulus for each row of a book.
@@ -23,6 +23,7 @@ pub fn divisor(a: Tile, b: Tile) -> Tile
 {
     let mut x = a.0;
     let mut y = b.0;
+    // std has no greatest common divisor, and its steps count no index.
     while 0 < y {
         let rest = x % y;
         x = y;
@@ -35,13 +36,11 @@ pub fn divisor(a: Tile, b: Tile) -> Tile
 fn left_out(period: Tile, row: Tile) -> bool
     ensures { Tests result (LeftOut period.0 row.0) }
 {
-    if rules::SHORT < period.0 {
-        return true;
-    }
-    rules::SHORT < row.0
+    rules::SHORT < period.0 || rules::SHORT < row.0
 }
 
-// The modulus of a row beside hops of a period; 0 where the index leaves neither out.
+// The modulus of a row beside hops of a period; 0 where the index leaves neither out, as an Option would double 64 of them.
+#[tactic(auto, using(crate::proofs::plain::Euclid::modulus_fits, crate::proofs::plain::Euclid::weighed))]
 pub fn modulus(slots: Slot, period: Tile, row: Tile) -> u16
     requires { (1 ≤ slots.0) × (slots.0 ≤ 32) × Period period.0 × Period row.0 }
     ensures { Weighed slots.0 period.0 row.0 result }
@@ -50,13 +49,6 @@ pub fn modulus(slots: Slot, period: Tile, row: Tile) -> u16
         return 0;
     }
     divisor(period, row).0 * slots.0
-}
-
-// How many rows have to be looked at: up to this one where it has a modulus.
-fn looked_at(weight: u16, upto: usize, before: usize) -> usize
-    ensures { ((weight ≡ 0) × (result ≡ before)) ⊎ ((0 < weight) × (result ≡ upto)) }
-{
-    if weight == 0 { before } else { upto }
 }
 
 // The moduli of the first n rows from the start on; how many have to be looked at, up to the last that the index leaves out.
@@ -72,14 +64,11 @@ fn weigh_rows(
     ensures { Weighs image.now start n period.0 moduli.new result }
 {
     let mut rows = 0;
-    let mut at = start;
-    let mut i = 0;
-    while i < n {
-        let weight = modulus(slots, period, image::period_at(image, at));
-        moduli[i] = weight;
-        at = image::next(image, at);
-        i += 1;
-        rows = looked_at(weight, i, rows);
+    for (i, row) in Rows::new(image, start, n).enumerate() {
+        moduli[i] = modulus(slots, period, row.period());
+        if moduli[i] != 0 {
+            rows = i + 1;
+        }
     }
     rows
 }
@@ -98,13 +87,11 @@ pub fn weigh(
         × (slow ≡ false → (i : ℕ) → i < n → (nth_row image.now start i).period ≤ short_tiles) }
     ensures { Weighs image.now start n period.0 moduli.new result }
 {
-    if rules::SHORT < period.0 {
-        return weigh_rows(image, start, n, slots, period, moduli);
+    if slow || rules::SHORT < period.0 {
+        weigh_rows(image, start, n, slots, period, moduli)
+    } else {
+        0
     }
-    if slow {
-        return weigh_rows(image, start, n, slots, period, moduli);
-    }
-    0
 }
 
 // Whether an end of the hop is in reach.
@@ -112,41 +99,30 @@ fn in_reach(reach: Reach, from: Node, to: Node) -> bool
     requires { (from.0 < 64) × (to.0 < 64) }
     ensures { Tests result (HasEnd (InReach reach) (hop from to)) }
 {
-    if bitset::has(reach.senders, from.0 as usize) {
-        return true;
-    }
-    bitset::has(reach.receivers, to.0 as usize)
+    bitset::has(reach.senders, usize::from(from.0))
+        || bitset::has(reach.receivers, usize::from(to.0))
 }
 
 // Whether hop i of the row is in reach, and its offset agrees with this one.
-fn hop_agrees(image: &[u8], at: usize, i: usize, modulus: u16, reach: Reach, o: Slot) -> bool
-    requires { RowThere image.now at × (i < hops (row_at image.now at)) × (0 < modulus) }
-    ensures { Tests result (AgreesHop (InReach reach) (row_at image.now at) modulus o.0 i) }
+fn hop_agrees(row: &Row<'_>, i: usize, modulus: u16, reach: Reach, o: Slot) -> bool
+    requires { SmallRow row.now × (i < hops row.now) × (0 < modulus) }
+    ensures { Tests result (AgreesHop (InReach reach) row.now modulus o.0 i) }
 {
-    let from = image::node_at(image, at, i);
-    let to = image::node_at(image, at, i + 1);
-    if !in_reach(reach, from, to) {
-        return false;
-    }
-    let other = image::offset_at(image, at, i);
-    o.0 % modulus == other.0 % modulus
+    in_reach(reach, row.node(i), row.node(i + 1)) && o.0 % modulus == row.offset(i).0 % modulus
 }
 
 // Whether the row has a modulus, and some hop of it does.
-pub fn row_agrees(image: &[u8], at: usize, modulus: u16, reach: Reach, o: Slot) -> bool
-    requires { RowThere image.now at }
-    ensures { Tests result ((0 < modulus) × AgreesRow (InReach reach) (row_at image.now at) modulus o.0) }
+pub fn row_agrees(row: &Row<'_>, modulus: u16, reach: Reach, o: Slot) -> bool
+    requires { SmallRow row.now }
+    ensures { Tests result ((0 < modulus) × AgreesRow (InReach reach) row.now modulus o.0) }
 {
     if modulus == 0 {
         return false;
     }
-    let h = image::hops_at(image, at);
-    let mut i = 0;
-    while i < h {
-        if hop_agrees(image, at, i, modulus, reach, o) {
+    for i in 0..row.hops() {
+        if hop_agrees(row, i, modulus, reach, o) {
             return true;
         }
-        i += 1;
     }
     false
 }
@@ -163,14 +139,10 @@ pub fn agrees(
     requires { RowsThere image.now start rows }
     ensures { Tests result (Agrees (InReach reach) image.now start rows moduli.now o.0) }
 {
-    let mut at = start;
-    let mut i = 0;
-    while i < rows {
-        if row_agrees(image, at, moduli[i], reach, o) {
+    for (row, modulus) in Rows::new(image, start, rows).zip(moduli) {
+        if row_agrees(&row, *modulus, reach, o) {
             return true;
         }
-        at = image::next(image, at);
-        i += 1;
     }
     false
 }
@@ -180,13 +152,9 @@ fn route_hop_meets(beside: Placed, i: usize, reach: Reach, o: Slot) -> bool
     requires { (beside.route.hops ≤ most_route_hops) × ((a : ℕ) → a ∈ the_route beside.route → a < 64) × (i < beside.route.hops) }
     ensures { Tests result (MeetsRouteHop (InReach reach) (the_route beside.route) (the_offsets beside) o.0 i) }
 {
-    let offsets = beside.offsets;
-    if offsets[i].0 != o.0 {
-        return false;
-    }
-    let route = beside.route;
-    let nodes = route.nodes;
-    in_reach(reach, nodes[i], nodes[i + 1])
+    let offset = beside.offsets[i];
+    let nodes = &beside.route.nodes;
+    offset == o && in_reach(reach, nodes[i], nodes[i + 1])
 }
 
 // Whether some hop of the route is: with one period for both, hops meet exactly where they have one offset.
@@ -194,13 +162,10 @@ pub fn route_meets(beside: Placed, reach: Reach, o: Slot) -> bool
     requires { (beside.route.hops ≤ most_route_hops) × ((a : ℕ) → a ∈ the_route beside.route → a < 64) }
     ensures { Tests result (MeetsRoute (InReach reach) (the_route beside.route) (the_offsets beside) o.0) }
 {
-    let hops = beside.route.hops;
-    let mut i = 0;
-    while i < hops {
+    for i in 0..beside.route.hops {
         if route_hop_meets(beside, i, reach, o) {
             return true;
         }
-        i += 1;
     }
     false
 }

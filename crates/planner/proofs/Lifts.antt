@@ -1,17 +1,20 @@
 -- From a lawful image to any image: the image's refusal, or what the call says of its book.
 use mathlib.Core.Path.{◌≡◌, refl, sym, ap, ◌∙◌, subst}
 use mathlib.Core.Logic.{inl, inr}
-use mathlib.Core.List.{List, []}
+use mathlib.Core.List.{List, [], ◌++◌}
+use Rattle.std.specs.Prelude.{Result, Ok, Err}
 use Prim.Native.Nat.{ℕ, ◌<◌, ◌≤◌}
 use native.Mathlib.Omega.{arith}
-use native.Mathlib.Decide.{ℕ_discrete}
-use lib.ListN.{length}
-use Rattle.rules.specs.Says.{Refusal, Says}
+use lib.ListN.{length, drop}
+use Rattle.rules.specs.Says as says
+use Rattle.rules.specs.Said.{number_of, said}
+use Rattle.rules.specs.declared.refusals.Refusal.{Refusal}
+use Rattle.rules.proofs.Said.{refuses}
 use Rattle.rules.specs.Tiles.{Plan, PlanInRange}
 use Rattle.rules.specs.Topology.{nodes}
 use Rattle.rules.specs.Records.{the_plan}
 use Rattle.rules.specs.Book.{Book}
-use Rattle.rules.specs.Image.{newest, image_refusals, encode, links_place, version_of, plan_of, nodes_of, links_of}
+use Rattle.rules.specs.Image.{newest, encode, links_place, version_of, plan_of, nodes_of, links_of}
 use Rattle.rules.specs.Table.{table_length, TablePart, BalanceOf}
 use Rattle.rules.specs.Calls.{SaysOf, CallOf, ReplyOf, rewrite_refusals, purchased, purchase_refusals, Purchase}
 use Rattle.rules.specs.Calls.{PartInRange, expand_refusals, balance_refusals, Check, Rewrite, Expand, Balance}
@@ -19,8 +22,6 @@ use Rattle.rules.proofs.Written.{length_sets_at}
 use Rattle.rules.proofs.Reading.{book_in, LawfulImage}
 use Rattle.image.specs.Header.{HeaderOf}
 use Rattle.image.specs.declared.Book as head
-use Rattle.writer.specs.Over.{over}
-use Rattle.writer.proofs.Laws.{over_front}
 use Rattle.tables.specs.Entries.{Filled}
 use Rattle.rules.specs.answers.Reply.{Reply}
 use Rattle.rules.proofs.answers.Replies.{reply_refused, reply_next, reply_done}
@@ -30,32 +31,32 @@ use Rattle.accounts.specs.purchasing.Buying.{Buys}
 -- ANY CALL
 
 -- the image is refused
-module _ {s : List ℕ} {n number : ℕ} (v : NumberOf s n) (f : n ≡ 0 → ⊥) (a : number ≡ n) where
-  refused_says : (refusals : ℕ → Book → List Refusal) → SaysOf s refusals number
-  refused_says refusals = inl (subst (Says (image_refusals s)) (sym a) v.says, λ z. f (sym a ∙ z))
+module _ {s : List ℕ} (r : Refusal) (v : NumberOf s (number_of r)) where
+  refused_says : (refusals : ℕ → Book → List says.Refusal) → SaysOf s refusals (number_of r)
+  refused_says refusals = inl (v.says, refuses r)
 
-  pub image_refused : (refusals : ℕ → Book → List Refusal) {R : Type 0} {D : ℕ → Book → Type 0} → R → CallOf s refusals R D number
-  image_refused refusals r = record { says = refused_says refusals; refused = λ g. r; done = λ z. absurd (f (sym a ∙ z)) }
+  pub image_refused : (refusals : ℕ → Book → List says.Refusal) {R : Type 0} {D : ℕ → Book → Type 0} → R → CallOf s refusals R D (number_of r)
+  image_refused refusals h = record { says = refused_says refusals; refused = λ g. h; done = λ z. absurd (refuses r z) }
 
-  pub reply_image : (refusals : ℕ → Book → List Refusal) (P : ℕ → Book → List ℕ → Type 0) (out : List ℕ) {len : ℕ} → len ≡ 0 → ReplyOf s refusals P out number len out
-  reply_image refusals P out b =
-      record { says = refused_says refusals; refused = λ g. record { length_is = b; buffer = refl }; done = λ z. absurd (f (sym a ∙ z)) }
+  pub reply_image : (refusals : ℕ → Book → List says.Refusal) (P : ℕ → Book → List ℕ → Type 0) (out : List ℕ) → ReplyOf s refusals P out (number_of r) 0 out
+  reply_image refusals P out =
+      record { says = refused_says refusals; refused = λ g. record { length_is = refl; buffer = refl }; done = λ z. absurd (refuses r z) }
 
-  module _ (out : List ℕ) {len : ℕ} (b : len ≡ 0) where
-    pub rewrite_refused : Rewrite s out number len out
-    rewrite_refused = reply_image (rewrite_refusals (length out)) (λ v b bytes. bytes ≡ encode v b) out b
+  module _ (out : List ℕ) where
+    pub rewrite_refused : Rewrite s out (number_of r) 0 out
+    rewrite_refused = reply_image (rewrite_refusals (length out)) (λ v b bytes. bytes ≡ encode v b) out
 
-    pub purchase_refused : (account amount : ℕ) → Purchase s account amount out number len out
-    purchase_refused account amount = reply_image (purchase_refusals account amount (length out)) (λ v b bytes. bytes ≡ encode newest (purchased account amount b)) out b
+    pub purchase_refused : (account amount : ℕ) → Purchase s account amount out (number_of r) 0 out
+    purchase_refused account amount = reply_image (purchase_refusals account amount (length out)) (λ v b bytes. bytes ≡ encode newest (purchased account amount b)) out
 
-    pub expand_refused : (node first tiles : ℕ) → Expand s node first tiles out number len out
-    expand_refused node first tiles = reply_image (expand_refusals node first tiles (length out)) (λ v b. TablePart b node first tiles) out b
+    pub expand_refused : (node first tiles : ℕ) → Expand s node first tiles out (number_of r) 0 out
+    expand_refused node first tiles = reply_image (expand_refusals node first tiles (length out)) (λ v b. TablePart b node first tiles) out
 
-  pub balance_refused : (node : ℕ) {d u e : ℕ} → d ≡ 0 → u ≡ 0 → e ≡ 0 → Balance s node number d u e
-  balance_refused node x y z = image_refused (balance_refusals node) (x, y, z)
+  pub balance_refused : (node : ℕ) → Balance s node (number_of r) 0 0 0
+  balance_refused node = image_refused (balance_refusals node) (refl, refl, refl)
 
 -- the image is that of a lawful book
-pub reply_book : {s : List ℕ} → LawfulImage s → (refusals : ℕ → Book → List Refusal) (P : ℕ → Book → List ℕ → Type 0) {number len : ℕ} {out out' : List ℕ}
+pub reply_book : {s : List ℕ} → LawfulImage s → (refusals : ℕ → Book → List says.Refusal) (P : ℕ → Book → List ℕ → Type 0) {number len : ℕ} {out out' : List ℕ}
     → Reply (refusals (version_of s) (book_in s)) (P (version_of s) (book_in s)) out number len out' → ReplyOf s refusals P out number len out'
 reply_book {s} h refusals P w = record {
   says = inr (version_of s, book_in s, h, w.says);
@@ -64,28 +65,24 @@ reply_book {s} h refusals P w = record {
 }
 
 -- CHECK says the image's number
-pub checked : (s : List ℕ) {n number len : ℕ} → NumberOf s n → number ≡ n → len ≡ 0 → Check s number len
-checked s {n = n} {number} {len} v a b = go (ℕ_discrete n 0)
-  where
-    go : Dec (n ≡ 0) → Check s number len
-    go (yes z) = record {
-      says = inr (version_of s, book_in s, v.stored z, a ∙ z);
-      refused = λ g. b;
-      done = λ y. (version_of s, book_in s, v.stored z, b);
-    }
-    go (no f) = image_refused v f a (λ (v : ℕ) (b : Book). []) b
+pub checked : (s : List ℕ) (r : Result Unit Refusal) → NumberOf s (said r) → Check s (said r) 0
+checked s (Ok x) v = record {
+  says = inr (version_of s, book_in s, v.stored refl, refl);
+  refused = λ g. refl;
+  done = λ z. (version_of s, book_in s, v.stored refl, refl);
+}
+checked s (Err r) v = image_refused r v (λ (v : ℕ) (b : Book). []) refl
 
 -- REWRITE
-module _ {s : List ℕ} (h : LawfulImage s) {number len : ℕ} (out : List ℕ) where
-  rewrite_on : {out' : List ℕ} → Reply (rewrite_refusals (length out) (version_of s) (book_in s)) (λ (bytes : List ℕ). bytes ≡ encode (version_of s) (book_in s)) out number len out'
-      → Rewrite s out number len out'
-  rewrite_on w = reply_book h (rewrite_refusals (length out)) (λ v b bytes. bytes ≡ encode v b) w
+module _ {s : List ℕ} (h : LawfulImage s) (out : List ℕ) where
+  pub rewrite_short : length out < length s → Rewrite s out 12 0 out
+  rewrite_short l =
+      reply_book h (rewrite_refusals (length out)) (λ v b bytes. bytes ≡ encode v b) (reply_refused (omega (arith, ap length h.bytes)) (λ z. omega arith) refl refl)
 
-  pub rewrite_short : length out < length s → number ≡ 12 → len ≡ 0 → Rewrite s out number len out
-  rewrite_short l a b = rewrite_on (reply_refused (omega (arith, ap length h.bytes)) (λ z. omega arith) a b)
-
-  pub rewrite_done : {out' : List ℕ} → length s ≤ length out → number ≡ 0 → len ≡ length s → out' ≡ over out 0 s → Rewrite s out number len out'
-  rewrite_done l a b w = rewrite_on (reply_next (λ k. omega (arith, k, ap length h.bytes)) (reply_done s h.bytes a b (w ∙ over_front out s)))
+  pub rewrite_done : {out' : List ℕ} → length s ≤ length out → out' ≡ s ++ drop (length s) out → Rewrite s out 0 (length s) out'
+  rewrite_done l w =
+      reply_book h (rewrite_refusals (length out)) (λ v b bytes. bytes ≡ encode v b)
+      (reply_next (λ k. omega (arith, k, ap length h.bytes)) (reply_done s h.bytes refl refl w))
 
 -- PURCHASE
 pub purchase_on : {s : List ℕ} → LawfulImage s → (account amount : ℕ) (out : List ℕ) {number len : ℕ} {out' : List ℕ} → Buys s account amount out number len out'
@@ -103,41 +100,41 @@ module _ {s : List ℕ} (h : LawfulImage s) {book : head.Book} (read : HeaderOf 
   size_is : {size : ℕ} (tiles : ℕ) → size ≡ table_length (the_plan book.plan) tiles → size ≡ table_length (plan_of s) tiles
   size_is tiles e = e ∙ ap (λ (plan : Plan). table_length plan tiles) read.plan
 
-  module _ (node first tiles : ℕ) {number len : ℕ} (out : List ℕ) where
-    expand_on : {out' : List ℕ} → Reply (expand_refusals node first tiles (length out) (version_of s) (book_in s)) (TablePart (book_in s) node first tiles) out number len out'
+  module _ (node first tiles : ℕ) (out : List ℕ) where
+    expand_on : {number len : ℕ} {out' : List ℕ} → Reply (expand_refusals node first tiles (length out) (version_of s) (book_in s)) (TablePart (book_in s) node first tiles) out number len out'
         → Expand s node first tiles out number len out'
     expand_on w = reply_book h (expand_refusals node first tiles (length out)) (λ v b. TablePart b node first tiles) w
 
-    pub expand_unknown : book.nodes ≤ node → number ≡ 4 → len ≡ 0 → Expand s node first tiles out number len out
-    expand_unknown l a b = expand_on (reply_refused (omega (arith, known)) (λ z. omega arith) a b)
+    pub expand_unknown : book.nodes ≤ node → Expand s node first tiles out 4 0 out
+    expand_unknown l = expand_on (reply_refused (omega (arith, known)) (λ z. omega arith) refl refl)
 
     module _ (l : node < book.nodes) where
-      pub expand_outside : (PartInRange first tiles → ⊥) → number ≡ 21 → len ≡ 0 → Expand s node first tiles out number len out
-      expand_outside f a b = expand_on (reply_next (λ m. omega (arith, m, known)) (reply_refused f (λ z. omega arith) a b))
+      pub expand_outside : (PartInRange first tiles → ⊥) → Expand s node first tiles out 21 0 out
+      expand_outside f = expand_on (reply_next (λ m. omega (arith, m, known)) (reply_refused f (λ z. omega arith) refl refl))
 
       module _ (p : PartInRange first tiles) {size : ℕ} (e : size ≡ table_length (the_plan book.plan) tiles) where
-        pub expand_short : length out < size → number ≡ 12 → len ≡ 0 → Expand s node first tiles out number len out
-        expand_short k a b =
-            expand_on (reply_next (λ m. omega (arith, m, known)) (reply_next (λ f. f p) (reply_refused (omega (arith, size_is tiles e)) (λ z. omega arith) a b)))
+        pub expand_short : length out < size → Expand s node first tiles out 12 0 out
+        expand_short k =
+            expand_on (reply_next (λ m. omega (arith, m, known)) (reply_next (λ f. f p) (reply_refused (omega (arith, size_is tiles e)) (λ z. omega arith) refl refl)))
 
-        pub expand_done : {out' : List ℕ} → size ≤ length out → number ≡ 0 → len ≡ size → Filled s node first tiles out out' → Expand s node first tiles out number len out'
-        expand_done k a b f =
+        pub expand_done : {out' : List ℕ} → size ≤ length out → Filled s node first tiles out out' → Expand s node first tiles out 0 size out'
+        expand_done k f =
             expand_on
             (reply_next (λ m. omega (arith, m, known)) (reply_next (λ f. f p) (reply_next (λ m. omega (arith, m, size_is tiles e))
-            (reply_done f.table f.part_of a (b ∙ size_is tiles e ∙ sym f.part_of.size) f.buffer))))
+            (reply_done f.table f.part_of refl (size_is tiles e ∙ sym f.part_of.size) f.buffer))))
 
   -- BALANCE
-  module _ (node : ℕ) {number d u f : ℕ} where
-    pub balance_unknown : book.nodes ≤ node → number ≡ 4 → d ≡ 0 → u ≡ 0 → f ≡ 0 → Balance s node number d u f
-    balance_unknown l a x y z = record {
-      says = inr (version_of s, book_in s, h, inl (omega (arith, known), a));
-      refused = λ g. (x, y, z);
-      done = λ q. absurd (omega (arith, q, a));
+  module _ (node : ℕ) where
+    pub balance_unknown : book.nodes ≤ node → Balance s node 4 0 0 0
+    balance_unknown l = record {
+      says = inr (version_of s, book_in s, h, inl (omega (arith, known), refl));
+      refused = λ g. (refl, refl, refl);
+      done = λ q. absurd (omega (arith, q));
     }
 
-    pub balance_done : node < book.nodes → number ≡ 0 → BalanceOf (book_in s) node d u f → Balance s node number d u f
-    balance_done l a w = record {
-      says = inr (version_of s, book_in s, h, inr (λ m. omega (arith, m, known), a));
-      refused = λ g. absurd (g a);
+    pub balance_done : {d u f : ℕ} → node < book.nodes → BalanceOf (book_in s) node d u f → Balance s node 0 d u f
+    balance_done l w = record {
+      says = inr (version_of s, book_in s, h, inr (λ m. omega (arith, m, known), refl));
+      refused = λ g. absurd (g refl);
       done = λ z. (version_of s, book_in s, h, w);
     }

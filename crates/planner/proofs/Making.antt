@@ -51,12 +51,12 @@ module _ (g : Given) where
   abbrev pub InRange : Type 0
   InRange = PlanInRange g.plan × NodesInRange g.nodes × AccountsGiven g.accounts
 
-  pub new_range : (out : List ℕ) {number len : ℕ} → (InRange → ⊥) → number ≡ 10 → len ≡ 0 → Made out number len out
-  new_range out f a b = new_of out (reply_refused f (λ z. omega arith) a b)
+  pub new_range : (out : List ℕ) → (InRange → ⊥) → Made out 10 0 out
+  new_range out f = new_of out (reply_refused f (λ z. omega arith) refl refl)
 
   module _ (fits : InRange) where
-    pub new_topology : (out : List ℕ) {number len : ℕ} → (TopologiesGiven g.nodes g.links g.hearing → ⊥) → number ≡ 11 → len ≡ 0 → Made out number len out
-    new_topology out f a b = new_of out (reply_next (λ k. k fits) (reply_refused f (λ z. omega arith) a b))
+    pub new_topology : (out : List ℕ) → (TopologiesGiven g.nodes g.links g.hearing → ⊥) → Made out 11 0 out
+    new_topology out f = new_of out (reply_next (λ k. k fits) (reply_refused f (λ z. omega arith) refl refl))
 
     module _ (given : TopologiesGiven g.nodes g.links g.hearing) (bytes : Bytes g.links) (heard : Bytes g.hearing) (listed : Bytes g.accounts) where
       -- what follows the header
@@ -82,14 +82,13 @@ module _ (g : Given) where
           let e = length-append (length g.accounts / 6 ∷ g.accounts) (g.links ++ g.hearing) in
           ap length image ∙ omega (arith, e, length-append g.links g.hearing)
 
-      pub new_short : (out : List ℕ) {number len : ℕ} → length out < made → number ≡ 12 → len ≡ 0 → Made out number len out
+      pub new_short : (out : List ℕ) → length out < made → Made out 12 0 out
       unfolding book
-      new_short out l a b = new_of out (reply_next (λ k. k fits) (reply_next (λ k. k given) (reply_refused (omega (arith, size)) (λ z. omega arith) a b)))
+      new_short out l = new_of out (reply_next (λ k. k fits) (reply_next (λ k. k given) (reply_refused (omega (arith, size)) (λ z. omega arith) refl refl)))
 
-      pub new_done : (out : List ℕ) {number len : ℕ} {out' : List ℕ} → made ≤ length out → number ≡ 0 → len ≡ made
-          → out' ≡ over out 0 (encode_header newest g.plan g.nodes 0 0 ++ rest) → Made out number len out'
+      pub new_done : (out : List ℕ) {out' : List ℕ} → made ≤ length out → out' ≡ over out 0 (encode_header newest g.plan g.nodes 0 0 ++ rest) → Made out 0 made out'
       unfolding book
-      new_done out l a b w =
+      new_done out l w =
           new_of out
           (reply_next (λ k. k fits) (reply_next (λ k. k given) (reply_next (λ k. omega (arith, k, size))
-          (reply_done (encode newest book) refl a (b ∙ sym size) (w ∙ ap (over out 0) (sym image) ∙ over_front out (encode newest book))))))
+          (reply_done (encode newest book) refl refl (sym size) (w ∙ ap (over out 0) (sym image) ∙ over_front out (encode newest book))))))

@@ -8,7 +8,6 @@ use Rattle.rules.specs.Calls.{Request, Serve}
 use Rattle.rules.proofs.Encoding.{version_back}
 use Rattle.rules.proofs.Reading.{book_in, LawfulImage, book_back}
 use Rattle.rules.proofs.Mains.{post_alike}
-use Rattle.rules.specs.declared.answers.Answer.{Answer}
 use Rattle.posting.specs.Posting.{PostsOne, AllNodes}
 
 -- what holds a book is a lawful image
@@ -18,8 +17,8 @@ stored_lawful {s} {v} {b} h =
     subst LawfulImage (sym h.bytes)
     (subst (λ (u : ℕ). Stored (encode v b) u (book_in (encode v b))) (sym (version_back v b)) (subst (Stored (encode v b) v) (sym (book_back w)) w))
 
-pub serves_all : {image out out' : List ℕ} {mains : ℕ} {q : Request} {r : Answer} → AllNodes image mains → PostsOne image mains q out r out'
-    → Serve image q out r.number r.length out'
+pub serves_all : {image out out' : List ℕ} {mains : ℕ} {q : Request} {n len : ℕ} → AllNodes image mains → PostsOne image mains q out n len out'
+    → Serve image q out n len out'
 serves_all {q = q} all p = record {
   whole = p.whole;
   answer = p.answer;

@@ -1,9 +1,11 @@
-// The public calls: each takes a book as its stored image, and says back a number.
+// The public calls: each takes a book as its stored image, and says why it is refused.
 
 #![tactic(auto)]
 
-ghost use Rattle.std.specs.Prelude.{◌≡◌, ◌<◌};
+ghost use Rattle.std.specs.Prelude.{◌<◌, false};
+ghost use Rattle.std.specs.Result.{result_unwrap_or};
 ghost use Rattle.rules.specs.Records.{the_plan, the_asked};
+ghost use Rattle.rules.specs.Said.{said, written};
 ghost use Rattle.rules.specs.Calls.{New, Check, Rewrite, Serve, Purchase, Expand, LinksOf, Links, Routes, Keeps};
 ghost use Rattle.rules.specs.Calls.Request.{Open, Close};
 ghost use Rattle.rules.specs.Image.{nodes_of};
@@ -12,42 +14,22 @@ ghost use Rattle.rules.specs.Tables.{BookOf};
 ghost use Rattle.rules.proofs.Reading.{book_in, LawfulImage};
 ghost use Rattle.image.specs.Header.{HeaderOf};
 ghost use Rattle.posting.specs.Posting.{Posts};
+ghost use Rattle.routes.specs.choices.Listing.{listed, more};
+ghost use Rattle.rescue.specs.salvaging.Replies.{counts};
 ghost use Rattle.planner.specs.Balances.{BalanceSays};
 
 use accounts::purchasing;
 use image::{Book, fields};
 use operations::balances;
+use operations::balances::Counts;
 use posting::Request;
 use rescue::salvaging;
 use rescue::salvaging::Salvaged;
 use routes::choices;
-use routes::choices::Choices;
+use routes::choices::Listed;
 use rows::keeping;
-use rules::answers::Answer;
-use rules::{Asked, Node, Plan, Tile, answers};
-
-// A node's balance: a number, and data, used and free slots.
-#[derive(Clone, Copy)]
-pub struct Balance {
-    pub number: u8,
-    pub data: u32,
-    pub used: u32,
-    pub free: u32,
-}
-
-// A node's links: a number, and how many they are.
-#[derive(Clone, Copy)]
-pub struct Linked {
-    pub number: u8,
-    pub links: u8,
-}
-
-// Whether a book keeps to a set: a number, and yes or no.
-#[derive(Clone, Copy)]
-pub struct Kept {
-    pub number: u8,
-    pub keeps: bool,
-}
+use rules::refusals::Refusal;
+use rules::{Asked, Node, Plan, Tile};
 
 // Makes a book without streams; the links, who hears whom, and the accounts are given as they stand in an image, without the count.
 pub fn new_book(
@@ -57,50 +39,44 @@ pub fn new_book(
     hearing: &[u8],
     accounts: &[u8],
     out: &mut [u8],
-) -> Answer
-    ensures { New (the_plan plan) nodes links.now hearing.now accounts.now out.old result.number result.length out.new }
+) -> Result<usize, Refusal>
+    ensures { New (the_plan plan) nodes links.now hearing.now accounts.now out.old (said result) (written result) out.new }
 {
-    let n = nodes as usize;
-    if !fields::plan_in_range(plan) {
-        return answers::refused(10);
-    }
-    if !fields::nodes_in_range(n) {
-        return answers::refused(10);
-    }
-    if !accounts::given_hold(accounts) {
-        return answers::refused(10);
+    let n = usize::from(nodes);
+    if !fields::plan_in_range(plan)
+        || !fields::nodes_in_range(n)
+        || !accounts::given_hold(accounts)
+    {
+        return Err(Refusal::OutOfRange);
     }
     if !topologies::soundness::given(n, links, hearing) {
-        return answers::refused(11);
+        return Err(Refusal::UnsoundTopology);
     }
     let length = image::HEADER + 1 + accounts.len() + links.len() + hearing.len();
     if out.len() < length {
-        return answers::refused(12);
+        return Err(Refusal::NoRoom);
     }
     writer::put_new(plan, nodes, links, hearing, accounts, out);
-    answers::done(length)
+    Ok(length)
 }
 
 // Checks an image.
-pub fn check(image: &[u8]) -> Answer
-    ensures { Check image.now result.number result.length }
+pub fn check(image: &[u8]) -> Result<(), Refusal>
+    ensures { Check image.now (said result) 0 }
 {
-    answers::refused(lawful::number(image))
+    lawful::check(image)
 }
 
 // Writes the image of the same book.
-pub fn rewrite(image: &[u8], out: &mut [u8]) -> Answer
-    ensures { Rewrite image.now out.old result.number result.length out.new }
+pub fn rewrite(image: &[u8], out: &mut [u8]) -> Result<usize, Refusal>
+    ensures { Rewrite image.now out.old (said result) (written result) out.new }
 {
-    let number = lawful::number(image);
-    if number != 0 {
-        return answers::refused(number);
-    }
+    lawful::check(image)?;
     if out.len() < image.len() {
-        return answers::refused(12);
+        return Err(Refusal::NoRoom);
     }
-    writer::put_part(image, out, 0);
-    answers::done(image.len())
+    out[..image.len()].copy_from_slice(image);
+    Ok(image.len())
 }
 
 // Posts a list of requests, with only members of the set in the middle of a route: each record receives its own answer, the
@@ -111,15 +87,15 @@ pub fn post(
     requests: &mut [Request],
     index: &mut [u64],
     out: &mut [u8],
-) -> Answer
-    ensures { Posts image.now mains requests.old index.old out.old result requests.new index.new out.new }
+) -> Result<usize, Refusal>
+    ensures { Posts image.now mains requests.old index.old out.old (said result) (written result) requests.new index.new out.new }
 {
     posting::post(image, mains, requests, index, out)
 }
 
 // Opens a stream: a list of one, with all nodes in the set and an index of its own.
-pub fn open_stream(image: &[u8], asked: Asked, out: &mut [u8]) -> Answer
-    ensures { Serve image.now (Open (the_asked asked)) out.old result.number result.length out.new }
+pub fn open_stream(image: &[u8], asked: Asked, out: &mut [u8]) -> Result<usize, Refusal>
+    ensures { Serve image.now (Open (the_asked asked)) out.old (said result) (written result) out.new }
 {
     let request = Request {
         opens: true,
@@ -135,8 +111,8 @@ pub fn open_stream(image: &[u8], asked: Asked, out: &mut [u8]) -> Answer
 }
 
 // Closes a stream: a list of one, with all nodes in the set and an index of its own.
-pub fn close_stream(image: &[u8], id: u16, out: &mut [u8]) -> Answer
-    ensures { Serve image.now (Close id) out.old result.number result.length out.new }
+pub fn close_stream(image: &[u8], id: u16, out: &mut [u8]) -> Result<usize, Refusal>
+    ensures { Serve image.now (Close id) out.old (said result) (written result) out.new }
 {
     let request = Request {
         opens: false,
@@ -152,70 +128,49 @@ pub fn close_stream(image: &[u8], id: u16, out: &mut [u8]) -> Answer
 }
 
 // Buys for an account: writes the image of the book with the account of the number raised by the amount.
-pub fn purchase(image: &[u8], account: u16, amount: u32, out: &mut [u8]) -> Answer
-    ensures { Purchase image.now account amount out.old result.number result.length out.new }
+pub fn purchase(image: &[u8], account: u16, amount: u32, out: &mut [u8]) -> Result<usize, Refusal>
+    ensures { Purchase image.now account amount out.old (said result) (written result) out.new }
 {
-    let number = lawful::number(image);
-    if number != 0 {
-        return answers::refused(number);
-    }
+    lawful::check(image)?;
     purchasing::purchase_on(image, account, amount, out)
 }
 
 // Writes the part of a node's slot table that has so many tiles from the first on.
-pub fn expand(image: &[u8], node: Node, first: Tile, tiles: Tile, out: &mut [u8]) -> Answer
-    ensures { Expand image.now node.0 first.0 tiles.0 out.old result.number result.length out.new }
+pub fn expand(
+    image: &[u8],
+    node: Node,
+    first: Tile,
+    tiles: Tile,
+    out: &mut [u8],
+) -> Result<usize, Refusal>
+    ensures { Expand image.now node.0 first.0 tiles.0 out.old (said result) (written result) out.new }
 {
-    let number = lawful::number(image);
-    if number != 0 {
-        return answers::refused(number);
-    }
+    lawful::check(image)?;
     let book = Book::read(image);
-    if book.nodes <= node.0 as usize {
-        return answers::refused(4);
+    if book.nodes <= usize::from(node.0) {
+        return Err(Refusal::NoSuchNode);
     }
     if !tables::part_in_range(first, tiles) {
-        return answers::refused(21);
+        return Err(Refusal::NoSuchTiles);
     }
     let length = tables::table_length(book.plan, tiles);
     if out.len() < length {
-        return answers::refused(12);
+        return Err(Refusal::NoRoom);
     }
     tables::fill(image, book, node, first, tiles, out);
-    answers::done(length)
-}
-
-// A refusal of a balance: three zeros.
-fn no_balance(number: u8) -> Balance
-    ensures { (result.number ≡ number) × (result.data ≡ 0) × (result.used ≡ 0) × (result.free ≡ 0) }
-{
-    Balance {
-        number,
-        data: 0,
-        used: 0,
-        free: 0,
-    }
+    Ok(length)
 }
 
 // Gives a node's balance.
-pub fn balance_of(image: &[u8], node: Node) -> Balance
+pub fn balance_of(image: &[u8], node: Node) -> Result<Counts, Refusal>
     ensures { BalanceSays image.now node.0 result }
 {
-    let number = lawful::number(image);
-    if number != 0 {
-        return no_balance(number);
-    }
+    lawful::check(image)?;
     let book = Book::read(image);
-    if book.nodes <= node.0 as usize {
-        return no_balance(4);
+    if book.nodes <= usize::from(node.0) {
+        return Err(Refusal::NoSuchNode);
     }
-    let counts = balances::count(image, book, node);
-    Balance {
-        number: 0,
-        data: counts.data,
-        used: counts.used,
-        free: counts.free,
-    }
+    Ok(balances::count(image, book, node))
 }
 
 // How many links a node of the book has.
@@ -228,25 +183,16 @@ fn count_links(image: &[u8], book: Book, node: usize) -> u8
 }
 
 // Gives the number of a node's links.
-pub fn links_of(image: &[u8], node: Node) -> Linked
-    ensures { Links image.now node.0 result.number result.links }
+pub fn links_of(image: &[u8], node: Node) -> Result<u8, Refusal>
+    ensures { Links image.now node.0 (said result) (result_unwrap_or result 0) }
 {
-    let number = lawful::number(image);
-    if number != 0 {
-        return Linked { number, links: 0 };
-    }
+    lawful::check(image)?;
     let book = Book::read(image);
-    let at = node.0 as usize;
+    let at = usize::from(node.0);
     if book.nodes <= at {
-        return Linked {
-            number: 4,
-            links: 0,
-        };
+        return Err(Refusal::NoSuchNode);
     }
-    Linked {
-        number: 0,
-        links: count_links(image, book, at),
-    }
+    Ok(count_links(image, book, at))
 }
 
 // Lists the routes of at most 6 hops between two nodes, with only members of the set in the middle: writes the first 32, and
@@ -257,38 +203,23 @@ pub fn routes_between(
     source: Node,
     destination: Node,
     out: &mut [u8],
-) -> Choices
-    ensures { Routes image.now mains source.0 destination.0 out.old result.number result.length out.new result.more }
+) -> Result<Listed, Refusal>
+    ensures { Routes image.now mains source.0 destination.0 out.old (said result) (listed result) out.new (more result) }
 {
-    let number = lawful::number(image);
-    if number != 0 {
-        return choices::refused(number);
-    }
+    lawful::check(image)?;
     choices::book::list_on(image, mains, source, destination, out)
 }
 
 // Says whether every row of a book keeps to a set: only its members stand in the middle of a route.
-pub fn keeps_to(image: &[u8], mains: u64) -> Kept
-    ensures { Keeps image.now mains result.number result.keeps }
+pub fn keeps_to(image: &[u8], mains: u64) -> Result<bool, Refusal>
+    ensures { Keeps image.now mains (said result) (result_unwrap_or result false) }
 {
-    let number = lawful::number(image);
-    if number != 0 {
-        return Kept {
-            number,
-            keeps: false,
-        };
-    }
+    lawful::check(image)?;
     let book = Book::read(image);
     if !bitset::within(mains, book.nodes) {
-        return Kept {
-            number: 25,
-            keeps: false,
-        };
+        return Err(Refusal::NoSuchMember);
     }
-    Kept {
-        number: 0,
-        keeps: keeping::rows_keep(image, book, mains),
-    }
+    Ok(keeping::rows_keep(image, book, mains))
 }
 
 // Finds the book that expands to exactly these tables, made elsewhere: one lent slice, node 0 first, of 100 tiles each; the
@@ -300,15 +231,16 @@ pub fn book_of(
     hearing: &[u8],
     tables: &[u8],
     out: &mut [u8],
-) -> Answer
-    ensures { BookOf (the_plan plan) nodes links.now hearing.now tables.now out.old result.number result.length out.new }
+) -> Result<usize, Refusal>
+    ensures { BookOf (the_plan plan) nodes links.now hearing.now tables.now out.old (said result) (written result) out.new }
 {
     adopting::book_of(plan, nodes, links, hearing, tables, out)
 }
 
 // Salvages what can be kept of a damaged image: writes the book of the rows kept, in its own version, and reports each row cut.
-pub fn salvage(image: &[u8], out: &mut [u8], report: &mut [u8]) -> Salvaged
-    ensures { Salvage image.now out.old report.old result.number result.length out.new result.rows result.lost report.new }
+pub fn salvage(image: &[u8], out: &mut [u8], report: &mut [u8]) -> Result<Salvaged, Refusal>
+    ensures { Salvage image.now out.old report.old (said result) (counts result).length out.new
+        (counts result).rows (counts result).lost report.new }
 {
     salvaging::salvage(image, out, report)
 }

@@ -2,6 +2,7 @@
 use mathlib.Core.Path.{◌≡◌, refl, sym, ap, ◌∙◌, subst}
 use mathlib.Core.Bool.{Bool, true, false, cond}
 use mathlib.Core.List.{List, ◌++◌, append_assoc}
+use Rattle.std.specs.Prelude.{Ok, Err}
 use Prim.Native.Nat.{ℕ, ◌+◌, ◌-◌, ◌≤◌}
 use native.Mathlib.Omega.{arith}
 use lib.ListN.{length, take, drop, length-append, length-take, length-drop, take-append-drop}
@@ -12,6 +13,9 @@ use Rattle.rules.specs.Placing.{Asked}
 use Rattle.rules.specs.Image.{newest, header_length, longest_image, encode, Stored}
 use Rattle.rules.specs.Calls as calls
 use Rattle.rules.specs.Says.{Says}
+use Rattle.rules.specs.Said.{number_of}
+use Rattle.rules.specs.declared.refusals.Refusal.{Refusal}
+use Rattle.rules.proofs.Said.{refuses}
 use Rattle.rules.specs.Calls.{Made, request_refusals}
 use Rattle.rules.specs.Calls.Request.{Open, Close}
 use Rattle.rules.specs.Order.{id_of}
@@ -73,10 +77,10 @@ stored_image {c} h = record {
 module _ {buffer : List ℕ} {len : ℕ} {words : List ℕ} (w : Standing buffer len words) {mains : ℕ} {q : calls.Request} {at number size : ℕ} {out marks : List ℕ}
     (h : Works mains (take len buffer) q at number size out marks) where
   -- refused: the book stands as it was
-  pub work_refused : (number ≡ 0 → ⊥) → Worked mains buffer len q (record { answer = number; length = len }) buffer marks
-  work_refused f = record {
-    work = record { says = h.says; refused = λ g. refl; done = λ z. absurd (f z) };
-    standing = record { room = w.room; fits = w.fits; image = record { newest = w.image.newest; index = h.refused f } };
+  pub work_refused : (r : Refusal) → number ≡ number_of r → Worked mains buffer len q (Err r) buffer marks
+  work_refused r e = record {
+    work = record { says = subst (Says (request_refusals mains (book_in (take len buffer)) q)) e h.says; refused = λ g. refl; done = λ z. absurd (refuses r z) };
+    standing = record { room = w.room; fits = w.fits; image = record { newest = w.image.newest; index = h.refused (λ z. refuses r (sym e ∙ z)) } };
   }
 
   -- done: the book after it stands in its place
@@ -128,7 +132,7 @@ module _ {buffer : List ℕ} {len : ℕ} {words : List ℕ} (w : Standing buffer
       holds : book_at buffer' size ≡ (h.done z).after
       holds = ap book_in front ∙ book_back stored
 
-      pub work_done : length buffer' ≡ length buffer → Worked mains buffer len q (record { answer = 0; length = size }) buffer' marks
+      pub work_done : length buffer' ≡ length buffer → Worked mains buffer len q (Ok size) buffer' marks
       work_done same = record {
         work = record {
           says = subst (λ (n : ℕ). Says (request_refusals mains (book_at buffer len) q) n) z h.says;
@@ -146,13 +150,6 @@ module _ {buffer : List ℕ} {len : ℕ} {words : List ℕ} (w : Standing buffer
           };
         };
       }
-
--- what an open and a close do is what the record asks for
-pub asks_open : (r : Request) → r.opens ≡ true → {s out words : List ℕ} {mains at number len : ℕ}
-    → Works mains s (Open (asked_by r)) at number len out words
-    → Works mains s (the_request r) at number len out words
-asks_open r e {s} {out} {words} {mains} {at} {number} {len} w =
-    subst (λ (t : Bool). Works mains s (cond t (Open (asked_by r)) (Close r.id)) at number len out words) (sym e) w
 
 pub asks_close : (r : Request) → r.opens ≡ false → {s out words : List ℕ} {mains at number len : ℕ} → Works mains s (Close r.id) at number len out words
     → Works mains s (the_request r) at number len out words

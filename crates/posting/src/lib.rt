@@ -7,14 +7,14 @@ pub mod working;
 ghost use Rattle.std.specs.Prelude.{◌≤◌, length, take};
 ghost use Rattle.rules.specs.Image.{plan_of};
 ghost use Rattle.rules.specs.Index.{index_length};
+ghost use Rattle.rules.specs.Said.{said, written};
 ghost use Rattle.rules.proofs.Reading.{LawfulImage};
 ghost use Rattle.posting.specs.Records.{the_request};
 ghost use Rattle.posting.specs.Standing.{Standing};
-ghost use Rattle.posting.specs.Posting.{AnsweredNext, PostedAll, Words, Unmarked, Begun, Finished, Settled, Posts, PostsOne, AllNodes, listed, PostsFirst};
+ghost use Rattle.posting.specs.Posting.{PostedAll, Words, Unmarked, Begun, Finished, Settled, Posts, PostsOne, AllNodes, listed, PostsFirst};
 
 use image::Book;
-use rules::answers;
-use rules::answers::Answer;
+use rules::refusals::Refusal;
 use writer::transcribing;
 
 // A list has up to 64 requests.
@@ -37,17 +37,11 @@ pub struct Request {
     pub id: u16,
     pub period: u16,
     pub account: u16,
+    // A number, since the C interface fixes the record.
     pub answer: u8,
 }
 
-// What one request did: its answer, and the length of the image after it.
-#[derive(Clone, Copy)]
-pub struct Outcome {
-    pub answer: u8,
-    pub length: usize,
-}
-
-// Where a list is: the length of the image, and whether a record was done.
+// Where a list is: the length of the image, which there is in any case, and whether a record was done.
 #[derive(Clone, Copy)]
 pub struct State {
     pub length: usize,
@@ -57,37 +51,8 @@ pub struct State {
 // An array of requests after a posting, and what the whole call says.
 #[derive(Clone, Copy)]
 pub struct Listed {
-    pub answer: Answer,
+    pub answer: Result<usize, Refusal>,
     pub requests: [Request; LISTED],
-}
-
-// One record of a list: its answer, and where the list is then.
-#[derive(Clone, Copy)]
-struct Answered {
-    answer: u8,
-    state: State,
-}
-
-// The next record of a list; the image after it is laid out in the buffer beside the book.
-fn answer_next(
-    mains: u64,
-    book: &mut [u8; Book::LONGEST],
-    index: &mut [u64; index::WORDS],
-    state: State,
-    q: Request,
-    next: &mut [u8; Book::LONGEST],
-) -> Answered
-    requires { Standing book.old state.length index.old }
-    ensures { AnsweredNext mains book.old state (the_request q) result book.new index.new }
-{
-    let outcome = working::work(mains, book, state.length, index, q, next);
-    Answered {
-        answer: outcome.answer,
-        state: State {
-            length: outcome.length,
-            done: state.done | (outcome.answer == 0),
-        },
-    }
 }
 
 // Works through the records in list order, on the image of so many bytes and its index, with only members of the set in
@@ -107,12 +72,14 @@ pub fn post_all(
         length,
         done: false,
     };
-    let mut i = 0;
-    while i < requests.len() {
-        let answered = answer_next(mains, book, index, state, requests[i], &mut next);
-        requests[i].answer = answered.answer;
-        state = answered.state;
-        i += 1;
+    for q in requests.iter_mut() {
+        match working::work(mains, book, state.length, index, *q, &mut next) {
+            Ok(length) => {
+                q.answer = 0;
+                state = State { length, done: true };
+            }
+            Err(refusal) => q.answer = refusal.number(),
+        }
     }
     state
 }
@@ -135,44 +102,41 @@ fn begin(
     room: usize,
     book: &mut [u8; Book::LONGEST],
     index: &mut [u64; index::WORDS],
-) -> Answer
+) -> Result<usize, Refusal>
     requires { Unmarked index.old }
     ensures { Begun image.now mains count words room result book.new index.new }
 {
-    let number = lawful::verdict(image, index);
-    if number != 0 {
-        return answers::refused(number);
-    }
+    lawful::verdict(image, index)?;
     if !bitset::within(mains, Book::read(image).nodes) {
-        return answers::refused(25);
+        return Err(Refusal::NoSuchMember);
     }
     if MOST < count {
-        return answers::refused(26);
+        return Err(Refusal::TooManyRequests);
     }
     if room < Book::LONGEST {
-        return answers::refused(12);
+        return Err(Refusal::NoRoom);
     }
     if words < words_of(image) {
-        return answers::refused(12);
+        return Err(Refusal::NoRoom);
     }
-    answers::done(transcribing::transcribe(image, book))
+    Ok(transcribing::transcribe(image, book))
 }
 
-// Writes the image where a record was done, and otherwise nothing.
-fn finish(book: &[u8], state: State, out: &mut [u8]) -> Answer
+// Writes the image where a record was done, and otherwise nothing; how many bytes it wrote.
+fn finish(book: &[u8], state: State, out: &mut [u8]) -> usize
     requires { (state.length ≤ length book.now) × (length book.now ≤ length out.old) }
     ensures { Finished book.now state out.old result out.new }
 {
     let length = state.length;
     if !state.done {
-        return answers::done(0);
+        return 0;
     }
-    writer::put_part(&book[..length], out, 0);
-    answers::done(length)
+    out[..length].copy_from_slice(&book[..length]);
+    length
 }
 
-// Gives the index of the last book, and writes its image where a record was done.
-fn settle(book: &[u8], words: &[u64], state: State, index: &mut [u64], out: &mut [u8]) -> Answer
+// Gives the index of the last book, and writes its image where a record was done; how many bytes it wrote.
+fn settle(book: &[u8], words: &[u64], state: State, index: &mut [u64], out: &mut [u8]) -> usize
     requires { Standing book.now state.length words.now × (length book.now ≤ length out.old) × (index_length (plan_of (take state.length book.now)) ≤ length index.old) }
     ensures { Settled book.now words.now state index.old out.old result index.new out.new }
 {
@@ -190,12 +154,12 @@ pub fn post(
     requests: &mut [Request],
     index: &mut [u64],
     out: &mut [u8],
-) -> Answer
-    ensures { Posts image.now mains requests.old index.old out.old result requests.new index.new out.new }
+) -> Result<usize, Refusal>
+    ensures { Posts image.now mains requests.old index.old out.old (said result) (written result) requests.new index.new out.new }
 {
     let mut book = [0u8; Book::LONGEST];
     let mut words = [0u64; index::WORDS];
-    let begun = begin(
+    let length = begin(
         image,
         mains,
         requests.len(),
@@ -203,13 +167,9 @@ pub fn post(
         out.len(),
         &mut book,
         &mut words,
-    );
-    if begun.number == 0 {
-        let state = post_all(mains, requests, &mut book, &mut words, begun.length);
-        settle(&book, &words, state, index, out)
-    } else {
-        begun
-    }
+    )?;
+    let state = post_all(mains, requests, &mut book, &mut words, length);
+    Ok(settle(&book, &words, state, index, out))
 }
 
 // All nodes of the book that the image holds, and where it holds none any set.
@@ -222,27 +182,17 @@ pub fn all_nodes(image: &[u8]) -> u64
     bitset::below(Book::read(image).nodes)
 }
 
-// Posts a list of one, with an index of its own that nobody is given: the whole call's refusal, or the record's answer.
-pub fn post_one(image: &[u8], mains: u64, q: Request, out: &mut [u8]) -> Answer
-    ensures { PostsOne image.now mains (the_request q) out.old result out.new }
+// Posts a list of one, with an index of its own that nobody is given: the whole call's refusal, or the record's.
+pub fn post_one(image: &[u8], mains: u64, q: Request, out: &mut [u8]) -> Result<usize, Refusal>
+    ensures { PostsOne image.now mains (the_request q) out.old (said result) (written result) out.new }
 {
     let mut book = [0u8; Book::LONGEST];
     let mut words = [0u64; index::WORDS];
-    let begun = begin(image, mains, 1, OWN, out.len(), &mut book, &mut words);
-    if begun.number != 0 {
-        return begun;
-    }
-    let state = State {
-        length: begun.length,
-        done: false,
-    };
+    let length = begin(image, mains, 1, OWN, out.len(), &mut book, &mut words)?;
     let mut next = [0u8; Book::LONGEST];
-    let answered = answer_next(mains, &mut book, &mut words, state, q, &mut next);
-    let written = finish(&book, answered.state, out);
-    Answer {
-        number: answered.answer,
-        length: written.length,
-    }
+    let length = working::work(mains, &mut book, length, &mut words, q, &mut next)?;
+    out[..length].copy_from_slice(&book[..length]);
+    Ok(length)
 }
 
 // Posts the first so many records of an array, and gives the array back.
@@ -255,7 +205,7 @@ pub fn post_array(
     out: &mut [u8],
 ) -> Listed
     requires { count ≤ listed }
-    ensures { PostsFirst image.now mains requests count index.old out.old result.answer result.requests index.new out.new }
+    ensures { PostsFirst image.now mains requests count index.old out.old (said result.answer) (written result.answer) result.requests index.new out.new }
 {
     let mut list = requests;
     let answer = post(image, mains, &mut list[..count], index, out);

@@ -1,6 +1,7 @@
 // One request on the book that is worked on.
 ghost use Rattle.std.specs.Prelude.{◌≡◌, ◌≤◌, length, take, drop};
 ghost use Rattle.rules.specs.Image.{header_length};
+ghost use Rattle.rules.specs.Said.{said, written};
 ghost use Rattle.index.specs.Beside.{ImageBeside, Works};
 ghost use Rattle.changing.specs.finding.Spot.{SpotOf, place_in};
 ghost use Rattle.writer.specs.Over.{over};
@@ -8,11 +9,11 @@ ghost use Rattle.posting.specs.Records.{the_request};
 ghost use Rattle.posting.specs.Standing.{Standing};
 ghost use Rattle.posting.specs.Posting.{Worked};
 
-use crate::{Outcome, Request};
+use crate::Request;
 use changing::finding::Spot;
 use changing::{closing, finding};
 use image::Book;
-use rules::answers::Answer;
+use rules::refusals::Refusal;
 use rules::{Asked, Node, Tile};
 
 // Opens, with only members of the set in the middle of a route, or closes a stream, which has its spot in the image, on the
@@ -24,9 +25,9 @@ fn serve(
     q: Request,
     spot: Spot,
     out: &mut [u8; Book::LONGEST],
-) -> Answer
+) -> Result<usize, Refusal>
     requires { ImageBeside image.now index.old × SpotOf image.now q.id spot }
-    ensures { Works mains image.now (the_request q) (place_in spot) result.number result.length out.new index.new }
+    ensures { Works mains image.now (the_request q) (place_in spot) (said result) (written result) out.new index.new }
 {
     if q.opens {
         let asked = Asked {
@@ -52,8 +53,8 @@ fn take_over(book: &mut [u8], at: usize, next: &[u8])
     writer::put_part(&next[at..], book, at);
 }
 
-// Does what the request asks for, on the image of so many bytes and its index; the image after it is laid out in the buffer
-// beside the book.
+// Does what the request asks for, on the image of so many bytes and its index, and puts the image after it in its place, of
+// which it says the length; that image is laid out in the buffer beside the book.
 pub fn work(
     mains: u64,
     book: &mut [u8],
@@ -61,24 +62,12 @@ pub fn work(
     index: &mut [u64; index::WORDS],
     q: Request,
     next: &mut [u8; Book::LONGEST],
-) -> Outcome
+) -> Result<usize, Refusal>
     requires { Standing book.old length index.old }
     ensures { Worked mains book.old length (the_request q) result book.new index.new }
 {
     let spot = finding::find(&book[..length], q.id);
-    let answer = serve(&book[..length], index, mains, q, spot, next);
-    let done = answer.number == 0;
-    if done {
-        let laid: &[u8] = next;
-        take_over(book, finding::place(spot), &laid[..answer.length]);
-        Outcome {
-            answer: 0,
-            length: answer.length,
-        }
-    } else {
-        Outcome {
-            answer: answer.number,
-            length,
-        }
-    }
+    let length = serve(&book[..length], index, mains, q, spot, next)?;
+    take_over(book, finding::place(spot), &next[..length]);
+    Ok(length)
 }

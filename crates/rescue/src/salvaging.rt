@@ -3,22 +3,23 @@
 ghost use Rattle.std.specs.Prelude.{◌≡◌, ◌∷◌, ◌-◌, ◌<◌, ◌≤◌, length, take, drop};
 ghost use Rattle.rules.specs.Image.{header_length, image_length, word, FieldsInRange, rows_place};
 ghost use Rattle.rules.specs.Salvage.{Salvage};
+ghost use Rattle.rules.specs.Said.{said};
 ghost use Rattle.accounts.specs.Lists.{ListRead};
 ghost use Rattle.writer.specs.Over.{over, headed};
 ghost use Rattle.damaged.specs.judging.Keeping.{SiteRead};
 ghost use Rattle.rescue.specs.salvaging.Walk.{PutIf, LaidIf, Walked, Measured, TooLong};
-ghost use Rattle.rescue.specs.salvaging.Replies.{Headed, HasRoom, rows_refusals, site_refusals, Refuses, Replied};
+ghost use Rattle.rescue.specs.salvaging.Replies.{Headed, HasRoom, rows_refusals, site_refusals, counts, Replied};
 
 use accounts::purses;
 use damaged::judging::Kept;
 use damaged::{cutting, judging};
 use image::{Book, fields};
 use placing::plain;
+use rules::refusals::Refusal;
 
-// What a salvage says back: a number, the length of the book, how many rows were cut, and how many bytes lost.
+// What a salvage makes: the length of the book, how many rows were cut, and how many bytes lost.
 #[derive(Clone, Copy)]
 pub struct Salvaged {
-    pub number: u8,
     pub length: usize,
     pub rows: usize,
     pub lost: usize,
@@ -33,28 +34,18 @@ pub struct Walk {
 }
 
 // The bytes of a row in the report.
-const NOTE: usize = 3;
-
-// A refusal: its number, and otherwise zeros.
-fn refused(number: u8) -> Salvaged
-    ensures { Refuses number result }
-{
-    Salvaged {
-        number,
-        length: 0,
-        rows: 0,
-        lost: 0,
-    }
-}
+pub const NOTE: usize = 3;
 
 // The length of a book of the site with so many rows and hops.
 fn book_length(book: Book, rows: usize, hops: usize) -> usize
     requires { (book.nodes < 256) × (rows ≤ 64) × (hops ≤ 512) }
     ensures { result ≡ image_length book.version book.accounts book.nodes rows hops }
 {
-    let mut kept = book;
-    kept.streams = rows;
-    kept.hops = hops;
+    let kept = Book {
+        streams: rows,
+        hops,
+        ..book
+    };
     kept.image_length()
 }
 
@@ -62,14 +53,20 @@ fn book_length(book: Book, rows: usize, hops: usize) -> usize
 fn note(report: &mut [u8], at: usize, reason: u8, id: u16)
     ensures { PutIf report.old at (reason ∷ word id) report.new }
 {
-    if report.len() < NOTE {
-        return;
+    if NOTE <= report.len() && at <= report.len() - NOTE {
+        writer::put(report, at, reason);
+        writer::put_word(report, at + 1, id);
     }
-    if report.len() - NOTE < at {
-        return;
+}
+
+// The number of the reason against a row, as a byte of the report, 0 where there is none.
+fn reason_of(judged: Result<Kept, Refusal>) -> u8
+    ensures { result ≡ said judged }
+{
+    match judged {
+        Ok(_) => 0,
+        Err(refusal) => refusal.number(),
     }
-    writer::put(report, at, reason);
-    writer::put_word(report, at + 1, id);
 }
 
 // Lays the row that ends at `next` to a place of the output, where there is no reason against it, and room.
@@ -77,17 +74,10 @@ fn lay(image: &[u8], at: usize, next: usize, reason: u8, out: &mut [u8], place: 
     requires { (at ≤ next) × (next ≤ length image.now) }
     ensures { LaidIf (take (next - at) (drop at image.now)) reason out.old place out.new }
 {
-    if reason != 0 {
-        return;
+    let row = &image[at..next];
+    if reason == 0 && row.len() <= out.len() && place <= out.len() - row.len() {
+        writer::put_part(row, out, place);
     }
-    let size = next - at;
-    if out.len() < size {
-        return;
-    }
-    if out.len() - size < place {
-        return;
-    }
-    writer::put_part(&image[at..next], out, place);
 }
 
 // Judges the rows that can be cut out one after the other: lays those kept where the rows of a book start, and reports each, as
@@ -107,40 +97,37 @@ fn keep_rows(
     let mut left = [0u32; Book::ACCOUNTS];
     purses::fill(image, book, &mut left);
     let mut index = [0u64; index::WORDS];
-    let mut at = book.rows_start();
-    let mut cut: usize = 0;
-    let mut kept = Kept {
+    let mut walk = Walk {
+        kept: Kept::default(),
         rows: 0,
-        hops: 0,
-        before: at,
-        last: 0,
+        end: book.rows_start(),
     };
-    while cutting::is_cuttable(image, at) {
+    // A `while`: how many rows there are is known only where none can be cut out.
+    while let Some(row) = cutting::cuttable(image, walk.end) {
+        let kept = walk.kept;
         let judged = judging::judge(
             image,
             book,
             links,
             hearing,
-            at,
+            walk.end,
             kept,
             &mut places,
             &mut left,
             &mut index,
         );
-        let reason = judged.reason;
-        let next = image::next(image, at);
-        note(report, NOTE * cut, reason, image::id_at(image, at));
+        let reason = reason_of(judged);
+        let next = image::next(image, walk.end);
+        note(report, NOTE * walk.rows, reason, row.id());
         let place = book_length(book, kept.rows, kept.hops);
-        lay(image, at, next, reason, out, place);
-        kept = judged.kept;
-        cut += 1;
-        at = next;
+        lay(image, walk.end, next, reason, out, place);
+        walk = Walk {
+            kept: judged.unwrap_or(kept),
+            rows: walk.rows + 1,
+            end: next,
+        };
     }
-    Walk {
-        kept,
-        rows: cut,
-        end: at,
-    }
+    walk
 }
 
 // Writes the front of the book: that of the image up to where its rows start, with the counts of the rows kept.
@@ -154,15 +141,12 @@ fn put_front(image: &[u8], start: usize, kept: Kept, out: &mut [u8])
     writer::put_part(&image[15..start], out, 15);
 }
 
-// How long the book of the rows kept is. Into buffers of one byte nothing is written.
+// How long the book of the rows kept is. Into empty buffers nothing is written.
 fn measure(image: &[u8], book: Book, links: &[u64], hearing: &[u64]) -> usize
     requires { SiteRead image.now book links.now hearing.now × (rows_place image.now ≤ length image.now) }
     ensures { Measured image.now result }
 {
-    let mut no_book = [0u8; 1];
-    let mut no_report = [0u8; 1];
-    let walk = keep_rows(image, book, links, hearing, &mut no_book, &mut no_report);
-    let kept = walk.kept;
+    let kept = keep_rows(image, book, links, hearing, &mut [], &mut []).kept;
     book_length(book, kept.rows, kept.hops)
 }
 
@@ -171,10 +155,8 @@ fn is_too_long(image: &[u8], book: Book, links: &[u64], hearing: &[u64], room: u
     requires { SiteRead image.now book links.now hearing.now × (rows_place image.now ≤ length image.now) }
     ensures { TooLong image.now room result }
 {
-    if book_length(book, Book::STREAMS, Book::HOPS) <= room {
-        return false;
-    }
-    room < measure(image, book, links, hearing)
+    room < book_length(book, Book::STREAMS, Book::HOPS)
+        && room < measure(image, book, links, hearing)
 }
 
 // Writes the book and the report, for which there is room.
@@ -185,7 +167,7 @@ fn write_both(
     hearing: &[u64],
     out: &mut [u8],
     report: &mut [u8],
-) -> Salvaged
+) -> Result<Salvaged, Refusal>
     requires { SiteRead image.now book links.now hearing.now × Headed image.now × HasRoom image.now (length out.old) (length report.old) }
     ensures { Replied (rows_refusals image.now (length out.old) (length report.old)) image.now out.old report.old result
         out.new report.new }
@@ -193,12 +175,11 @@ fn write_both(
     let walk = keep_rows(image, book, links, hearing, out, report);
     let kept = walk.kept;
     put_front(image, book.rows_start(), kept, out);
-    Salvaged {
-        number: 0,
+    Ok(Salvaged {
         length: book_length(book, kept.rows, kept.hops),
         rows: walk.rows,
         lost: image.len() - walk.end,
-    }
+    })
 }
 
 // Salvages the rows of an image whose header, accounts and topologies are in order.
@@ -209,23 +190,25 @@ fn salvage_rows(
     hearing: &[u64],
     out: &mut [u8],
     report: &mut [u8],
-) -> Salvaged
+) -> Result<Salvaged, Refusal>
     requires { SiteRead image.now book links.now hearing.now × Headed image.now }
     ensures { Replied (rows_refusals image.now (length out.old) (length report.old)) image.now out.old report.old result
         out.new report.new }
 {
     let cut = cutting::cut(image, book.rows_start());
-    if report.len() < NOTE * cut.rows {
-        return refused(12);
-    }
-    if is_too_long(image, book, links, hearing, out.len()) {
-        return refused(12);
+    if report.len() < NOTE * cut.rows || is_too_long(image, book, links, hearing, out.len()) {
+        return Err(Refusal::NoRoom);
     }
     write_both(image, book, links, hearing, out, report)
 }
 
 // Salvages an image whose header and accounts are in order and that has its topologies.
-fn salvage_site(image: &[u8], book: Book, out: &mut [u8], report: &mut [u8]) -> Salvaged
+fn salvage_site(
+    image: &[u8],
+    book: Book,
+    out: &mut [u8],
+    report: &mut [u8],
+) -> Result<Salvaged, Refusal>
     requires { FieldsInRange image.now × ListRead image.now book × Headed image.now }
     ensures { Replied (site_refusals image.now (length out.old) (length report.old)) image.now out.old report.old result
         out.new report.new }
@@ -236,33 +219,34 @@ fn salvage_site(image: &[u8], book: Book, out: &mut [u8], report: &mut [u8]) -> 
     let links = &linked[..n];
     let hearing = &heard[..n];
     if !topologies::soundness::both_sound(links, hearing) {
-        return refused(11);
+        return Err(Refusal::UnsoundTopology);
     }
     salvage_rows(image, book, links, hearing, out, report)
 }
 
 // Salvages an image: writes the book of the rows that can be kept, in its own version, and the report of those cut.
-pub fn salvage(image: &[u8], out: &mut [u8], report: &mut [u8]) -> Salvaged
-    ensures { Salvage image.now out.old report.old result.number result.length out.new result.rows result.lost report.new }
+pub fn salvage(image: &[u8], out: &mut [u8], report: &mut [u8]) -> Result<Salvaged, Refusal>
+    ensures { Salvage image.now out.old report.old (said result) (counts result).length out.new
+        (counts result).rows (counts result).lost report.new }
 {
     if image.len() < image::HEADER {
-        return refused(14);
+        return Err(Refusal::WrongLength);
     }
     if !image::is_marked(image) {
-        return refused(13);
+        return Err(Refusal::NoBook);
     }
     let book = Book::read(image);
     if !fields::fields_in_range(image, book) {
-        return refused(10);
+        return Err(Refusal::OutOfRange);
     }
     if image.len() < book.links_place() {
-        return refused(14);
+        return Err(Refusal::WrongLength);
     }
     if !accounts::list_holds(image, book) {
-        return refused(10);
+        return Err(Refusal::OutOfRange);
     }
     if image.len() < book.rows_start() {
-        return refused(14);
+        return Err(Refusal::WrongLength);
     }
     salvage_site(image, book, out, report)
 }

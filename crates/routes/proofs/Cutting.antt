@@ -6,10 +6,10 @@ use Prim.Native.Nat.{ℕ, suc, ◌+◌, ◌-◌, ◌<◌, ◌≤◌}
 use native.Mathlib.Nat.{lt_of_lt_of_le}
 use native.Mathlib.Decide.{ℕ_discrete}
 use native.Mathlib.Omega.{arith}
-use lib.ListN.{length, get_or, set, take, drop, replicate, length-set, length-drop}
+use lib.ListN.{length, get_or, set, take, drop, length-set, length-drop}
 use lib.Pow.{pow_mono}
 use lib.Seq.{get_or-set_same, get_or-set_other, get_or-take, get_or-drop, take-suc, length-take-le}
-use Rattle.rules.specs.Words.{Has, NoBitFrom, ◌∈◌}
+use Rattle.rules.specs.Words.{Has, ◌∈◌}
 use Rattle.rules.specs.Topology.{Joined, hop_count}
 use Rattle.rules.proofs.Lists.{in_append, in_left, in_right}
 use Rattle.rules.proofs.Ways.{joined_known}
@@ -19,21 +19,7 @@ use Rattle.bitset.specs.Sets.{SetOf}
 use Rattle.bitset.proofs.Bits.{within}
 use Rattle.bitset.proofs.Members.{all_within}
 use Rattle.routes.specs.Planner.{Asked}
-use Rattle.routes.specs.Second.{most_nodes, Copied, LinkCut}
-
--- THE COPY
-pub copied_none : (links : List ℕ) → Copied links 0 (replicate most_nodes 0)
-copied_none links = record { size = refl; same = λ i l. absurd (omega arith) }
-
-pub copied_more : {links rows : List ℕ} {n : ℕ} → n < most_nodes → Copied links n rows → Copied links (n + 1) (set rows n (get_or links n 0))
-copied_more {links} {rows} {n} few c = record { size = length-set rows n (get_or links n 0) ∙ c.size; same = λ i l. at i l (ℕ_discrete i n) }
-  where
-    at : (i : ℕ) → i < n + 1 → Dec (i ≡ n) → get_or (set rows n (get_or links n 0)) i 0 ≡ get_or links i 0
-    at i l (yes e) = rw e (get_or-set_same rows n (get_or links n 0) 0 (omega (arith, c.size)))
-    at i l (no f) = get_or-set_other rows n i (get_or links n 0) 0 f ∙ c.same i (omega arith)
-
-pub copied_done : {links rows : List ℕ} {n m : ℕ} → n ≡ m → Copied links n rows → Copied links m rows
-copied_done {links} {rows} e c = subst (λ (n : ℕ). Copied links n rows) e c
+use Rattle.routes.specs.Second.{Copied, LinkCut}
 
 -- THE LINK
 module _ {links rows : List ℕ} {a b x y : ℕ} (asked : Asked (topology links) a b) (c : Copied links (length links) rows)
@@ -104,13 +90,6 @@ pub record Removing (all : ℕ) (route : List ℕ) (i left : ℕ) : Type 0 where
   pub begun : 1 ≤ i
   pub place : i - 1 ≤ hop_count route - 1
   pub out : SetOf (λ (k : ℕ). Has all k × (k ∈ take (i - 1) (drop 1 route) → ⊥)) left
-
-pub removing_none : (all : ℕ) (route : List ℕ) → NoBitFrom 64 all → Removing all route 1 all
-removing_none all route h = record {
-  begun = omega arith;
-  place = omega arith;
-  out = record { fits = h; only = λ k m. (m, λ n. n); all = λ k p. p.0 };
-}
 
 pub removing_more : {all : ℕ} {route : List ℕ} {i node left less : ℕ} → i + 1 < length route → get_or route i 0 ≡ node → Removing all route i left
     → SetOf (λ (k : ℕ). Has left k × (k ≡ node → ⊥)) less → Removing all route (i + 1) less

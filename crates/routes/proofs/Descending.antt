@@ -2,7 +2,7 @@
 use mathlib.Core.Path.{◌≡◌, refl, sym, ap, ◌∙◌, subst}
 use mathlib.Core.Logic.{inl, inr}
 use mathlib.Core.List.{List, [], ◌∷◌, ◌++◌, append_assoc, append-nil}
-use Prim.Native.Nat.{ℕ, zero, suc, ◌+◌, ◌<◌, ◌≤◌}
+use Prim.Native.Nat.{ℕ, zero, suc, ◌+◌, ◌<◌}
 use native.Mathlib.Decide.{dec_lt}
 use native.Mathlib.Numerals.{add-one}
 use native.Mathlib.Omega.{arith}
@@ -33,33 +33,24 @@ zero_at zero k = refl
 zero_at (suc n) zero = refl
 zero_at (suc n) (suc k) = zero_at n k
 
-pub descend_start : {T : Topology} {middle source z hops : ℕ} {sets : List ℕ} (i : ℕ) → i ≡ 0 → Asked T source z → Reached T middle source z hops sets
-    → Descending T middle source z hops (source ∷ replicate most_route_hops 0) source hops i
-descend_start {source = source} i e a r = record {
+pub descend_start : {T : Topology} {middle source z hops left : ℕ} (sets : List ℕ) → left ≡ hops → Asked T source z → Reached T middle source z hops sets
+    → Descending T middle source z hops (source ∷ replicate most_route_hops 0) source left 0
+descend_start {source = source} sets e a r = rw e record {
   sum = omega arith;
   size = refl;
   known = a.source_known;
   there = r.there;
   front = [];
-  list = ap (λ (x : ℕ). take (x + 1) (source ∷ replicate most_route_hops 0)) e;
+  list = refl;
   after = zeros;
   lowest = λ p l. l;
 }
   where
-    zeros : (k : ℕ) → i < k → get_or (source ∷ replicate most_route_hops 0) k 0 ≡ 0
+    zeros : (k : ℕ) → 0 < k → get_or (source ∷ replicate most_route_hops 0) k 0 ≡ 0
     zeros zero h = absurd (omega arith)
     zeros (suc k) h = zero_at most_route_hops k
 
 module _ (T : Topology) (middle z : ℕ) where
-  -- at a node other than the destination a link is left, and at the destination none
-  pub left_some : (left node : ℕ) → Distance T middle z left node → (node ≡ z → ⊥) → 1 ≤ left
-  left_some zero node d f = absurd (f (stays T middle z node d.path d.way))
-  left_some (suc left) node d f = omega arith
-
-  left_none : (left node : ℕ) → Distance T middle z left node → node ≡ z → left ≡ 0
-  left_none zero node d e = refl
-  left_none (suc left) node d e = absurd (d.nearest 0 (omega arith) [] e)
-
   module _ {n node set both : ℕ} (d : Distance T middle z (suc n) node) (level : SetOf (Stop T middle z n) set)
       (s : SetOf (λ (a : ℕ). Has (get_or T.rows node 0) a × Has set a) both) where
     -- some neighbour is nearer
@@ -101,29 +92,29 @@ module _ {T : Topology} {middle source z hops : ℕ} {sets : List ℕ} (asked : 
   descend_known : {m : ℕ} → Lowest both m → m < nodes T
   descend_known {m} low = (joined_back T asked.sound node m (s.only m low.member).0).0
 
-  pub descend_more : {m : ℕ} (j : ℕ) → j ≡ i + 1 → Lowest both m → Descending T middle source z hops (set chosen j m) m n j
-  descend_more {m} j f low = record {
+  pub descend_more : {m k : ℕ} → k ≡ n → Lowest both m → Descending T middle source z hops (set chosen (i + 1) m) m k (i + 1)
+  descend_more {m} {k} f low = rw f record {
     sum = omega (arith, d.sum);
-    size = length-set chosen j m ∙ d.size;
+    size = length-set chosen (i + 1) m ∙ d.size;
     known = descend_known low;
     there = (level.only m (s.only m low.member).1).0;
     front = d.front ++ (m ∷ []);
     list =
-        ap (λ (x : ℕ). take x (set chosen j m)) (add-one j) ∙ take-suc-set chosen j m (omega (arith, d.size, d.sum, r.most))
-        ∙ ap (λ (x : List ℕ). x ++ (m ∷ [])) (ap (λ (x : ℕ). take x chosen) f ∙ d.list);
-    after = λ k h. get_or-set_other chosen j k m 0 (λ (e : k ≡ j). omega arith) ∙ d.after k (omega arith);
+        ap (λ (x : ℕ). take x (set chosen (i + 1) m)) (add-one (i + 1)) ∙ take-suc-set chosen (i + 1) m (omega (arith, d.size, d.sum, r.most))
+        ∙ ap (λ (x : List ℕ). x ++ (m ∷ [])) d.list;
+    after = λ j h. get_or-set_other chosen (i + 1) j m 0 (λ (e : j ≡ i + 1). omega arith) ∙ d.after j (omega arith);
     lowest = λ p g. rw append_assoc (d.lowest (m ∷ p) (rw e (next_lowest T middle z there level s (descend_known low) low g)));
   }
 
-pub descend_done : {T : Topology} {middle source z hops : ℕ} {chosen : List ℕ} {node left i : ℕ} → Descending T middle source z hops chosen node left i → node ≡ z
+pub descend_done : {T : Topology} {middle source z hops : ℕ} {chosen : List ℕ} {node left i : ℕ} → left ≡ 0 → Descending T middle source z hops chosen node left i
     → Descended T middle source z hops chosen
-descend_done {T} {middle} {source} {z} {hops} {chosen} {node} {left} {i} d e =
-    let none : left ≡ 0 = left_none T middle z left node d.there e in
+descend_done {T} {middle} {source} {z} {hops} {chosen} {node} {left} {i} none d =
     let all : i ≡ hops = omega (arith, d.sum) in
+    let there : Distance T middle z 0 node = rw none at d.there in
     record {
       size = d.size;
       rest = d.front;
       list = ap (λ (x : ℕ). take (x + 1) chosen) (sym all) ∙ d.list;
-      lowest = rw append-nil at (d.lowest [] (rw none record { way = e; lowest = λ q w. tt }));
+      lowest = rw append-nil at (d.lowest [] (rw none record { way = stays T middle z node there.path there.way; lowest = λ q w. tt }));
       after = λ k h. d.after k (omega arith);
     }

@@ -2,12 +2,10 @@
 use mathlib.Core.Path.{◌≡◌, subst}
 use mathlib.Core.Logic.{◌⊎◌, inl, inr, ⊎_elim}
 use Prim.Native.Nat.{ℕ}
-use native.Mathlib.Omega.{arith}
 use lib.ListN.{get_or}
 use Rattle.rules.specs.Words.{Has, NoBitFrom}
 use Rattle.rules.specs.Topology.{Topology, Joined}
 use Rattle.bitset.specs.Sets.{SetOf, Lowest}
-use Rattle.bitset.proofs.Bits.{zero_none}
 use Rattle.bitset.proofs.Members.{lowest_or_rest}
 use Rattle.routes.specs.Levels.{Neighbour}
 
@@ -18,15 +16,6 @@ pub record Gathering (T : Topology) (set around left : ℕ) : Type 0 where
   pub left_of : (a : ℕ) → Has left a → Has set a
   pub only : (b : ℕ) → Has around b → Neighbour T set b
   pub all : (a b : ℕ) → Has set a → Joined T a b → Has left a ⊎ Has around b
-
-pub gather_none : (T : Topology) (set : ℕ) → NoBitFrom 64 set → Gathering T set 0 set
-gather_none T set h = record {
-  fits = omega arith;
-  left_fits = h;
-  left_of = λ a i. i;
-  only = λ b i. absurd (zero_none b i);
-  all = λ a b i l. inl i;
-}
 
 pub gather_more : {T : Topology} {set around left a more less : ℕ} → Gathering T set around left → Lowest left a
     → SetOf (λ (b : ℕ). Has around b ⊎ Has (get_or T.rows a 0) b) more → SetOf (λ (k : ℕ). Has left k × (Lowest left k → ⊥)) less
@@ -42,10 +31,3 @@ gather_more {T} {set} {around} {left} {a} {more} {less} g low u s = record {
     kept : (k b : ℕ) → Joined T k b → (k ≡ a) ⊎ Has less k → Has less k ⊎ Has more b
     kept k b l (inl e) = inr (u.all b (inr (subst (λ (x : ℕ). Joined T x b) e l)))
     kept k b l (inr h) = inl h
-
-pub gather_done : {T : Topology} {set around : ℕ} → Gathering T set around 0 → SetOf (Neighbour T set) around
-gather_done g = record {
-  fits = g.fits;
-  only = g.only;
-  all = λ b n. ⊎_elim (λ h. absurd (zero_none n.0 h)) (λ h. h) (g.all n.0 b n.1 n.2);
-}

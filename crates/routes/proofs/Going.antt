@@ -18,9 +18,6 @@ abbrev pub Going : Topology → ℕ → ℕ → ℕ → ℕ → ℕ → Type 0
 Going T source last unmet level left =
     (middle z hops : ℕ) → Under T middle source z hops last unmet → (k : ℕ) × (hops ≤ k) × Under T middle source z k level left
 
-pub going_start : (T : Topology) (source last unmet : ℕ) → Going T source last unmet last unmet
-going_start T source last unmet middle z hops u = (hops, omega arith, u)
-
 module _ {T : Topology} {source last unmet level left : ℕ} (g : Going T source last unmet level left) where
   pub going_known : SomeFront T source last unmet → (a : ℕ) → Has level a → a < nodes T
   going_known s a h =

@@ -1,5 +1,6 @@
 -- The search from the destination, level by level, until the source is next.
-use mathlib.Core.Path.{◌≡◌, sym, subst}
+use Rattle.std.specs.Prelude.{Err}
+use mathlib.Core.Path.{◌≡◌, refl, sym, subst}
 use mathlib.Core.Bool.{Bool, true, false}
 use mathlib.Core.Logic.{◌⊎◌, inl, inr, ⊎_elim}
 use mathlib.Core.List.{List, ◌∷◌}
@@ -15,9 +16,9 @@ use Rattle.rules.proofs.Ways.{Way, NoWay}
 use Rattle.bitset.specs.Sets.{SetOf}
 use Rattle.bitset.proofs.Bits.{has_or_not, zero_none}
 use Rattle.bitset.proofs.Members.{some_member}
-use Rattle.routes.specs.declared.Outcome.TheVariants.{At, Farther, Nowhere}
+use Rattle.rules.specs.declared.refusals.Refusal.TheVariants.{NoRoute, TooFar}
 use Rattle.routes.specs.Planner.{Asked}
-use Rattle.routes.specs.Levels.{Neighbour, Distance, Stop, Levels, Front, Reached, Beyond, Never, Searched, Under, Meets}
+use Rattle.routes.specs.Levels.{Neighbour, Distance, Stop, Levels, Front, Reached, Never, Searched, Under, Meets}
 use Rattle.routes.proofs.Distances.{joined_back, first_step, stays, nearer, at_destination, grown, shrunk, no_farther}
 
 -- the level at distance hops is reached, those before it are in sets, and the source is farther
@@ -26,28 +27,6 @@ pub record Searching (T : Topology) (middle source z hops last unmet : ℕ) (set
   pub size : length sets ≡ most_route_hops
   pub levels : Levels T middle z hops sets
   pub front : Front T middle source z hops last unmet
-
-module _ {T : Topology} {middle source z : ℕ} {sets : List ℕ} where
-  pub searched_at : {hops : ℕ} → Reached T middle source z hops sets → Searched T middle source z sets (At hops)
-  searched_at {hops} r = record {
-    at = λ h e. let k : hops ≡ h = cc in subst (λ (x : ℕ). Reached T middle source z x sets) k r;
-    farther = λ e. let k : ◌≡◌ {A = ℕ} 0 1 = cc in absurd (omega arith);
-    nowhere = λ e. let k : ◌≡◌ {A = ℕ} 0 1 = cc in absurd (omega arith);
-  }
-
-  searched_farther : Beyond T middle source z most_route_hops → Searched T middle source z sets Farther
-  searched_farther b = record {
-    at = λ h e. let k : ◌≡◌ {A = ℕ} 0 1 = cc in absurd (omega arith);
-    farther = λ e. b;
-    nowhere = λ e. let k : ◌≡◌ {A = ℕ} 0 1 = cc in absurd (omega arith);
-  }
-
-  pub searched_nowhere : Never T middle source z → Searched T middle source z sets Nowhere
-  searched_nowhere n = record {
-    at = λ h e. let k : ◌≡◌ {A = ℕ} 0 1 = cc in absurd (omega arith);
-    farther = λ e. let k : ◌≡◌ {A = ℕ} 0 1 = cc in absurd (omega arith);
-    nowhere = λ e. n;
-  }
 
 levels_more : (T : Topology) (middle z n last : ℕ) (sets : List ℕ) → n < length sets → Levels T middle z n sets → SetOf (Stop T middle z n) last
     → Levels T middle z (n + 1) (set sets n last)
@@ -158,8 +137,8 @@ module _ {T : Topology} {middle source z hops last unmet : ℕ} {sets : List ℕ
   under : Under T middle source z hops last unmet
   under = record { asked = asked; front = s.front }
 
-  pub search_farther : most_route_hops ≤ hops → r ≡ true → Searched T middle source z sets Farther
-  search_farther h e = let b = m.later e middle z hops under in searched_farther (b.0, omega (arith, b.1), b.2)
+  pub search_farther : most_route_hops ≤ hops → r ≡ true → Searched T middle source z sets (Err TooFar)
+  search_farther h e = let b = m.later e middle z hops under in inr (refl, (b.0, omega (arith, b.1), b.2))
 
-  pub search_nowhere : r ≡ false → Searched T middle source z sets Nowhere
-  search_nowhere e = searched_nowhere (m.never e middle z hops under)
+  pub search_nowhere : r ≡ false → Searched T middle source z sets (Err NoRoute)
+  search_nowhere e = inl (refl, m.never e middle z hops under)

@@ -1,11 +1,11 @@
 -- The nodes at each distance from the destination, and the walk down to it.
-use Rattle.std.specs.Prelude.{◌≡◌, ◌⊎◌, Bool, true, false, List, ◌∷◌, ℕ, ◌+◌, ◌<◌, ◌≤◌, length, get_or, take}
+use Rattle.std.specs.Prelude.{◌≡◌, ◌⊎◌, Bool, true, false, List, ◌∷◌, ℕ, ◌+◌, ◌<◌, ◌≤◌, Result, Ok, Err, length, get_or, take}
 use Rattle.rules.specs.Words.{Has, NoBitFrom}
 use Rattle.rules.specs.Topology.{Topology, Joined, most_route_hops}
 use Rattle.rules.proofs.Ways.{MayStand, Way, LowestWay, NoWay}
 use Rattle.bitset.specs.Sets.{SetOf}
-use Rattle.routes.specs.declared.Outcome.{Outcome}
-use Rattle.routes.specs.declared.Outcome.TheVariants.{At, Farther, Nowhere}
+use Rattle.rules.specs.declared.refusals.Refusal.{Refusal}
+use Rattle.rules.specs.declared.refusals.Refusal.TheVariants.{NoRoute, TooFar}
 use Rattle.routes.specs.Planner.{Asked, route_places}
 
 -- b is linked to a member of the set
@@ -54,11 +54,10 @@ Beyond T middle source z n = (hops : ℕ) × (n < hops) × Distance T middle z h
 abbrev pub Never : Topology → ℕ → ℕ → ℕ → Type 0
 Never T middle source z = (n : ℕ) → NoWay T middle z n source
 
--- what the search from the destination says of the source
-pub record Searched (T : Topology) (middle source z : ℕ) (sets : List ℕ) (r : Outcome) : Type 0 where
-  pub at : (hops : ℕ) → r ≡ At hops → Reached T middle source z hops sets
-  pub farther : r ≡ Farther → Beyond T middle source z most_route_hops
-  pub nowhere : r ≡ Nowhere → Never T middle source z
+-- what the search from the destination says of the source: met at so many hops, at more than 15, or nowhere
+abbrev pub Searched : Topology → ℕ → ℕ → ℕ → List ℕ → Result ℕ Refusal → Type 0
+Searched T middle source z sets (Ok hops) = Reached T middle source z hops sets
+Searched T middle source z sets (Err e) = ((e ≡ NoRoute) × Never T middle source z) ⊎ ((e ≡ TooFar) × Beyond T middle source z most_route_hops)
 
 -- two nodes and a search between them, over some set of middles, that has come to this front
 pub record Under (T : Topology) (middle source z hops last unmet : ℕ) : Type 0 where

@@ -1,12 +1,11 @@
 -- What is said of a second route, and of the smaller site on which it is sought.
-use Rattle.std.specs.Prelude.{◌≡◌, true, false, List, ℕ, ◌<◌, ◌≤◌, length, get_or, take}
+use Rattle.std.specs.Prelude.{◌≡◌, List, ℕ, ◌<◌, ◌≤◌, Option, Some, None, length, get_or, take}
 use Rattle.rules.specs.Topology.{Topology, most_short_hops, SecondPath, SecondRoute}
 use Rattle.rules.specs.Records.{node_numbers, the_route}
 use Rattle.rules.specs.declared.Route.{Route}
 use Rattle.rules.proofs.Seconds.{WithoutLink}
 use Rattle.bitset.specs.Rows.{topology}
-use Rattle.routes.specs.declared.second.Sought.{Sought}
-use Rattle.routes.specs.Planner.{route_places, Empty}
+use Rattle.routes.specs.Planner.{route_places}
 
 -- the most nodes that a site has
 abbrev pub most_nodes : ℕ
@@ -30,12 +29,7 @@ pub record SaysSecond (T : Topology) (middle source destination : ℕ) (first : 
   pub route : SecondRoute T middle source destination first (the_route r)
   pub after : (i : ℕ) → r.hops < i → get_or (node_numbers r.nodes) i 0 ≡ 0
 
--- there is no second route: all is 0
-pub record SaysNone (T : Topology) (middle source destination : ℕ) (first : List ℕ) (r : Route) : Type 0 where
-  pub none : (p : List ℕ) → SecondPath T middle source destination first p → ⊥
-  pub zeros : Empty r
-
--- the answer
-pub record SecondSays (T : Topology) (middle source destination : ℕ) (first : List ℕ) (r : Sought) : Type 0 where
-  pub found : r.found ≡ true → SaysSecond T middle source destination first r.route
-  pub not_found : r.found ≡ false → SaysNone T middle source destination first r.route
+-- the answer: the second route, or none where no path may be it
+abbrev pub SecondSays : Topology → ℕ → ℕ → ℕ → List ℕ → Option Route → Type 0
+SecondSays T middle source destination first (Some r) = SaysSecond T middle source destination first r
+SecondSays T middle source destination first None = (p : List ℕ) → SecondPath T middle source destination first p → ⊥

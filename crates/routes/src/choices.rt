@@ -1,5 +1,5 @@
 // Routes to choose from: every route of at most 6 hops between two nodes, in order of node lists.
-ghost use Rattle.std.specs.Prelude.{◌≡◌, false, [], ◌∷◌, ℕ, ◌-◌, ◌<◌, ◌≤◌, length, take};
+ghost use Rattle.std.specs.Prelude.{◌≡◌, [], ◌∷◌, ℕ, ◌-◌, ◌<◌, ◌≤◌, length, take};
 ghost use Rattle.rules.specs.Words.{Has};
 ghost use Rattle.rules.specs.Topology.{nodes};
 ghost use Rattle.bitset.specs.Rows.{topology};
@@ -7,6 +7,7 @@ ghost use Rattle.routes.specs.Planner.{Asked};
 ghost use Rattle.routes.specs.choices.Search.{short_places, list_room, Leads, Onward, Near, Ground, Standing, Room, Adds, Finds, Found};
 ghost use Rattle.routes.specs.choices.Listing.{ListSays};
 
+use rules::refusals::Refusal;
 use rules::{Node, SHORT_HOPS};
 
 pub mod book;
@@ -20,7 +21,7 @@ const PLACES: usize = SHORT_HOPS + 1;
 // Bytes for 32 routes, each a hop byte and its nodes.
 const ROOM: usize = (1 + PLACES) * LISTED;
 
-// What is kept of the routes found so far: how many, their bytes, and whether there were more.
+// What is kept of the routes found so far: how many, their bytes, and whether there were more, in any case.
 #[derive(Clone, Copy)]
 pub struct Tally {
     pub count: usize,
@@ -28,10 +29,9 @@ pub struct Tally {
     pub more: bool,
 }
 
-// What the list says back: a number, a length, and whether more routes exist.
+// The list that was written: its length, and whether more routes exist, in any case.
 #[derive(Clone, Copy)]
-pub struct Choices {
-    pub number: u8,
+pub struct Listed {
     pub length: usize,
     pub more: bool,
 }
@@ -41,14 +41,13 @@ fn keep(route: &[u8], tally: Tally, bytes: &mut [u8]) -> Tally
     requires { Room tally bytes.old × (1 ≤ length route.now) × (length route.now ≤ short_places) }
     ensures { Adds (route.now ∷ []) tally bytes.old result bytes.new }
 {
-    let at = tally.length;
     if LISTED <= tally.count {
         return Tally {
-            count: LISTED,
-            length: at,
             more: true,
+            ..tally
         };
     }
+    let at = tally.length;
     writer::put(bytes, at, (route.len() - 1) as u8);
     writer::put_part(route, bytes, at + 1);
     Tally {
@@ -64,10 +63,8 @@ fn near(links: &[u64], to: usize, barred: u64, most: usize) -> u64
     ensures { Near (topology links.now) to barred most result }
 {
     let mut set = bitset::insert(0, to);
-    let mut n = 0;
-    while n < most {
+    for _ in 0..most {
         set = bitset::difference(bitset::union(set, crate::neighbours(links, set)), barred);
-        n += 1;
     }
     set
 }
@@ -113,10 +110,7 @@ fn over(
     requires { Standing (topology links.now) to left path × (1 ≤ left) × ((m : ℕ) → Has next m → m < nodes (topology links.now)) × Room tally bytes.old }
     ensures { Finds (Onward (topology links.now) to (left - 1) barred next) (take (short_places - left) path) tally bytes.old result bytes.new }
 {
-    if tally.more {
-        return tally;
-    }
-    if next == 0 {
+    if tally.more || next == 0 {
         return tally;
     }
     let node = bitset::lowest(next);
@@ -145,34 +139,28 @@ fn find(links: &[u64], middle: u64, from: usize, to: usize, bytes: &mut [u8]) ->
     down(links, to, from, barred, SHORT_HOPS, path, tally, bytes)
 }
 
-// A refusal: its number, length 0, and no more routes.
-pub fn refused(number: u8) -> Choices
-    ensures { (result.number ≡ number) × (result.length ≡ 0) × (result.more ≡ false) }
-{
-    Choices {
-        number,
-        length: 0,
-        more: false,
-    }
-}
-
-// Writes the first 32 routes of at most 6 hops, with only members of the set in the middle.
-pub fn list(links: &[u64], middle: u64, source: Node, destination: Node, out: &mut [u8]) -> Choices
+// Writes the first 32 routes of at most 6 hops, with only members of the set in the middle; or there is no room for them.
+pub fn list(
+    links: &[u64],
+    middle: u64,
+    source: Node,
+    destination: Node,
+    out: &mut [u8],
+) -> Result<Listed, Refusal>
     requires { Asked (topology links.now) source.0 destination.0 }
     ensures { ListSays (topology links.now) middle source.0 destination.0 out.old result out.new }
 {
     let mut bytes = [0u8; ROOM];
-    let from = source.0 as usize;
-    let to = destination.0 as usize;
+    let from = usize::from(source.0);
+    let to = usize::from(destination.0);
     let tally = find(links, middle, from, to, &mut bytes);
     let length = tally.length;
     if out.len() < length {
-        return refused(12);
+        return Err(Refusal::NoRoom);
     }
     writer::put_part(&bytes[..length], out, 0);
-    Choices {
-        number: 0,
+    Ok(Listed {
         length,
         more: tally.more,
-    }
+    })
 }

@@ -1,8 +1,7 @@
 -- A row's offsets tested one by one.
 use mathlib.Core.Path.{◌≡◌, sym, subst}
-use Prim.Native.Nat.{ℕ, ◌+◌, ◌*◌, ◌<◌, ◌≤◌}
+use Prim.Native.Nat.{ℕ, ◌*◌, ◌<◌, ◌≤◌}
 use native.Mathlib.Omega.{arith}
-use borrow.Author.Count.{below_more}
 use lib.ListN.{length}
 use Rattle.rules.specs.Words.{◌∈◌}
 use Rattle.rules.specs.Tiles.{Plan}
@@ -46,20 +45,6 @@ module _ (plan : Plan) (K : ℕ) (r : Row) (size : length r.offsets ≡ hops r) 
   }
 
 module _ (plan : Plan) (K : ℕ) (r : Row) where
-  pub offset_none : AtOffset plan K r 0 0
-  offset_none = record { fit = λ j l. absurd (omega arith); above = λ j l. absurd (omega arith); lowest = λ m f. omega arith }
-
   module _ {i least o : ℕ} (a : AtOffset plan K r i least) (e : o ≡ row_offset r i) where
     pub offset_early : o < least → OffsetFits plan K r i → ⊥
     offset_early l f = omega (arith, a.lowest (row_offset r i) f.later)
-
-    pub offset_more : least ≤ o → o < K * plan.slots → OnData plan K o → AtOffset plan K r (i + 1) (o + 1)
-    offset_more l w d = record {
-      fit = below_more _ i a.fit (record {
-        later = λ j b. omega (arith, a.above j b);
-        within = subst (λ (x : ℕ). x < K * plan.slots) e w;
-        on_data = subst (OnData plan K) e d;
-      });
-      above = below_more _ i (λ j b. omega (arith, a.above j b)) (omega arith);
-      lowest = λ m f. omega (arith, f i (omega arith));
-    }

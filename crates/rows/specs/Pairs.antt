@@ -1,7 +1,6 @@
 -- A row behind the one before it.
-use Rattle.std.specs.Prelude.{◌≡◌, List, ℕ, ◌<◌, ◌≤◌, get_or}
+use Rattle.std.specs.Prelude.{◌≡◌, Option, None, Some, ◌<◌, get_or}
 use Rattle.rules.specs.Book.{Row, hops, key, Pair}
-use Rattle.image.specs.Places.{row_at}
 
 -- r is the first way of a stream with the id, the period and the account of x
 pub record SameStream (r x : Row) : Type 0 where
@@ -15,7 +14,7 @@ pub record SameEnds (r x : Row) : Type 0 where
   pub starts : get_or r.route 0 0 ≡ get_or x.route 0 0
   pub ends : get_or r.route (hops r) 0 ≡ get_or x.route (hops x) 0
 
--- the row may come behind the one before, of the key `last`, or as the first of all, where that is 0
-pub record Follows (s : List ℕ) (before last at : ℕ) : Type 0 where
-  pub higher : last < key (row_at s at)
-  pub second : (row_at s at).way ≡ 2 → (1 ≤ last) × Pair (row_at s before) (row_at s at)
+-- x may come behind the row before, or as the first of all, where there is none
+abbrev pub ComesBehind : Option Row → Row → Type 0
+ComesBehind None x = x.way ≡ 2 → ⊥
+ComesBehind (Some r) x = (key r < key x) × (x.way ≡ 2 → Pair r x)

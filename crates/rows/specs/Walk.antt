@@ -1,9 +1,9 @@
 -- Rows that stand one after the other in an image.
-use Rattle.std.specs.Prelude.{◌≡◌, Bool, false, List, ℕ, zero, suc, ◌≤◌}
-use Rattle.rules.specs.Words.{TwoBytes, ◌∈◌, Tests}
+use Rattle.std.specs.Prelude.{◌≡◌, false, List, ℕ, zero, suc, ◌≤◌}
+use Rattle.rules.specs.Words.{TwoBytes, ◌∈◌}
 use Rattle.rules.specs.Tiles.{Plan, Period, ShortPeriod}
 use Rattle.rules.specs.Topology.{Topology, Path, most_route_hops}
-use Rattle.rules.specs.Book.{Account, Site, Row, hops, KnownAccount, Offsets, OnData, LawfulRow}
+use Rattle.rules.specs.Book.{Account, Site, Row, hops, Offsets, OnData, LawfulRow}
 use Rattle.rules.specs.Image.{has_wide, RowFits, version_of, site_of}
 use Rattle.image.specs.Places.{row_at, next_at, Whole}
 
@@ -38,10 +38,10 @@ pub record RowHolds (v : ℕ) (site : Site) (r : Row) : Type 0 where
   pub lawful : LawfulRow site r
   pub fits : RowFits v r
 
--- the test says so of the row at the place, where its key holds and its account is one of these
-abbrev pub StreamHolds : List ℕ → ℕ → Plan → Topology → Bool → Type 0
-StreamHolds s at plan links t =
-    (accounts : List Account) → KeyHolds (row_at s at) → KnownAccount accounts (row_at s at).account → Tests t (RowHolds (version_of s) (judging plan links accounts) (row_at s at))
+-- the row is what the image says at some place
+pub record ReadIn (s : List ℕ) (r : Row) : Type 0 where
+  pub at : ℕ
+  pub there : r ≡ row_at s at
 
 -- a whole lawful row that the version holds is at the place
 pub record RowStands (s : List ℕ) (at : ℕ) : Type 0 where

@@ -1,3 +1,4 @@
+pub mod answers
 pub mod Tests
 pub mod Lists
 pub mod Records
@@ -10,6 +11,7 @@ pub mod Listing
 pub mod Deciding
 pub mod Cases
 pub mod Says
+pub mod Said
 pub mod Choice
 pub mod Encoding
 pub mod Entries

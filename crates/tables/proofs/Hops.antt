@@ -5,22 +5,22 @@ use mathlib.Core.List.{List, [], ◌∷◌, ◌++◌}
 use Prim.Native.Nat.{ℕ, suc, ◌+◌, ◌*◌, ◌/◌, ◌%◌, ◌-◌, ◌<◌, ◌≤◌}
 use native.Mathlib.Decide.{dec_lt}
 use native.Mathlib.Omega.{arith}
-use native.Mathlib.Nat.{mul-le-mul_right, le_of_dvd, add_assoc, add-mul-mod_self_right, div-add-mod'}
+use native.Mathlib.Nat.{mul-le-mul_right, add_assoc, add-mul-mod_self_right, div-add-mod'}
 use lib.ListN.{length, get_or, take, drop, take-append-drop, length-take, length-drop}
 use lib.Seq.{length-take-le, get_or-take, get_or-drop, ext_get_or}
 use Rattle.rules.specs.Words.{◌∈◌}
-use Rattle.rules.specs.Tiles.{Plan, Takes, cycle_tiles, slots_of, cycle_slots, control_slots}
-use Rattle.rules.specs.Book.{Site, Row, hops, row_offset, LawfulRow}
+use Rattle.rules.specs.Tiles.{Plan, Takes, cycle_tiles, slots_of, control_slots}
+use Rattle.rules.specs.Book.{Site, Row, hops, row_offset, Offsets, LawfulRow}
 use Rattle.rules.specs.Image.{word, plan_of}
 use Rattle.rules.specs.Table.{Does, on_way, Entry, table_length}
 use Rattle.rules.specs.Table.Entry.{sleep, works, control}
-use Rattle.rules.proofs.Lists.{at_in}
+use Rattle.rules.proofs.Lists.{at_in, in_left, in_right}
+use Rattle.rules.proofs.Saved.{last_or}
 use Rattle.rules.proofs.Meeting.{period_divides, takes_iff}
 use Rattle.rules.proofs.Entries.{does_touches, does_work, Working, on_way_works, touches_does}
 use Rattle.rules.proofs.Reading.{rows_in, book_in}
-use Rattle.image.specs.Places.{row_at}
 use Rattle.operations.specs.Operations.{where_working, StopsAt, NoStop}
-use Rattle.tables.specs.Entries.{entry_at, From, Now, Over, Repeated, Idle, HopEntry, ToEntry, FromEntry, RowEntry, RowsEntry, PartFits, StreamOf, Filled}
+use Rattle.tables.specs.Entries.{entry_at, From, Now, Over, Repeated, Idle, HopEntry, ToEntry, FromEntry, RowEntry, RowsEntry, RowOn, PartFits, StreamOf, Filled}
 use Rattle.tables.specs.declared.Part.{Part}
 use Rattle.tables.specs.declared.Stream.{Stream}
 use Rattle.tables.specs.Entries.Now.{given, kept}
@@ -31,19 +31,26 @@ use Rattle.tables.proofs.Writing.{Gives, over_none, over_then, over_same}
 
 -- THE PART
 -- so many tiles from the first on, all in the cycle
-pub part_fits : {s out : List ℕ} {plan : Plan} {part : Part} (first tiles : ℕ) → plan ≡ plan_of s → (plan_of s).slots ≤ 32
+pub part_fits : (s : List ℕ) {out : List ℕ} {plan : Plan} {part : Part} (first tiles : ℕ) → plan ≡ plan_of s → (plan_of s).slots ≤ 32
     → (part.slots.0 ≡ plan.slots) × (part.start.0 ≡ slots_of plan first) × (part.count.0 ≡ slots_of plan tiles) → first + tiles ≤ cycle_tiles
-    → table_length (plan_of s) tiles ≤ length out → PartFits s part out
-part_fits {s} {plan} first tiles e most p l room =
+    → table_length (plan_of s) tiles ≤ length out → PartFits part out
+part_fits s {plan} first tiles e most p l room =
     let f : plan.slots ≡ (plan_of s).slots = ap (λ (x : Plan). x.slots) e in
     let g : slots_of plan tiles ≡ slots_of (plan_of s) tiles = ap (λ (x : Plan). slots_of x tiles) e in
-    let h : slots_of plan first ≡ slots_of (plan_of s) first = ap (λ (x : Plan). slots_of x first) e in
     record {
-      slots_is = p.0 ∙ f;
-      slots_most = most;
-      inside = omega (arith, p.1, p.2, g, h, mul-le-mul_right (plan_of s).slots l);
+      slots_most = omega (arith, p.0, f, most);
+      inside = omega (arith, p.1, p.2, mul-le-mul_right plan.slots l, ap (λ (x : ℕ). cycle_tiles * x) p.0);
       room = omega (arith, p.2, g, room);
     }
+
+-- a lawful row stands on its site
+pub row_on : {site : Site} {r : Row} (S : ℕ) → S ≡ site.plan.slots → LawfulRow site r → RowOn S r
+row_on {r} S e w = record {
+  period = w.period;
+  some = w.route.some;
+  distinct = w.route.distinct;
+  offsets = subst (λ (S : ℕ). Offsets S r.period (hops r) r.offsets) (sym e) w.offsets;
+}
 
 -- ONE HOP
 -- what is known of a hop that is written in a part from a start on
@@ -53,16 +60,13 @@ pub record HopFacts (S : ℕ) (r : Row) (start i offset step late id : ℕ) : Ty
   pub late_is : late ≡ start % step
   pub id_is : id ≡ r.id
 
-pub hop_facts : {s : List ℕ} {at i offset : ℕ} {part : Part} {stream : Stream} → StreamOf s at part stream → offset ≡ row_offset (row_at s at) i
-    → HopFacts (plan_of s).slots (row_at s at) part.start.0 i offset stream.step.0 stream.late.0 stream.id
+pub hop_facts : {r : Row} {i offset : ℕ} {part : Part} {stream : Stream} → StreamOf r part stream → offset ≡ row_offset r i
+    → HopFacts part.slots.0 r part.start.0 i offset stream.step.0 stream.late.0 stream.id
 hop_facts h e = record { offset_is = e; step_is = h.step_is; late_is = h.late_is; id_is = h.id_is }
 
 -- a row's period has slots, and no more than the cycle
-pub step_some : {site : Site} {r : Row} → LawfulRow site r → 0 < r.period * site.plan.slots
-step_some {r} w = omega (arith, w.offsets.within (row_offset r 0) (at_in r.offsets 0 (omega (arith, w.offsets.count, w.route.some))))
-
-pub period_most : {site : Site} {r : Row} → LawfulRow site r → r.period ≤ cycle_tiles
-period_most {r} w = le_of_dvd (omega arith) (period_divides r.period w.period)
+pub step_some : {S : ℕ} {r : Row} → RowOn S r → 0 < r.period * S
+step_some {r} w = omega (arith, w.offsets.within (row_offset r 0) (at_in r.offsets 0 (omega (arith, w.offsets.count, w.some))))
 
 -- two numbers that are the same modulo m, the lower of them below m, are some turns apart
 turns_apart : (m late place slot o : ℕ) → place < m → (late + place) % m ≡ o → (late + slot) % m ≡ o → (turn : ℕ) × (slot ≡ place + turn * m)
@@ -81,17 +85,17 @@ turns_apart m late place slot o l e f = go (dec_lt ((late + slot) / m) ((late + 
         let q : (late + slot) / m ≡ (late + place) / m + d = omega arith in
         (d, omega (arith, p, s, ap (λ (x : ℕ). x * m) q))
 
-module _ {site : Site} {r : Row} {start i offset step late id : ℕ} (w : LawfulRow site r) (h : HopFacts site.plan.slots r start i offset step late id) where
+module _ {S : ℕ} {r : Row} {start i offset step late id : ℕ} (w : RowOn S r) (h : HopFacts S r start i offset step late id) where
   pub first_turn : i < hops r → offset < step
   first_turn l = omega (arith, h.offset_is, h.step_is, w.offsets.within (row_offset r i) (at_in r.offsets i (omega (arith, w.offsets.count))))
 
   module _ {node operation written place : ℕ} (count : ℕ) (low : offset < step) (near : (place < step) × ((late + place) % step ≡ offset))
-      (inside : start + count ≤ cycle_slots site.plan) (d : Does node r i operation) (e : written ≡ on_way r.way operation) where
+      (inside : start + count ≤ cycle_tiles * S) (d : Does node r i operation) (e : written ≡ on_way r.way operation) where
     its_id : id ≡ where_working written id
     its_id = working written id (subst Working (sym e) (on_way_works r.way operation (does_work d)))
 
-    taken : (slot : ℕ) → Takes site.plan.slots r.period (row_offset r i) slot ↔ ((slot % (r.period * site.plan.slots) ≡ row_offset r i) × (slot < cycle_slots site.plan))
-    taken slot = takes_iff site.plan.slots r.period (row_offset r i) slot (period_divides r.period w.period) (omega (arith, h.offset_is, h.step_is))
+    taken : (slot : ℕ) → Takes S r.period (row_offset r i) slot ↔ ((slot % (r.period * S) ≡ row_offset r i) × (slot < cycle_tiles * S))
+    taken slot = takes_iff S r.period (row_offset r i) slot (period_divides r.period w.period) (omega (arith, h.offset_is, h.step_is))
 
     -- a slot of the part is as late in the period as the part starts, and so much later
     later : (slot : ℕ) → (start + slot) % step ≡ (late + slot) % step
@@ -100,7 +104,7 @@ module _ {site : Site} {r : Row} {start i offset step late id : ℕ} (w : Lawful
         turn : start / step * step + start % step + slot ≡ late + slot + start / step * step
         turn = omega (arith, h.late_is)
 
-    now : (slot o name : ℕ) → slot < count → Repeated place step written (where_working written id) slot o name → From start (HopEntry i site.plan.slots node r) slot o name
+    now : (slot o name : ℕ) → slot < count → Repeated place step written (where_working written id) slot o name → From start (HopEntry i S node r) slot o name
     now slot o name l x = record {
       there = record {
         takes = (taken (start + slot)).1 (
@@ -116,29 +120,23 @@ module _ {site : Site} {r : Row} {start i offset step late id : ℕ} (w : Lawful
       };
     }
 
-    back : (slot o name : ℕ) → slot < count → From start (HopEntry i site.plan.slots node r) slot o name → Gives (Repeated place step written (where_working written id)) slot
+    back : (slot o name : ℕ) → slot < count → From start (HopEntry i S node r) slot o name → Gives (Repeated place step written (where_working written id)) slot
     back slot o name l x =
         let t = subst₂ (λ (m p : ℕ). (start + slot) % m ≡ p) (sym h.step_is) (sym h.offset_is) ((taken (start + slot)).0 x.there.takes).0 in
         let u = turns_apart step late place slot offset near.0 near.1 (sym (later slot) ∙ t) in
         (written, where_working written id, record { turn = u.0; slot_is = u.1; operation_is = refl; id_is = refl })
 
     pub hop_done : {end by : ℕ} {old new : List ℕ} → end ≡ count → by ≡ place → Over end (Repeated by step written (where_working written id)) old new
-        → Over count (From start (HopEntry i site.plan.slots node r)) old new
+        → Over count (From start (HopEntry i S node r)) old new
     hop_done {end} {old} {new} n q a = over_same n now back (subst (λ (x : ℕ). Over end (Repeated x step written (where_working written id)) old new) q a)
 
 -- ONE ROW: the hop to the node's place, and the hop from it
 module _ {n start S node place : ℕ} {r : Row} where
-  pub to_none : {out : List ℕ} → place ≤ 0 → Over n (From start (ToEntry place S node r)) out out
-  to_none l = over_none (λ slot o id h. omega (arith, h.there.leads))
-
   pub to_done : {old new : List ℕ} → 0 < place → Over n (From start (HopEntry (place - 1) S node r)) old new → Over n (From start (ToEntry place S node r)) old new
   to_done l a =
       over_same refl (λ slot o id k h. record { there = record { hop = place - 1; leads = omega arith; entry = h.there } })
       (λ slot o id k h. let e : h.there.hop ≡ place - 1 = omega (arith, h.there.leads) in
       (o, id, record { there = subst (λ (k : ℕ). HopEntry k S node r (start + slot) o id) e h.there.entry })) a
-
-  pub from_none : {out : List ℕ} → hops r ≤ place → Over n (From start (FromEntry place S node r)) out out
-  from_none l = over_none (λ slot o id h. omega (arith, h.there.within))
 
   pub from_done : {old new : List ℕ} → place < hops r → Over n (From start (HopEntry place S node r)) old new → Over n (From start (FromEntry place S node r)) old new
   from_done l a = over_same refl (λ slot o id k h. record { there = record { within = l; entry = h.there } }) (λ slot o id k h. (o, id, record { there = h.there.entry })) a
@@ -166,17 +164,17 @@ row_none f =
 pub rows_none : {n start S node : ℕ} {out : List ℕ} → Over n (From start (RowsEntry S node [])) out out
 rows_none = over_none (λ slot o id h. h.there.there)
 
-pub rows_more : {n start S node : ℕ} {r : Row} {rows : List Row} {old mid new : List ℕ} → Over n (From start (RowEntry S node r)) old mid
-    → Over n (From start (RowsEntry S node rows)) mid new → Over n (From start (RowsEntry S node (r ∷ rows))) old new
+pub rows_more : {n start S node : ℕ} {r : Row} {rows : List Row} {old mid new : List ℕ} → Over n (From start (RowsEntry S node rows)) old mid
+    → Over n (From start (RowEntry S node r)) mid new → Over n (From start (RowsEntry S node (rows ++ (r ∷ [])))) old new
 rows_more {start} {S} {node} {r} {rows} a b =
-    over_then a b (λ slot o id h. record { there = record { row = r; there = inl refl; entry = h.there } })
-    (λ slot o id h. record { there = record { row = h.there.row; there = inr h.there.there; entry = h.there.entry } })
-    (λ slot o id h. split slot o id h.there h.there.there)
+    over_then a b (λ slot o id h. record { there = record { row = h.there.row; there = in_left h.there.row rows (r ∷ []) h.there.there; entry = h.there.entry } })
+    (λ slot o id h. record { there = record { row = r; there = in_right r rows (r ∷ []) (inl refl); entry = h.there } })
+    (λ slot o id h. split slot o id h.there (last_or h.there.row r rows h.there.there))
   where
-    split : (slot o id : ℕ) (h : RowsEntry S node (r ∷ rows) (start + slot) o id) → h.row ∈ (r ∷ rows)
-        → Gives (From start (RowEntry S node r)) slot ⊎ Gives (From start (RowsEntry S node rows)) slot
-    split slot o id h (inl e) = inl (o, id, record { there = subst (λ (x : Row). RowEntry S node x (start + slot) o id) e h.entry })
-    split slot o id h (inr m) = inr (o, id, record { there = record { row = h.row; there = m; entry = h.entry } })
+    split : (slot o id : ℕ) (h : RowsEntry S node (rows ++ (r ∷ [])) (start + slot) o id) → h.row ∈ (r ∷ rows)
+        → Gives (From start (RowsEntry S node rows)) slot ⊎ Gives (From start (RowEntry S node r)) slot
+    split slot o id h (inl e) = inr (o, id, record { there = subst (λ (x : Row). RowEntry S node x (start + slot) o id) e h.entry })
+    split slot o id h (inr m) = inl (o, id, record { there = record { row = h.row; there = m; entry = h.entry } })
 
 -- THE TABLE
 -- an entry is the same in the front of a buffer
@@ -239,9 +237,15 @@ module _ (s : List ℕ) (node first tiles : ℕ) where
         }
 
   -- sleep and control slots by the header's plan, and the rows over them in the part of so many tiles from the first on
-  pub filled : {plan : Plan} {at count : ℕ} {old blank new : List ℕ} → plan ≡ plan_of s → at ≡ slots_of plan first → count ≡ slots_of plan tiles
+  pub filled : {plan : Plan} {part : Part} {rows : List Row} {old blank new : List ℕ} → plan ≡ plan_of s
+      → (part.slots.0 ≡ plan.slots) × (part.start.0 ≡ slots_of plan first) × (part.count.0 ≡ slots_of plan tiles) → rows_in s ≡ rows
       → Over (slots_of plan tiles) (From (slots_of plan first) (Idle plan)) old blank
-      → Over count (From at (RowsEntry (plan_of s).slots node (rows_in s))) blank new → 3 * n ≤ length new → Filled s node first tiles old new
-  filled {old} {blank} {new} e f g a b h =
+      → Over part.count.0 (From part.start.0 (RowsEntry part.slots.0 node rows)) blank new → 3 * n ≤ length new → Filled s node first tiles old new
+  filled {plan} {part} {rows} {old} {blank} {new} e p q a b h =
       all_filled (subst (λ (p : Plan). Over (slots_of p tiles) (From (slots_of p first) (Idle p)) old blank) e a)
-      (subst₂ (λ (k m : ℕ). Over k (From m (RowsEntry (plan_of s).slots node (rows_in s))) blank new) (g ∙ ap (λ (p : Plan). slots_of p tiles) e) (f ∙ ap (λ (p : Plan). slots_of p first) e) b) h
+      (subst (λ (p : Plan). Over (slots_of p tiles) (From (slots_of p first) (RowsEntry p.slots node (rows_in s))) blank new) e (
+      subst (λ (rows : List Row). Over (slots_of plan tiles) (From (slots_of plan first) (RowsEntry plan.slots node rows)) blank new) (sym q) (
+      subst (λ (S : ℕ). Over (slots_of plan tiles) (From (slots_of plan first) (RowsEntry S node rows)) blank new) p.0
+      (subst₂ (λ (k m : ℕ). Over k (From m (RowsEntry part.slots.0 node rows)) blank new) p.2 p.1 b)
+      )
+      )) h

@@ -1,4 +1,3 @@
 pub mod Writing
 pub mod NoStreams
 pub mod Hops
-pub mod Walks

@@ -11,10 +11,7 @@ use Rattle.rules.specs.Tiles.{Plan, slots_of, control_slots, Control}
 use Rattle.tables.specs.Entries.{From, Now, Over, Stretch, Idle, ControlBelow}
 use Rattle.tables.specs.Entries.Now.{given, kept}
 use Rattle.tables.specs.Entries.Idle.{sleeps, controls}
-use Rattle.tables.proofs.Writing.{Gives, over_none, over_then}
-
-pub control_none : {plan : Plan} {base n : ℕ} {out : List ℕ} → Over n (ControlBelow plan base 0) out out
-control_none = over_none (λ s o i h. omega (arith, h.below))
+use Rattle.tables.proofs.Writing.{Gives, over_then}
 
 -- a tile more, in a part from the first tile on
 module _ (plan : Plan) (first tile start control : ℕ) (e : start ≡ tile * plan.slots) (f : control ≡ control_slots plan (first + tile)) where
@@ -31,7 +28,7 @@ module _ (plan : Plan) (first tile start control : ℕ) (e : start ≡ tile * pl
     its_control : control_slots plan ((base + (start + place)) / plan.slots) ≡ control
     its_control = ap (control_slots plan) (ap (λ (x : ℕ). x / plan.slots) in_tile ∙ digits_div (first + tile) l) ∙ sym f
 
-  control_tile : {n : ℕ} {old mid new : List ℕ} → control ≤ plan.slots → Over n (ControlBelow plan base start) old mid → Over n (Stretch start 5 control) mid new
+  pub control_tile : {n : ℕ} {old mid new : List ℕ} → control ≤ plan.slots → Over n (ControlBelow plan base start) old mid → Over n (Stretch start 5 control) mid new
       → Over n (ControlBelow plan base (start + plan.slots)) old new
   control_tile few a b =
       over_then a b (λ s o i h. record { below = omega (arith, h.below); control = h.control; operation_is = h.operation_is; id_is = h.id_is }) now back
@@ -56,10 +53,6 @@ module _ (plan : Plan) (first tile start control : ℕ) (e : start ≡ tile * pl
               let m : s - start < plan.slots = omega (arith, h.below) in
               let c = subst (λ (x : ℕ). Control plan (base + x)) q h.control in
               inr (5, 0, record { turn = s - start; within = omega (arith, c, in_place (s - start) m, its_control (s - start) m); slot_is = q; operation_is = refl; id_is = refl })
-
-  pub control_more : {n slots : ℕ} {old mid new : List ℕ} → slots ≡ plan.slots → control ≤ plan.slots → Over n (ControlBelow plan base start) old mid
-      → Over n (Stretch start 5 control) mid new → Over n (ControlBelow plan base (start + slots)) old new
-  control_more {n} {old} {new} g few a b = subst (λ (x : ℕ). Over n (ControlBelow plan base (start + x)) old new) (sym g) (control_tile few a b)
 
 -- all tiles over sleep
 blank_all : {plan : Plan} {base n : ℕ} {old mid new : List ℕ} → Over n (Stretch 0 0 n) old mid → Over n (ControlBelow plan base n) mid new

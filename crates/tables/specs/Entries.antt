@@ -1,12 +1,11 @@
 -- What is written of a part of a table: the entries of some of its slots.
 use Rattle.std.specs.Prelude.{◌≡◌, List, ◌∷◌, ◌++◌, ℕ, suc, ◌+◌, ◌*◌, ◌%◌, ◌<◌, ◌≤◌, length, take, drop}
-use Rattle.rules.specs.Words.{◌∈◌}
-use Rattle.rules.specs.Tiles.{Plan, cycle_slots, Data, Control, Takes}
-use Rattle.rules.specs.Book.{Row, hops, row_offset}
-use Rattle.rules.specs.Image.{word, plan_of}
+use Rattle.rules.specs.Words.{◌∈◌, Distinct}
+use Rattle.rules.specs.Tiles.{Plan, cycle_tiles, Data, Control, Takes, Period}
+use Rattle.rules.specs.Book.{Row, hops, row_offset, Offsets}
+use Rattle.rules.specs.Image.{word}
 use Rattle.rules.specs.Table.{Does, on_way, TablePart}
 use Rattle.rules.proofs.Reading.{book_in}
-use Rattle.image.specs.Places.{row_at}
 use Rattle.operations.specs.Operations.{where_working, StopsAt}
 use Rattle.tables.specs.declared.Part.{Part}
 use Rattle.tables.specs.declared.Stream.{Stream}
@@ -105,32 +104,38 @@ pub record RowsEntry (S node : ℕ) (rows : List Row) (slot operation id : ℕ) 
   pub there : row ∈ rows
   pub entry : RowEntry S node row slot operation id
 
--- a part of the cycle by the image's plan, for which a buffer has room
-pub record PartFits (s : List ℕ) (part : Part) (out : List ℕ) : Type 0 where
-  pub slots_is : part.slots.0 ≡ (plan_of s).slots
-  pub slots_most : (plan_of s).slots ≤ 32
-  pub inside : part.start.0 + part.count.0 ≤ cycle_slots (plan_of s)
+-- what is known of a row of a book whose tiles have S slots: its hops are some, and its nodes distinct
+pub record RowOn (S : ℕ) (r : Row) : Type 0 where
+  pub period : Period r.period
+  pub some : 1 ≤ hops r
+  pub distinct : Distinct r.route
+  pub offsets : Offsets S r.period (hops r) r.offsets
+
+-- a part of the cycle, for which a buffer has room
+pub record PartFits (part : Part) (out : List ℕ) : Type 0 where
+  pub slots_most : part.slots.0 ≤ 32
+  pub inside : part.start.0 + part.count.0 ≤ cycle_tiles * part.slots.0
   pub room : 3 * part.count.0 ≤ length out
 
--- of the row at a place of an image, what the node does by E was written over the part
-abbrev pub InRow : List ℕ → ℕ → Part → ℕ → (ℕ → ℕ → Row → Entries) → List ℕ → List ℕ → Type 0
-InRow s at part node E = Over part.count.0 (From part.start.0 (E (plan_of s).slots node (row_at s at)))
+-- of the row, what the node does by E was written over the part
+abbrev pub InRow : Row → Part → ℕ → (ℕ → ℕ → Row → Entries) → List ℕ → List ℕ → Type 0
+InRow r part node E = Over part.count.0 (From part.start.0 (E part.slots.0 node r))
 
 -- so for any node that does the operation in hop i
-abbrev pub InHop : List ℕ → ℕ → Part → ℕ → ℕ → List ℕ → List ℕ → Type 0
-InHop s at part i operation old new = (node : ℕ) → Does node (row_at s at) i operation → InRow s at part node (HopEntry i) old new
+abbrev pub InHop : Row → Part → ℕ → ℕ → List ℕ → List ℕ → Type 0
+InHop r part i operation old new = (node : ℕ) → Does node r i operation → InRow r part node (HopEntry i) old new
 
 -- and for any that stands at the place of the route
-abbrev pub AtStop : List ℕ → ℕ → Part → ℕ → (ℕ → ℕ → Row → Entries) → List ℕ → List ℕ → Type 0
-AtStop s at part place E old new = (node : ℕ) → StopsAt node (row_at s at) place → InRow s at part node E old new
+abbrev pub AtStop : Row → Part → ℕ → (ℕ → ℕ → Row → Entries) → List ℕ → List ℕ → Type 0
+AtStop r part place E old new = (node : ℕ) → StopsAt node r place → InRow r part node E old new
 
--- the id, the way, the slots of the period and the hops of the row at a place of an image, and how late in the period the part starts
-pub record StreamOf (s : List ℕ) (at : ℕ) (part : Part) (stream : Stream) : Type 0 where
-  pub id_is : stream.id ≡ (row_at s at).id
-  pub way_is : stream.way ≡ (row_at s at).way
-  pub step_is : stream.step.0 ≡ (row_at s at).period * (plan_of s).slots
+-- the id, the way, the slots of the period and the hops of the row, and how late in the period the part starts
+pub record StreamOf (r : Row) (part : Part) (stream : Stream) : Type 0 where
+  pub id_is : stream.id ≡ r.id
+  pub way_is : stream.way ≡ r.way
+  pub step_is : stream.step.0 ≡ r.period * part.slots.0
   pub late_is : stream.late.0 ≡ part.start.0 % stream.step.0
-  pub hops_is : stream.hops ≡ hops (row_at s at)
+  pub hops_is : stream.hops ≡ hops r
 
 -- the part of the node's table was written at the front of the buffer, and nothing else was changed
 pub record Filled (s : List ℕ) (node first tiles : ℕ) (old new : List ℕ) : Type 0 where

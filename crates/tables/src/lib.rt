@@ -11,38 +11,26 @@ ghost use Rattle.rules.specs.Image.{plan_of};
 ghost use Rattle.rules.specs.Table.{table_length};
 ghost use Rattle.rules.specs.Calls.{PartInRange};
 ghost use Rattle.rules.proofs.Reading.{LawfulImage};
-ghost use Rattle.image.specs.Places.{row_at, RowHere};
 ghost use Rattle.image.specs.Header.{HeaderOf};
 ghost use Rattle.operations.specs.Operations.{where_working};
-ghost use Rattle.tables.specs.Entries.{From, Over, Put, Repeated, Stretch, Idle, ToEntry, FromEntry, RowEntry, PartFits, InRow, InHop, AtStop, StreamOf, Filled};
+ghost use Rattle.tables.specs.Entries.{From, Over, Put, Repeated, Stretch, Idle, ToEntry, FromEntry, RowEntry, RowOn, PartFits, InRow, InHop, AtStop, StreamOf, Filled};
 
 use image::Book;
-use operations::Stop;
+use image::row::{Row, Rows};
+use operations::ENTRY;
 use rules::{Node, Plan, Slot, Tile};
-
-// The bytes of an entry: an operation and an id.
-const ENTRY: usize = 3;
 
 // At most 100 tiles are expanded in one call.
 const MOST_TILES: u16 = 100;
-
-// A count as a length.
-fn wide(x: u16) -> usize
-    ensures { (result ≡ x) × (result < 65536) }
-{
-    x as usize
-}
 
 // Writes the entry of a slot.
 fn put(out: &mut [u8], slot: usize, operation: u8, id: u16)
     requires { 3 * slot + 3 ≤ length out.old }
     ensures { Put slot operation id out.old out.new }
 {
-    let stream = operations::where_working(operation, id);
+    let [high, low] = operations::where_working(operation, id).to_be_bytes();
     let at = ENTRY * slot;
-    out[at] = operation;
-    out[at + 1] = (stream / 256) as u8;
-    out[at + 2] = (stream % 256) as u8;
+    out[at..at + ENTRY].copy_from_slice(&[operation, high, low]);
 }
 
 // Writes the entry at a place and at every step from there on, below the end.
@@ -50,11 +38,8 @@ fn repeat(out: &mut [u8], place: usize, step: Slot, end: usize, operation: u8, i
     requires { (0 < step.0) × (3 * end ≤ length out.old) }
     ensures { Over end (Repeated place step.0 operation (where_working operation id)) out.old out.new }
 {
-    let by = wide(step.0);
-    let mut slot = place;
-    while slot < end {
+    for slot in (place..end).step_by(usize::from(step.0)) {
         put(out, slot, operation, id);
-        slot += by;
     }
 }
 
@@ -63,10 +48,8 @@ fn stretch(out: &mut [u8], start: usize, slots: usize, operation: u8)
     requires { 3 * (start + slots) ≤ length out.old }
     ensures { (n : ℕ) → start + slots ≤ n → Over n (Stretch start operation slots) out.old out.new }
 {
-    let mut place = 0;
-    while place < slots {
+    for place in 0..slots {
         put(out, start + place, operation, 0);
-        place += 1;
     }
 }
 
@@ -75,15 +58,12 @@ fn blank(plan: Plan, first: Tile, tiles: Tile, out: &mut [u8])
     requires { PlanInRange (the_plan plan) × (first.0 + tiles.0 ≤ cycle_tiles) × (table_length (the_plan plan) tiles.0 ≤ length out.old) }
     ensures { Over (slots_of (the_plan plan) tiles.0) (From (slots_of (the_plan plan) first.0) (Idle (the_plan plan))) out.old out.new }
 {
-    let slots = wide(plan.slots.0);
-    stretch(out, 0, wide(tiles.0) * slots, operations::SLEEP);
-    let mut start: usize = 0;
-    let mut tile: u16 = 0;
-    while tile < tiles.0 {
+    let slots = usize::from(plan.slots.0);
+    stretch(out, 0, usize::from(tiles.0) * slots, operations::SLEEP);
+    for tile in 0..tiles.0 {
+        let start = usize::from(tile) * slots;
         let control = rules::control_slots(plan, Tile(first.0 + tile));
-        stretch(out, start, wide(control.0), operations::CONTROL);
-        start += slots;
-        tile += 1;
+        stretch(out, start, usize::from(control.0), operations::CONTROL);
     }
 }
 
@@ -105,19 +85,18 @@ struct Stream {
     pub hops: usize,
 }
 
-// The stream of the row at a place.
-fn stream_at(image: &[u8], at: usize, part: Part) -> Stream
-    requires { RowHere image.now at × (part.slots.0 ≡ (plan_of image.now).slots) × (part.slots.0 ≤ 32) }
-    ensures { StreamOf image.now at part result }
+// The stream of a row.
+fn stream_of(row: &Row<'_>, part: Part) -> Stream
+    requires { RowOn part.slots.0 row.now × (part.slots.0 ≤ 32) }
+    ensures { StreamOf row.now part result }
 {
-    let period = image::period_at(image, at);
-    let step = period.0 * part.slots.0;
+    let step = row.period().0 * part.slots.0;
     Stream {
-        id: image::id_at(image, at),
-        way: image::way_at(image, at),
+        id: row.id(),
+        way: row.way(),
         step: Slot(step),
         late: Slot(part.start.0 % step),
-        hops: image::hops_at(image, at),
+        hops: row.hops(),
     }
 }
 
@@ -126,74 +105,70 @@ fn next_turn(offset: Slot, late: Slot, step: Slot) -> Slot
     requires { (offset.0 < step.0) × (late.0 < step.0) }
     ensures { (result.0 < step.0) × ((late.0 + result.0) % step.0 ≡ offset.0) }
 {
-    if late.0 <= offset.0 {
+    if late <= offset {
         Slot(offset.0 - late.0)
     } else {
         Slot(offset.0 + (step.0 - late.0))
     }
 }
 
-// Writes an operation, as it is on the row's way, in the slots of hop i of the row at a place.
-fn hop(image: &[u8], at: usize, part: Part, stream: Stream, i: usize, operation: u8, out: &mut [u8])
-    requires row_here { RowHere image.now at × PartFits image.now part out.old × StreamOf image.now at part stream }
+// Writes an operation, as it is on the row's way, in the slots of hop i of a row.
+fn hop(row: &Row<'_>, part: Part, stream: Stream, i: usize, operation: u8, out: &mut [u8])
+    requires row_on { RowOn part.slots.0 row.now × PartFits part out.old × StreamOf row.now part stream }
     requires i_lt_hops { (i < stream.hops) × (operation ≤ 4) }
-    ensures { InHop image.now at part i operation out.old out.new }
+    ensures { InHop row.now part i operation out.old out.new }
 {
-    let offset = image::offset_at(image, at, i);
-    let place = next_turn(offset, stream.late, stream.step);
+    let place = next_turn(row.offset(i), stream.late, stream.step);
     let written = operations::on_way(stream.way, operation);
     repeat(
         out,
-        wide(place.0),
+        usize::from(place.0),
         stream.step,
-        wide(part.count.0),
+        usize::from(part.count.0),
         written,
         stream.id,
     );
 }
 
 // Writes what the node at a place of the route does in the hop that leads there.
-fn arrive(image: &[u8], at: usize, part: Part, stream: Stream, place: usize, out: &mut [u8])
-    requires row_here { RowHere image.now at × PartFits image.now part out.old × StreamOf image.now at part stream }
+fn arrive(row: &Row<'_>, part: Part, stream: Stream, place: usize, out: &mut [u8])
+    requires row_on { RowOn part.slots.0 row.now × PartFits part out.old × StreamOf row.now part stream }
     requires place_le_hops { place ≤ stream.hops }
-    ensures { AtStop image.now at part place (ToEntry place) out.old out.new }
+    ensures { AtStop row.now part place (ToEntry place) out.old out.new }
 {
     if 0 < place {
         let operation = operations::arriving(place, stream.hops);
-        hop(image, at, part, stream, place - 1, operation, out);
+        hop(row, part, stream, place - 1, operation, out);
     }
 }
 
 // Writes what it does in the hop that leads on.
-fn leave(image: &[u8], at: usize, part: Part, stream: Stream, place: usize, out: &mut [u8])
-    requires { RowHere image.now at × PartFits image.now part out.old × StreamOf image.now at part stream }
-    ensures { AtStop image.now at part place (FromEntry place) out.old out.new }
+fn leave(row: &Row<'_>, part: Part, stream: Stream, place: usize, out: &mut [u8])
+    requires { RowOn part.slots.0 row.now × PartFits part out.old × StreamOf row.now part stream }
+    ensures { AtStop row.now part place (FromEntry place) out.old out.new }
 {
     if place < stream.hops {
-        let operation = operations::leaving(place);
-        hop(image, at, part, stream, place, operation, out);
+        hop(row, part, stream, place, operations::leaving(place), out);
     }
 }
 
-// Writes the entries of a node that stands at a place of the route of the row.
-fn visit(image: &[u8], at: usize, part: Part, place: usize, out: &mut [u8])
-    requires { RowHere image.now at × PartFits image.now part out.old × (place ≤ hops (row_at image.now at)) }
-    ensures { AtStop image.now at part place RowEntry out.old out.new }
+// Writes the entries of a node that stands at a place of the route of a row.
+fn visit(row: &Row<'_>, part: Part, place: usize, out: &mut [u8])
+    requires { RowOn part.slots.0 row.now × PartFits part out.old × (place ≤ hops row.now) }
+    ensures { AtStop row.now part place RowEntry out.old out.new }
 {
-    let stream = stream_at(image, at, part);
-    arrive(image, at, part, stream, place, out);
-    leave(image, at, part, stream, place, out);
+    let stream = stream_of(row, part);
+    arrive(row, part, stream, place, out);
+    leave(row, part, stream, place, out);
 }
 
-// Writes the node's entries in the row at a place.
-fn row(image: &[u8], at: usize, part: Part, node: Node, out: &mut [u8])
-    requires { RowHere image.now at × PartFits image.now part out.old }
-    ensures { InRow image.now at part node.0 RowEntry out.old out.new }
+// Writes the node's entries in a row.
+fn put_row(row: &Row<'_>, part: Part, node: Node, out: &mut [u8])
+    requires { RowOn part.slots.0 row.now × PartFits part out.old }
+    ensures { InRow row.now part node.0 RowEntry out.old out.new }
 {
-    let stop = operations::stop_of(image, at, node);
-    match stop {
-        Stop::At(place) => visit(image, at, part, place, out),
-        Stop::Nowhere => {}
+    if let Some(place) = operations::stop_of(row, node) {
+        visit(row, part, place, out);
     }
 }
 
@@ -214,13 +189,7 @@ fn part_of(plan: Plan, first: Tile, tiles: Tile) -> Part
 pub fn part_in_range(first: Tile, tiles: Tile) -> bool
     ensures { Tests result (PartInRange first.0 tiles.0) }
 {
-    if tiles.0 < 1 {
-        return false;
-    }
-    if MOST_TILES < tiles.0 {
-        return false;
-    }
-    first.0 <= rules::CYCLE - tiles.0
+    (1..=MOST_TILES).contains(&tiles.0) && first.0 <= rules::CYCLE - tiles.0
 }
 
 // How long a table of so many tiles is.
@@ -228,7 +197,7 @@ pub fn table_length(plan: Plan, tiles: Tile) -> usize
     requires { PlanInRange (the_plan plan) }
     ensures { result ≡ table_length (the_plan plan) tiles.0 }
 {
-    ENTRY * (wide(tiles.0) * wide(plan.slots.0))
+    ENTRY * (usize::from(tiles.0) * usize::from(plan.slots.0))
 }
 
 // Writes a part of the node's table: its entry in every slot of so many tiles from the first on.
@@ -239,11 +208,7 @@ pub fn fill(image: &[u8], book: Book, node: Node, first: Tile, tiles: Tile, out:
 {
     blank(book.plan, first, tiles, out);
     let part = part_of(book.plan, first, tiles);
-    let mut at = book.rows_start();
-    let mut left = book.streams;
-    while 0 < left {
-        row(image, at, part, node, out);
-        at = image::next(image, at);
-        left -= 1;
+    for row in Rows::of(image, book) {
+        put_row(&row, part, node, out);
     }
 }

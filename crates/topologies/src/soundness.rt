@@ -15,12 +15,10 @@ fn row_sound(rows: &[u64], node: usize, rest: u64) -> bool
         return false;
     }
     let mut left = rest;
+    // No index is counted: each turn takes the lowest member out.
     while left != 0 {
         let other = bitset::lowest(left);
-        if rows.len() <= other {
-            return false;
-        }
-        if !bitset::has(rows[other], node) {
+        if rows.len() <= other || !bitset::has(rows[other], node) {
             return false;
         }
         left = bitset::remove_lowest(left);
@@ -33,12 +31,10 @@ fn sound(rows: &[u64]) -> bool
     requires { NodesInRange (length rows.now) }
     ensures { Tests result (SoundTopology (topology rows.now)) }
 {
-    let mut node = 0;
-    while node < rows.len() {
+    for node in 0..rows.len() {
         if !row_sound(rows, node, rows[node]) {
             return false;
         }
-        node += 1;
     }
     true
 }
@@ -48,29 +44,29 @@ fn heard(links: &[u64], hearing: &[u64]) -> bool
     requires { length hearing.now ≡ length links.now }
     ensures { Tests result (Heard (topology links.now) (topology hearing.now)) }
 {
-    let mut node = 0;
-    while node < links.len() {
+    for node in 0..links.len() {
         if bitset::difference(links[node], hearing[node]) != 0 {
             return false;
         }
-        node += 1;
     }
     true
 }
 
 // Whether every row of the hearing is sound, where the links are, and are heard: they are not asked about again.
+// It has its own loop: in one with `sound` what is left of a row would be a closure with a contract, which is no plainer.
 fn rest_sound(links: &[u64], hearing: &[u64]) -> bool
     requires { NodesInRange (length links.now) × (length hearing.now ≡ length links.now) × SoundTopology (topology links.now)
         × Heard (topology links.now) (topology hearing.now) }
     ensures { Tests result (SoundTopology (topology hearing.now)) }
 {
-    let mut node = 0;
-    while node < hearing.len() {
-        let rest = bitset::difference(hearing[node], links[node]);
-        if !row_sound(hearing, node, rest) {
+    for node in 0..hearing.len() {
+        if !row_sound(
+            hearing,
+            node,
+            bitset::difference(hearing[node], links[node]),
+        ) {
             return false;
         }
-        node += 1;
     }
     true
 }
@@ -80,13 +76,7 @@ pub fn both_sound(links: &[u64], hearing: &[u64]) -> bool
     requires { NodesInRange (length links.now) × (length hearing.now ≡ length links.now) }
     ensures { Tests result (SoundTopologies (topology links.now) (topology hearing.now)) }
 {
-    if !sound(links) {
-        return false;
-    }
-    if !heard(links, hearing) {
-        return false;
-    }
-    rest_sound(links, hearing)
+    sound(links) && heard(links, hearing) && rest_sound(links, hearing)
 }
 
 // Whether the topologies of a book of so many nodes, given as they stand in an image, are whole and sound.
@@ -95,10 +85,7 @@ pub fn given(n: usize, links: &[u8], hearing: &[u8]) -> bool
     ensures { Tests result (TopologiesGiven n links.now hearing.now) }
 {
     let whole = image::SET * n;
-    if links.len() != whole {
-        return false;
-    }
-    if hearing.len() != whole {
+    if links.len() != whole || hearing.len() != whole {
         return false;
     }
     let linked = crate::sets(links, 0, n);

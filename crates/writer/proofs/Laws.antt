@@ -9,11 +9,11 @@ use lib.ListN.{length, get_or, set, take, drop, length-append, length-drop}
 use lib.Seq.{take_at, drop_at, take-suc, take-add, take-take, take-append-le, drop-append-add, drop-drop, length-take-le, append_snoc, paste-zero, set_split}
 use Rattle.rules.specs.Topology.{most_route_hops}
 use Rattle.rules.specs.Tiles.{Plan}
-use Rattle.rules.specs.Records.{the_route, the_offsets}
-use Rattle.rules.specs.declared.{Route.Route, Placed.Placed}
+use Rattle.rules.specs.Records.{the_offsets}
+use Rattle.rules.specs.declared.{Placed.Placed}
 use Rattle.rules.specs.Image.{newest, header_length, mark, word, in_turn, encode_header, encode_row}
 use Rattle.rules.proofs.Encoding.{length_words}
-use Rattle.rules.proofs.Records.{node_at_lem, route_length, offset_at, offsets_length}
+use Rattle.rules.proofs.Records.{offset_at, offsets_length}
 use Rattle.image.specs.Places.{Laid}
 use Rattle.writer.specs.Over.{over, headed}
 
@@ -42,20 +42,6 @@ over_nil d at = paste-zero d at []
 pub over_one : (d : List ℕ) (at x : ℕ) → at < length d → set d at x ≡ over d at (x ∷ [])
 unfolding over
 over_one d at x h = rw (set_split d at x h, add-one) (sym (append_snoc (take at d) x (drop (suc at) d)))
-
--- a turn of a copy
-pub copy_turn : (d s o : List ℕ) (at i : ℕ) → i < length s → at + length s ≤ length d → o ≡ over d at (take i s) → length o ≡ length d
-    → set o (at + i) (get_or s i 0) ≡ over d at (take (i + 1) s)
-copy_turn d s o at i h l e n =
-    let k : at + i ≡ at + length (take i s) = rw (length-take-le i s (omega arith)) in
-    rw (over_one o (at + i) (get_or s i 0) (omega arith), e, over_over d (take i s) (get_or s i 0 ∷ []) at (at + i) (omega arith) k, add-one, take-suc s i 0 h)
-
--- a turn of a route
-pub nodes_turn : (d o : List ℕ) (r : Route) (at i : ℕ) → length r.nodes ≡ most_route_hops + 1 → r.hops ≤ most_route_hops → i ≤ r.hops → at + (r.hops + 1) ≤ length d
-    → o ≡ over d at (take i (the_route r)) → length o ≡ length d → set o (at + i) (get_or r.nodes i (record { 0 = 0 })).0 ≡ over d at (take (i + 1) (the_route r))
-nodes_turn d o r at i size few h l e n =
-    let long = route_length r few size in
-    ap (set o (at + i)) (sym (node_at_lem r i h)) ∙ copy_turn d (the_route r) o at i (omega arith) (omega arith) e n
 
 words_append : (x y : List ℕ) → in_turn word (x ++ y) ≡ in_turn word x ++ in_turn word y
 words_append [] y = refl

@@ -15,15 +15,12 @@ pub mod transcribing;
 use rules::{Placed, Plan, Route, Tile};
 
 // The bytes of a part, from the place on.
+#[tactic(auto, unfolding(crate::specs::Over::over))]
 pub fn put_part(part: &[u8], out: &mut [u8], at: usize)
     requires { at + length part.now ≤ length out.old }
     ensures { out.new ≡ over out.old at part.now }
 {
-    let mut i: usize = 0;
-    while i < part.len() {
-        out[at + i] = part[i];
-        i += 1;
-    }
+    out[at..at + part.len()].copy_from_slice(part);
 }
 
 // One byte.
@@ -39,8 +36,7 @@ pub fn put_word(out: &mut [u8], at: usize, x: u16)
     requires { at + 2 ≤ length out.old }
     ensures { out.new ≡ over out.old at (word x) }
 {
-    put(out, at, (x / 256) as u8);
-    put(out, at + 1, (x % 256) as u8);
+    put_part(&x.to_be_bytes(), out, at);
 }
 
 // The nodes of a route, in a byte each.
@@ -48,12 +44,8 @@ fn put_route(route: Route, out: &mut [u8], at: usize)
     requires { (route.hops ≤ most_route_hops) × (at + (route.hops + 1) ≤ length out.old) }
     ensures { out.new ≡ over out.old at (the_route route) }
 {
-    let nodes = route.nodes;
-    let mut i: usize = 0;
-    while i <= route.hops {
-        out[at + i] = nodes[i].0;
-        i += 1;
-    }
+    let nodes = route.nodes.map(|node| node.0);
+    put_part(&nodes[..=route.hops], out, at);
 }
 
 // The offsets of its hops, in 2 bytes each.
@@ -61,11 +53,8 @@ fn put_offsets(placed: Placed, out: &mut [u8], at: usize)
     requires { (placed.route.hops ≤ most_route_hops) × (at + 2 * placed.route.hops ≤ length out.old) }
     ensures { out.new ≡ over out.old at (in_turn word (the_offsets placed)) }
 {
-    let offsets = placed.offsets;
-    let mut i: usize = 0;
-    while i < placed.route.hops {
-        put_word(out, at + 2 * i, offsets[i].0);
-        i += 1;
+    for i in 0..placed.route.hops {
+        put_word(out, at + 2 * i, placed.offsets[i].0);
     }
 }
 
@@ -114,14 +103,15 @@ fn fields(plan: Plan, nodes: u8) -> [u8; 13]
     requires { PlanInRange (the_plan plan) }
     ensures { result ≡ drop 3 (encode_header newest (the_plan plan) nodes 0 0) }
 {
-    let kinds = plan.kinds;
+    let version = image::NEWEST.to_be_bytes();
+    let kinds = plan.kinds.to_be_bytes();
     [
-        (image::NEWEST / 256) as u8,
-        (image::NEWEST % 256) as u8,
+        version[0],
+        version[1],
         plan.slots.0 as u8,
         plan.tiles.0 as u8,
-        (kinds / 256) as u8,
-        (kinds % 256) as u8,
+        kinds[0],
+        kinds[1],
         plan.down.0 as u8,
         plan.up.0 as u8,
         nodes,

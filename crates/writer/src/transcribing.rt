@@ -4,11 +4,11 @@ ghost use Rattle.rules.specs.Book.{hops};
 ghost use Rattle.rules.specs.Image.{newest, header_length, row_length, longest_image, encode_accounts, encode_row, accounts_of};
 ghost use Rattle.rules.proofs.Reading.{book_in, LawfulImage};
 ghost use Rattle.image.specs.Header.{HeaderOf};
-ghost use Rattle.image.specs.Places.{row_at, Whole};
 ghost use Rattle.writer.specs.Over.{over};
 ghost use Rattle.writer.specs.transcribing.Again.{renewed, front, Put, Transcribed};
 
 use image::Book;
+use image::row::{Row, Rows};
 
 // The account list of older books: one account, number 0, that has bought the largest 32-bit number.
 const OLD_LIST: [u8; 7] = [1, 0, 0, 255, 255, 255, 255];
@@ -18,9 +18,8 @@ fn put_front(image: &[u8], out: &mut [u8])
     requires { (header_length ≤ length image.now) × (header_length ≤ length out.old) }
     ensures { out.new ≡ over out.old 0 (renewed image.now) }
 {
-    let mark = image::MARK;
-    crate::put_part(&mark, out, 0);
-    let version_at = mark.len();
+    crate::put_part(&image::MARK, out, 0);
+    let version_at = image::MARK.len();
     crate::put_word(out, version_at, image::NEWEST);
     let plan_at = version_at + 2;
     crate::put_part(&image[plan_at..image::HEADER], out, plan_at);
@@ -33,9 +32,8 @@ fn put_list(image: &[u8], book: Book, out: &mut [u8]) -> usize
 {
     let links = book.links_place();
     if links <= image::HEADER {
-        let old = OLD_LIST;
-        crate::put_part(&old, out, image::HEADER);
-        return image::HEADER + old.len();
+        crate::put_part(&OLD_LIST, out, image::HEADER);
+        return image::HEADER + OLD_LIST.len();
     }
     crate::put_part(&image[image::HEADER..links], out, image::HEADER);
     links
@@ -56,22 +54,21 @@ fn put_site(image: &[u8], book: Book, out: &mut [u8]) -> usize
     links_at + size + size
 }
 
-// The row at a place of an image, as the newest version has it: its id, its way, its period, the rest as it stands, and its account. The place after it.
-fn put_again(image: &[u8], at: usize, out: &mut [u8], to: usize) -> usize
-    requires { Whole image.now at × (to + (row_length newest + 3 * hops (row_at image.now at)) ≤ length out.old) }
-    ensures { Put (encode_row newest (row_at image.now at)) out.old to result out.new }
+// A row, as the newest version has it: its id, its way, its period, its hops as they stand, and its account. The place after it.
+fn put_again(row: &Row<'_>, out: &mut [u8], to: usize) -> usize
+    requires { to + (row_length newest + 3 * hops row.now) ≤ length out.old }
+    ensures { Put (encode_row newest row.now) out.old to result out.new }
 {
-    crate::put_word(out, to, image::id_at(image, at));
+    crate::put_word(out, to, row.id());
     let way_at = to + 2;
-    crate::put(out, way_at, image::way_at(image, at));
+    crate::put(out, way_at, row.way());
     let period_at = way_at + 1;
-    crate::put_word(out, period_at, image::period_at(image, at).0);
-    let rest_at = period_at + 2;
-    let rest = at + image::hops_place_in(image);
-    let size = 2 + image::HOP * image::hops_at(image, at);
-    crate::put_part(&image[rest..rest + size], out, rest_at);
-    let account_at = rest_at + size;
-    crate::put_word(out, account_at, image::account_at(image, at));
+    crate::put_word(out, period_at, row.period().0);
+    let hops_at = period_at + 2;
+    let bytes = row.hop_bytes();
+    crate::put_part(bytes, out, hops_at);
+    let account_at = hops_at + bytes.len();
+    crate::put_word(out, account_at, row.account());
     account_at + 2
 }
 
@@ -85,13 +82,9 @@ pub fn transcribe(image: &[u8], out: &mut [u8; Book::LONGEST]) -> usize
         crate::put_part(image, out, 0);
         return image.len();
     }
-    let mut at = book.rows_start();
     let mut to = put_site(image, book, out);
-    let mut left = book.streams;
-    while 0 < left {
-        to = put_again(image, at, out, to);
-        at = image::next(image, at);
-        left -= 1;
+    for row in Rows::of(image, book) {
+        to = put_again(&row, out, to);
     }
     to
 }

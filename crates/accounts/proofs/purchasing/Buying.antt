@@ -1,20 +1,19 @@
 -- A purchase is refused by its number, or writes the image of the book with the account raised.
-use mathlib.Core.Path.{◌≡◌, refl, sym, ap, ◌∙◌}
+use mathlib.Core.Path.{◌≡◌, refl, sym, ap, ◌∙◌, subst}
+use Rattle.std.specs.Prelude.{Option, Some, None}
+use Rattle.std.specs.Option.{SomeIff}
 use mathlib.Core.List.{List, ◌++◌}
 use Prim.Native.Nat.{ℕ, ◌+◌, ◌*◌, ◌<◌, ◌≤◌}
 use native.Mathlib.Omega.{arith}
-use lib.ListN.{length, take, length-append}
+use lib.ListN.{length, take, get_or, length-append}
 use lib.Seq.{length-take-le}
 use Rattle.rules.specs.Words.{FourBytes}
 use Rattle.rules.specs.Book.{Account, KnownAccount}
 use Rattle.rules.specs.Image.{newest, header_length, word32, encode, accounts_of}
 use Rattle.rules.specs.Calls.{purchased}
 use Rattle.rules.proofs.Reading.{book_in, LawfulImage}
-use Rattle.image.specs.Header.{HeaderOf}
-use Rattle.image.specs.declared.Book as head
-use Rattle.accounts.specs.Lists.{PlaceOf, ListRead, HasBought}
-use Rattle.accounts.proofs.Places.{place_known}
-use Rattle.accounts.proofs.Sums.{stored_list}
+use Rattle.accounts.specs.Lists.{boughts, StandsAt, HasBought}
+use Rattle.accounts.proofs.Places.{known_there, bought_here}
 use Rattle.writer.specs.Over.{over}
 use Rattle.writer.proofs.Laws.{over_front}
 use Rattle.writer.specs.transcribing.Again.{Transcribed}
@@ -22,14 +21,10 @@ use Rattle.rules.proofs.answers.Replies.{reply_refused, reply_next, reply_done}
 use Rattle.accounts.specs.purchasing.Buying.{Buys}
 use Rattle.accounts.proofs.purchasing.Raising.{Around, around, front_bytes, rest_bytes, front_place, image_before, image_after, inside}
 
--- the accounts of a lawful image were read with its header
-pub list_read : {s : List ℕ} {b : head.Book} → LawfulImage s → HeaderOf s b → ListRead s b
-list_read h hd = record { header = hd; inside = stored_list h; range = h.lawful.site.accounts }
-
-module _ {s : List ℕ} (h : LawfulImage s) (n amount : ℕ) (known : KnownAccount (accounts_of s) n) {i : ℕ} (at : PlaceOf (accounts_of s) n i) where
+module _ {s : List ℕ} (h : LawfulImage s) (n amount : ℕ) {i : ℕ} (at : StandsAt (accounts_of s) n i) where
   -- the bytes before what the account has bought, and those behind
   parts : Around n amount (accounts_of s) i
-  parts = let l = place_known at known in around n amount (accounts_of s) h.lawful.site.accounts.rising i l (at.named l)
+  parts = around n amount (accounts_of s) h.lawful.site.accounts.rising i at.here at.named
 
   front : List ℕ
   front = front_bytes n amount (book_in s) i parts
@@ -72,34 +67,47 @@ module _ {s : List ℕ} (h : LawfulImage s) (n amount : ℕ) (known : KnownAccou
           (p ∙ ap (over out 0) (again.bytes ∙ image_is)) q
           ∙ ap (over out 0) (sym (raised_is has e))
 
--- whether it is past 32 bits
-module _ {accounts : List Account} {n bought sum : ℕ} (amount : ℕ) (has : HasBought accounts n bought) (e : sum ≡ bought + amount) where
-  past : KnownAccount accounts n → (FourBytes sum → ⊥) → (known : KnownAccount accounts n) × (FourBytes (known.account.bought + amount) → ⊥)
-  past k l = (k, λ f. l (omega (arith, f, e, has k.account k.there k.named)))
+-- a sum that is none, and one that is some
+pub no_sum : {o : Option ℕ} {P : Type 0} (v : ℕ) → SomeIff o P v → o ≡ None → P → ⊥
+no_sum {P = P} v h e = subst (λ (o : Option ℕ). SomeIff o P v) e h
 
-  not_past : FourBytes sum → ((known : KnownAccount accounts n) × (FourBytes (known.account.bought + amount) → ⊥)) → ⊥
-  not_past l (k, over) = over (omega (arith, l, e, has k.account k.there k.named))
+pub a_sum : {o : Option ℕ} {P : Type 0} (v : ℕ) {x : ℕ} → SomeIff o P v → o ≡ Some x → P × (x ≡ v)
+a_sum {P = P} v h e = subst (λ (o : Option ℕ). SomeIff o P v) e h
+
+-- whether it is past 32 bits
+module _ {accounts : List Account} {n bought : ℕ} (amount : ℕ) (has : HasBought accounts n bought) where
+  past : KnownAccount accounts n → (FourBytes (bought + amount) → ⊥) → (known : KnownAccount accounts n) × (FourBytes (known.account.bought + amount) → ⊥)
+  past k l = (k, λ f. l (omega (arith, f, has k.account k.there k.named)))
+
+  not_past : FourBytes (bought + amount) → ((known : KnownAccount accounts n) × (FourBytes (known.account.bought + amount) → ⊥)) → ⊥
+  not_past l (k, over) = over (omega (arith, l, has k.account k.there k.named))
 
 -- 22, 24, 12
-module _ {s : List ℕ} (h : LawfulImage s) (n amount : ℕ) (out : List ℕ) {number len : ℕ} where
-  pub buys_unknown : (KnownAccount (accounts_of s) n → ⊥) → number ≡ 22 → len ≡ 0 → Buys s n amount out number len out
-  buys_unknown f a b = reply_refused f (λ z. omega arith) a b
+module _ {s : List ℕ} (h : LawfulImage s) (n amount : ℕ) (out : List ℕ) where
+  module _ {i bought : ℕ} (at : StandsAt (accounts_of s) n i) (e : bought ≡ get_or (boughts (accounts_of s)) i 0) where
+    known : KnownAccount (accounts_of s) n
+    known = known_there at
 
-  module _ (known : KnownAccount (accounts_of s) n) {bought sum : ℕ} (has : HasBought (accounts_of s) n bought) (e : sum ≡ bought + amount) where
-    pub buys_past : (FourBytes sum → ⊥) → number ≡ 24 → len ≡ 0 → Buys s n amount out number len out
-    buys_past l a b = reply_next (λ f. f known) (reply_refused (past amount has e known l) (λ z. omega arith) a b)
+    has : HasBought (accounts_of s) n bought
+    has = bought_here h.lawful.site.accounts.rising at e
 
-    module _ (few : FourBytes sum) {i : ℕ} (at : PlaceOf (accounts_of s) n i) {size : ℕ} {work : List ℕ} (again : Transcribed s size work) where
-      pub buys_short : length out < size → number ≡ 12 → len ≡ 0 → Buys s n amount out number len out
-      buys_short l a b =
+    pub buys_past : (FourBytes (bought + amount) → ⊥) → Buys s n amount out 24 0 out
+    buys_past l = reply_next (λ f. f known) (reply_refused (past amount has known l) (λ z. omega arith) refl refl)
+
+    module _ {sum : ℕ} (total : sum ≡ bought + amount) (few : FourBytes sum) {size : ℕ} {work : List ℕ} (again : Transcribed s size work) where
+      under : FourBytes (bought + amount)
+      under = omega (arith, few, total)
+
+      pub buys_short : length out < size → Buys s n amount out 12 0 out
+      buys_short l =
           reply_next (λ f. f known)
-          (reply_next (not_past amount has e few) (reply_refused (omega (arith, l, size_raised h n amount known at again has e)) (λ z. omega arith) a b))
+          (reply_next (not_past amount has under) (reply_refused (omega (arith, l, size_raised h n amount at again has total)) (λ z. omega arith) refl refl))
 
       -- or the book with the account raised
       pub buys_done : (o₁ o₂ : List ℕ) → size ≤ length out → o₁ ≡ over out 0 (take size work) → o₂ ≡ over o₁ (header_length + 1 + 6 * i + 2) (word32 sum)
-          → number ≡ 0 → len ≡ size → Buys s n amount out number len o₂
-      buys_done o₁ o₂ l p q a b =
+          → Buys s n amount out 0 size o₂
+      buys_done o₁ o₂ l p q =
           let bytes : List ℕ = encode newest (purchased n amount (book_in s)) in
-          let long = size_raised h n amount known at again has e in
-          reply_next (λ f. f known) (reply_next (not_past amount has e few) (reply_next (λ k. omega (arith, l, k, long))
-          (reply_done bytes refl a (b ∙ long) (written h n amount known at again has e out o₁ o₂ p q ∙ over_front out bytes))))
+          let long = size_raised h n amount at again has total in
+          reply_next (λ f. f known) (reply_next (not_past amount has under) (reply_next (λ k. omega (arith, l, k, long))
+          (reply_done bytes refl refl long (written h n amount at again has total out o₁ o₂ p q ∙ over_front out bytes))))

@@ -7,7 +7,7 @@ use native.Mathlib.Omega.{arith}
 use lib.ListN.{length}
 use Rattle.rules.specs.Words.{◌∈◌, With}
 use Rattle.rules.specs.Book.{Row, Book, hops, hops_in_all, key, RisingByKey, LawfulBook}
-use Rattle.rules.specs.Image.{row_length, in_turn, encode_row, version_of, site_of}
+use Rattle.rules.specs.Image.{row_length, in_turn, encode_row, version_of, plan_of, site_of}
 use Rattle.rules.proofs.Encoding.{AllSized, length_rows, lawful_sized}
 use Rattle.rules.proofs.Lists.{with_in, with_this, with_other, with_less, with_alone, in_left}
 use Rattle.rules.proofs.Reading.{rows_in, book_in}
@@ -67,7 +67,7 @@ module _ {s : List ℕ} {id at : ℕ} (t : Taken s id at) where
   all_known : (x : Row) → x ∈ (t.stands.before ++ (first ∷ rows_from s behind to)) → x ∈ rows_in s
   all_known x m = subst (λ (rows : List Row). x ∈ rows) (sym all_split) m
 
-  first_out : {u v : List ℕ} → Beside (site_of s) (rows_in s) u → RowOut s at u v → Beside (site_of s) (t.stands.before ++ rows_from s behind to) v
+  first_out : {u v : List ℕ} → Beside (site_of s) (rows_in s) u → RowOut (plan_of s).slots first u v → Beside (site_of s) (t.stands.before ++ rows_from s behind to) v
   first_out {u} w a =
       row_out {b = book_in s} t.stands.stored.lawful (with_middle first t.stands.before (rows_from s behind to)) all_rise all_known
       (subst (λ (rows : List Row). Beside (site_of s) rows u) all_split w) a
@@ -97,7 +97,7 @@ module _ {s : List ℕ} {id at : ℕ} (t : Taken s id at) where
       sized : AllSized (version_of s) gone
       sized r m = lawful_sized (rest_lawful t.more t.stands r (subst (λ (rows : List Row). r ∈ rows) (sym split) (in_left r gone rest m)))
 
-  module _ {u v : List ℕ} (w : Beside (site_of s) (rows_in s) u) (a : RowOut s at u v) where
+  module _ {u v : List ℕ} (w : Beside (site_of s) (rows_in s) u) (a : RowOut (plan_of s).slots first u v) where
     -- ONE ROW
     alone : (g : Gone) → g.rows ≡ 1 → g.hops ≡ hops first → g.next ≡ to → ((r : Row) → r ∈ rows_from s behind to → id < r.id) → GoneAt s id at v g
     alone g n h e above =
@@ -130,15 +130,15 @@ module _ {s : List ℕ} {id at : ℕ} (t : Taken s id at) where
           higher = omega (arith, above_first, t.named, other, (rest_lawful more on second (inl refl)).way_most)
 
       -- TWO ROWS
-      second_out : {next : ℕ} {z : List ℕ} → next ≡ to → RowOut s next v z → Beside (site_of s) (t.stands.before ++ rows_from s (behind - 1) (next_at s to)) z
+      second_out : {next : ℕ} {z : List ℕ} → next ≡ to → RowOut (plan_of s).slots (row_at s next) v z → Beside (site_of s) (t.stands.before ++ rows_from s (behind - 1) (next_at s to)) z
       second_out {z = z} e b =
           let p = with_middle first t.stands.before (rows_from s behind to) in
           row_out {b = book_in s} t.stands.stored.lawful (with_middle second t.stands.before (rows_from s (behind - 1) (next_at s to)))
           (subst (λ (rows : List Row). RisingByKey (t.stands.before ++ rows)) split (with_less _ p all_rise))
           (λ x m. all_known x (with_other x p (subst (λ (rows : List Row). x ∈ (t.stands.before ++ rows)) (sym split) m)))
-          (subst (λ (rows : List Row). Beside (site_of s) (t.stands.before ++ rows) v) split (first_out w a)) (subst (λ (k : ℕ). RowOut s k v z) e b)
+          (subst (λ (rows : List Row). Beside (site_of s) (t.stands.before ++ rows) v) split (first_out w a)) (subst (λ (k : ℕ). RowOut (plan_of s).slots (row_at s k) v z) e b)
 
-      pub both : {next : ℕ} {z : List ℕ} → next ≡ to → RowOut s next v z → (g : Gone) → g.rows ≡ 2 → g.hops ≡ hops first + hops second → g.next ≡ next_at s to
+      pub both : {next : ℕ} {z : List ℕ} → next ≡ to → RowOut (plan_of s).slots (row_at s next) v z → (g : Gone) → g.rows ≡ 2 → g.hops ≡ hops first + hops second → g.next ≡ next_at s to
           → second.id ≡ id → GoneAt s id at z g
       both f b g n h e same =
           gone_at (first ∷ second ∷ []) (rows_from s (behind - 1) (next_at s to)) (ap (λ (rows : List Row). first ∷ rows) split) of_id above (second_out f b) g n

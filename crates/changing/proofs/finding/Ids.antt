@@ -15,7 +15,7 @@ use Rattle.rules.proofs.Reading.{book_in, LawfulImage}
 use Rattle.image.specs.Header.{HeaderOf}
 use Rattle.image.specs.declared.Book as head
 use Rattle.image.specs.Places.{row_at, next_at, rows_from, Whole, Stands}
-use Rattle.image.proofs.Stands.{stored_length, stands_start, stands_split, stands_row, stands_end}
+use Rattle.image.proofs.Stands.{stands_start, stands_split, stands_row, stands_end}
 use Rattle.image.proofs.Walks.{rows_start_lem}
 use Rattle.changing.specs.reader.Seeks.{Passed, Reached}
 use Rattle.changing.specs.finding.Spot.{Vacant, Taken}
@@ -90,10 +90,6 @@ module _ {s : List ℕ} {id at : ℕ} (w : Reached s id at) where
 
   pub taken_there : at < length s → (row_at s at).id ≡ id → Taken s id at
   taken_there l e = record { left = w.left; more = one_left l; stands = w.passed.stands; lower = w.passed.lower; named = e }
-
--- a lawful image has a header
-pub stored_long : {s : List ℕ} → LawfulImage s → 16 ≤ length s
-stored_long h = omega (arith, stored_length h)
 
 -- in a vacant spot no row has the id, and in a taken one a row has it
 pub vacant_unknown : {s : List ℕ} {id at : ℕ} → Vacant s id at → Known (book_in s) id → ⊥

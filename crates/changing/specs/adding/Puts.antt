@@ -1,7 +1,9 @@
 -- Rows that are put into the image of a book in the newest version.
-use Rattle.std.specs.Prelude.{◌≡◌, List, ℕ, ◌+◌, ◌≤◌, length}
+use Rattle.std.specs.Prelude.{◌≡◌, List, [], ◌∷◌, ℕ, suc, ◌+◌, ◌≤◌, length}
 use Rattle.rules.specs.Words.{◌∈◌}
 use Rattle.rules.specs.Topology.{most_route_hops}
+use Rattle.rules.specs.Records.{the_route, the_offsets}
+use Rattle.rules.specs.declared.Placed.{Placed}
 use Rattle.rules.specs.Placing.{Asked}
 use Rattle.rules.specs.Book.{Row, Book, RisingByKey, hops_in_all, most_streams, most_hops, Plus}
 use Rattle.rules.specs.Image.{newest, in_turn, encode_row, encode, streams_of, hops_of}
@@ -49,10 +51,18 @@ pub record Puttable (s : List ℕ) (at : ℕ) (q : Asked) (rows hops : ℕ) : Ty
   pub streams : streams_of s + rows ≤ most_streams
   pub hops_in_all : hops_of s + hops ≤ most_hops
 
--- for the row on one route
-abbrev pub OnePut : List ℕ → ℕ → Asked → List ℕ → List ℕ → Type 0
-OnePut s at q route offsets = Puttable s at q 1 (length offsets) × Parts route offsets
+-- the rows on placed routes, from a way on in turn
+abbrev pub rows_on : Asked → ℕ → List Placed → List Row
+rows_on q way [] = []
+rows_on q way (p ∷ ps) = row_on q way (the_route p.route) (the_offsets p) ∷ rows_on q (suc way) ps
 
--- and for the rows on two
-abbrev pub TwoPut : List ℕ → ℕ → Asked → List ℕ → List ℕ → List ℕ → List ℕ → Type 0
-TwoPut s at q first offsets second others = Puttable s at q 2 (length offsets + length others) × Parts first offsets × Parts second others
+-- a placed route that may be put in
+pub record Held (p : Placed) : Type 0 where
+  pub parts : Parts (the_route p.route) (the_offsets p)
+  pub few : p.route.hops ≤ most_route_hops
+
+-- for the rows on one placed route or on two
+pub record RoutesPut (s : List ℕ) (at : ℕ) (q : Asked) (routes : List Placed) : Type 0 where
+  pub room : Puttable s at q (length routes) (hops_in_all (rows_on q 1 routes))
+  pub few : length routes ≤ 2
+  pub each : (p : Placed) → p ∈ routes → Held p

@@ -4,11 +4,6 @@ use Rattle.rules.specs.Words.{◌∈◌}
 use Rattle.rules.specs.Book.{Row}
 use Rattle.image.specs.Places.{row_at, Stands}
 
--- a row is left, and its id is lower
-pub record Lower (s : List ℕ) (id at left : ℕ) : Type 0 where
-  pub more : 0 < left
-  pub lower : (row_at s at).id < id
-
 -- the last `left` rows stand from the place on, and those before it have lower ids
 pub record Passed (s : List ℕ) (id at left : ℕ) : Type 0 where
   pub stands : Stands s at left

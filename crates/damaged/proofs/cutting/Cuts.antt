@@ -1,17 +1,21 @@
 -- A row where one can be cut out, and the rows up to a place.
 use mathlib.Core.Path.{◌≡◌, refl, sym, ap, ◌∙◌, subst}
-use mathlib.Core.Bool.{Bool, false, cond}
+use mathlib.Core.Bool.{Bool, true, false, cond}
 use mathlib.Core.List.{List, [], ◌∷◌, ◌++◌, append_assoc, append-nil}
+use Rattle.std.specs.Prelude.{◌↔◌, Option, Some, None as Nothing, IsSome, IfSome, MatchOption}
+use Rattle.std.specs.Bool.{then_some}
 use Prim.Native.Nat.{ℕ, ◌+◌, ◌*◌, ◌-◌, ◌≤◌}
 use native.Mathlib.Omega.{arith}
 use lib.ListN.{length, get_or, take, drop, length-append, length-drop}
 use lib.Seq.{get_or-drop, take_at}
+use Rattle.rules.specs.Words.{Tests}
 use Rattle.rules.specs.Book.{Row, hops}
 use Rattle.rules.specs.Topology.{most_route_hops}
 use Rattle.rules.specs.Image.{has_ways, has_accounts, hops_place, encode_row, word_at, version_of}
 use Rattle.rules.specs.Salvage.{Cuttable, Cut, CutAll}
 use Rattle.rules.proofs.Encoding.{hops_in, length_row}
 use Rattle.rules.proofs.Written.{Bytes}
+use Rattle.rules.proofs.Tests.{never, fails}
 use Rattle.image.specs.Places.{row_at, next_at, Whole}
 use Rattle.image.proofs.Places.{row_hops, whole_sized, next_hops}
 use Rattle.rows.proofs.Filling.{row_written}
@@ -75,6 +79,25 @@ module _ (s : List ℕ) (at : ℕ) where
           let n : next_at s at - at ≡ length (encode_row (version_of s) (row_at s at)) = omega
           (arith, next_hops s at w, length_row (version_of s) (row_at s at) [] (whole_sized s at w)) in
           ap (take (next_at s at - at)) (row_written s at b w) ∙ take_at (encode_row (version_of s) (row_at s at)) (drop (next_at s at) s) (next_at s at - at) (sym n)
+
+-- the row that was found at the place: of a whole one the hop count decides
+module _ (s : List ℕ) (at : ℕ) (inside : at ≤ length s) where
+  pub record Found (found : Option Row) : Type 0 where
+    pub there : IsSome found ↔ Cuttable (version_of s) (drop at s)
+    pub row : IfSome found (λ (r : Row). r ≡ row_at s at)
+
+  pub found_cuttable : (whole : Option Row) {found : Option Row} (P : Row → Bool → Type 0) → (IsSome whole ↔ Whole s at) → IfSome whole (λ (r : Row). r ≡ row_at s at)
+      → MatchOption whole (found ≡ Nothing) (λ x. (t : Bool) × P x t × (found ≡ then_some t x))
+      → ((r : Row) (t : Bool) → P r t → Tests t ((1 ≤ hops r) × (hops r ≤ most_route_hops))) → Found found
+  found_cuttable Nothing P t e m h = subst Found (sym m) (record { there = (λ n. never n, λ c. t.1 (cuttable_whole s at inside c)); row = tt })
+  found_cuttable (Some r) P t e (true, p, m) h =
+      let k = subst (λ (x : Row). (1 ≤ hops x) × (hops x ≤ most_route_hops)) e ((h r true p).yes refl) in
+      subst Found (sym m) (record { there = (λ n. whole_cuttable s at (t.0 refl) k.0 k.1, λ c. refl); row = e })
+  found_cuttable (Some r) P t e (false, p, m) h = subst Found (sym m) (record { there = (λ n. never n, λ c. absurd (none c)); row = tt })
+    where
+      none : Cuttable (version_of s) (drop at s) → ⊥
+      none c = fails (h r false p) refl
+          (subst (λ (x : Row). (1 ≤ hops x) × (hops x ≤ most_route_hops)) (sym e) (cuttable_some s at inside c, cuttable_most s at inside c))
 
 -- UP TO A PLACE
 pub cut_none : (s : List ℕ) (start : ℕ) → start ≤ length s → CutSo s start start []

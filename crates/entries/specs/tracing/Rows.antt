@@ -1,5 +1,5 @@
 -- A stream's row as it is read off tables: nothing is said of tables that no book has.
-use Rattle.std.specs.Prelude.{◌≡◌, List, ℕ, ◌+◌, ◌*◌, ◌≤◌, length, get_or}
+use Rattle.std.specs.Prelude.{◌≡◌, List, ℕ, ◌+◌, ◌*◌, ◌≤◌, length, get_or, Option, Some, None}
 use Rattle.rules.specs.Tiles.{short_tiles}
 use Rattle.rules.specs.Topology.{most_route_hops}
 use Rattle.rules.specs.Book.{Row, hops, row_offset}
@@ -30,3 +30,8 @@ pub record Traced (tables : List ℕ) (n slots start way id : ℕ) (p : Placed) 
   pub nodes_hold : length p.route.nodes ≡ most_route_hops + 1
   pub hops_hold : length p.offsets ≡ most_route_hops
   pub read : (r : Row) → RowFrom tables n slots start way id r → RouteRead p r
+
+-- there is one, which has hops; or there is no such row
+abbrev pub TracedOf : List ℕ → ℕ → ℕ → ℕ → ℕ → ℕ → Option Placed → Type 0
+TracedOf tables n slots start way id (Some p) = (p.route.hops ≡ 0 → ⊥) × Traced tables n slots start way id p
+TracedOf tables n slots start way id None = (r : Row) → RowFrom tables n slots start way id r → ⊥

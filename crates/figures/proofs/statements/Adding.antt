@@ -9,18 +9,15 @@ use native.Mathlib.Numerals.{add-one}
 use native.Mathlib.Omega.{arith}
 use lib.ListN.{length, get_or, set, length-set}
 use lib.Seq.{get_or-set_same, get_or-set_other}
-use Rattle.rules.specs.Words.{Tests}
+use Rattle.rules.specs.Words.{Tests, Distinct}
 use Rattle.rules.specs.Tiles.{repeats, cycle_tiles}
 use Rattle.rules.specs.Topology.{Hop, Touches}
 use Rattle.rules.specs.Book.{Row, hops, row_hop}
 use Rattle.rules.specs.Table.{touches, sum_below}
-use Rattle.rules.proofs.Lists.{at_in, pair_at}
-use Rattle.rules.proofs.Reading.{LawfulImage}
+use Rattle.rules.proofs.Lists.{pair_at}
 use Rattle.rules.proofs.Slots.{tests_touches}
-use Rattle.image.specs.Places.{row_at, RowHere}
 use Rattle.operations.specs.balances.Counts.{row_used}
 use Rattle.operations.proofs.balances.Balances.{counts, counts_not}
-use Rattle.figures.specs.statements.Figures.{most_nodes}
 use Rattle.figures.specs.statements.Passes.{most_slots, most_sums, Below, Added, hop_turns}
 
 -- ONE HOP
@@ -62,15 +59,8 @@ module _ (before : List ℕ) (i j turns : ℕ) (l : i < length before) (m : j < 
       go node (no f) (no g) = elsewhere node f g
 
 -- the ends of a row's hop are two nodes
-module _ {s : List ℕ} {at : ℕ} (b : LawfulImage s) (w : RowHere s at) where
-  pub node_known : {x : ℕ} (i : ℕ) → i ≤ hops (row_at s at) → x ≡ get_or (row_at s at).route i 0 → x < most_nodes
-  node_known i l e =
-      let there = at_in (row_at s at).route i (omega (arith, w.lawful.route.some)) in
-      omega (arith, e, w.lawful.route.known (get_or (row_at s at).route i 0) there, b.lawful.site.nodes.1)
-
-  pub nodes_apart : {x y : ℕ} (i : ℕ) → i < hops (row_at s at) → x ≡ get_or (row_at s at).route i 0 → y ≡ get_or (row_at s at).route (i + 1) 0 → x ≡ y → ⊥
-  nodes_apart i l e f q =
-      pair_at (λ (x y : ℕ). x ≡ y → ⊥) (row_at s at).route i (i + 1) w.lawful.route.distinct (omega arith) (omega arith) (sym e ∙ q ∙ f)
+pub nodes_apart : (r : Row) {x y : ℕ} (i : ℕ) → Distinct r.route → i < hops r → x ≡ get_or r.route i 0 → y ≡ get_or r.route (i + 1) 0 → x ≡ y → ⊥
+nodes_apart r i d l e f q = pair_at (λ (x y : ℕ). x ≡ y → ⊥) r.route i (i + 1) d (omega arith) (omega arith) (sym e ∙ q ∙ f)
 
 -- ONE HOP AFTER THE OTHER
 -- the turns of the row's first n hops

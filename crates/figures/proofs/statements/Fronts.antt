@@ -16,6 +16,9 @@ use Rattle.rules.specs.Calls.{OfBook, SaysOf}
 use Rattle.rules.proofs.Says.{says_none, same_says}
 use Rattle.rules.proofs.Encoding.{stored_says}
 use Rattle.rules.proofs.Written.{length_accounts_at}
+use Rattle.std.specs.Prelude.{Result}
+use Rattle.rules.specs.declared.refusals.Refusal.{Refusal}
+use Rattle.rules.specs.Said.{said}
 use Rattle.figures.specs.declared.statements.Figures.{Figures}
 use Rattle.figures.specs.statements.Figures.{FiguresSay, Decides}
 
@@ -179,12 +182,12 @@ module _ (s : List ℕ) (k : ℕ) (over : longest_image newest < k) (inside : k 
   not_stored : {D : ℕ → Book → Type 0} → OfBook t D → ⊥
   not_stored p = never_lawful t (omega (arith, size)) (stored_says t p.0 p.1 p.2)
 
-  front_figures : (f : Figures) → FiguresSay t f → FiguresSay s f
-  front_figures f w = record { says = said w.says; refused = w.refused; done = λ e. absurd (not_stored (w.done e)) }
+  front_figures : (f : Result Figures Refusal) → FiguresSay t f → FiguresSay s f
+  front_figures f w = record { says = says w.says; refused = w.refused; done = λ e. absurd (not_stored (w.done e)) }
     where
-      said : SaysOf t (λ (v : ℕ) (b : Book). []) f.number → SaysOf s (λ (v : ℕ) (b : Book). []) f.number
-      said (inl p) = inl (front_says f.number p.0, p.1)
-      said (inr p) = absurd (not_stored p)
+      says : SaysOf t (λ (v : ℕ) (b : Book). []) (said f) → SaysOf s (λ (v : ℕ) (b : Book). []) (said f)
+      says (inl p) = inl (front_says (said f) p.0, p.1)
+      says (inr p) = absurd (not_stored p)
 
 -- all bytes decide, and so does one more than the longest image has
 pub all_decide : (size : ℕ) → Decides size size

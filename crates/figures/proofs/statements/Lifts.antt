@@ -1,15 +1,14 @@
 -- From the two passes to the figures of the book, and to those of any image.
-use mathlib.Core.Path.{◌≡◌, sym, ap, ◌∙◌, subst}
+use mathlib.Core.Path.{◌≡◌, refl, sym, ap, ◌∙◌, subst}
 use mathlib.Core.Logic.{inl, inr}
 use mathlib.Core.List.{List}
 use Prim.Native.Nat.{ℕ, ◌-◌, ◌<◌, ◌≤◌}
 use native.Mathlib.Omega.{arith}
 use lib.ListN.{length, get_or}
-use Rattle.rules.specs.Says.{Says}
 use Rattle.rules.specs.Tiles.{PlanInRange}
 use Rattle.rules.specs.Topology.{nodes}
 use Rattle.rules.specs.Records.{the_plan}
-use Rattle.rules.specs.Image.{header_length, image_refusals, links_place, version_of, nodes_of, links_of}
+use Rattle.rules.specs.Image.{header_length, links_place, version_of, nodes_of, links_of}
 use Rattle.rules.specs.Table.{sum_below, used}
 use Rattle.rules.proofs.Lists.{count_unique}
 use Rattle.rules.proofs.Reading.{book_in, LawfulImage}
@@ -21,20 +20,24 @@ use Rattle.image.proofs.Stands.{stored_length}
 use Rattle.operations.specs.balances.Counts.{DataSlots}
 use Rattle.operations.proofs.balances.Balances.{used_fits, balance_of}
 use Rattle.lawful.specs.Verdict.{NumberOf}
+use Rattle.std.specs.Prelude.{Ok, Err}
+use Rattle.rules.specs.declared.refusals.Refusal.{Refusal}
+use Rattle.rules.specs.Said.{number_of}
 use Rattle.figures.specs.declared.statements.Figures.{Figures}
 use Rattle.figures.specs.statements.Statement.{FreeOf, Fewest}
-use Rattle.figures.specs.statements.Figures.{most_nodes, FiguresOf, NoFigures, FiguresSay}
+use Rattle.figures.specs.statements.Figures.{most_nodes, FiguresOf, FiguresSay}
 use Rattle.figures.specs.statements.Passes.{most_slots, Below, Passed, Summed}
+use Rattle.rules.proofs.Said.{refuses}
 
 pub stored_long : {s : List ℕ} → LawfulImage s → header_length ≤ length s
 stored_long h = omega (arith, stored_length h)
 
 -- the image is refused
-pub figures_refused : {s : List ℕ} {n : ℕ} {r : Figures} → NumberOf s n → (n ≡ 0 → ⊥) → r.number ≡ n → NoFigures r → FiguresSay s r
-figures_refused {s} v f a z = record {
-  says = inl (subst (Says (image_refusals s)) (sym a) v.says, λ e. f (sym a ∙ e));
-  refused = λ g. z;
-  done = λ e. absurd (f (sym a ∙ e));
+pub figures_refused : {s : List ℕ} (refusal : Refusal) → NumberOf s (number_of refusal) → FiguresSay s (Err refusal)
+figures_refused {s} refusal v = record {
+  says = inl (v.says, refuses refusal);
+  refused = λ g. refl;
+  done = λ e. absurd (refuses refusal e);
 }
 
 -- the image is that of a lawful book
@@ -85,9 +88,9 @@ module _ {s : List ℕ} (h : LawfulImage s) {book : head.Book} (read : HeaderOf 
         };
       }
 
-      pub figures_done : FiguresSay s r
+      pub figures_done : FiguresSay s (Ok r)
       figures_done = record {
-        says = inr (version_of s, book_in s, h, w.number);
-        refused = λ g. absurd (g w.number);
+        says = inr (version_of s, book_in s, h, refl);
+        refused = λ g. absurd (g refl);
         done = λ e. (version_of s, book_in s, h, figures_of);
       }

@@ -66,10 +66,9 @@ module _ {slots n : ℕ} {sums free : List ℕ} {fewest sum : ℕ} (w : Summing 
         found (yes l) (inr p) = inr (p.0, omega (arith, p.1), omega (arith, p.2))
         found (no l) p = inr (n, omega arith, omega arith)
 
-  pub summing_end : {r : Figures} {latest : ℕ} → 0 < n → r.number ≡ 0 → r.nodes ≡ n → r.free ≡ free → r.fewest ≡ fewest → r.used ≡ sum
+  pub summing_end : {r : Figures} {latest : ℕ} → 0 < n → r.nodes ≡ n → r.free ≡ free → r.fewest ≡ fewest → r.used ≡ sum
       → r.latency ≡ latest → Summed slots n sums latest r
-  summing_end {r} l a b c d e g = record {
-    number = a;
+  summing_end {r} l b c d e g = record {
     count = b;
     size = ap length c ∙ w.size;
     frees = λ node k. ap (λ (x : List ℕ). get_or x node 0) c ∙ w.frees node k;

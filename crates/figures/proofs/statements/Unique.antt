@@ -1,6 +1,7 @@
 -- Two figures that the contract allows are equal.
-use mathlib.Core.Path.{◌≡◌, sym, ◌∙◌}
-use mathlib.Core.Logic.{◌⊎◌, ⊎_elim}
+use Rattle.std.specs.Prelude.{Result, Ok, Err, IsErr, IsOkAnd}
+use mathlib.Core.Path.{◌≡◌, sym, ap, ◌∙◌}
+use mathlib.Core.Logic.{◌⊎◌, inl, inr}
 use mathlib.Core.List.{List, []}
 use Prim.Native.Nat.{ℕ, ◌<◌}
 use native.Mathlib.Decide.{dec_lt}
@@ -12,20 +13,20 @@ use Rattle.rules.specs.Book.{Book}
 use Rattle.rules.specs.Calls.{OfBook}
 use Rattle.rules.proofs.Lists.{count_unique}
 use Rattle.rules.proofs.Unique.{both_of}
+use Rattle.rules.specs.declared.refusals.Refusal.{Refusal}
+use Rattle.rules.specs.Said.{said}
 use Rattle.figures.specs.declared.statements.Figures.{Figures}
 use Rattle.figures.specs.statements.Statement.{Fewest}
-use Rattle.figures.specs.statements.Figures.{FiguresOf, NoFigures, FiguresSay}
+use Rattle.figures.specs.statements.Figures.{FiguresOf, FiguresSay}
+use Rattle.rules.proofs.Said.{refuses}
+use Rattle.figures.proofs.statements.Refusals.{one_refusal}
 
 fewest_unique : {b : Book} {n m : ℕ} → Fewest b n → Fewest b m → n ≡ m
 fewest_unique {n = n} {m} g h = le_antisymm (g.least h.node m h.known h.has) (h.least g.node n g.known g.has)
 
-module _ {r x : Figures} (number : r.number ≡ x.number) where
+module _ {r x : Figures} where
   same : r.nodes ≡ x.nodes → r.free ≡ x.free → r.fewest ≡ x.fewest → r.used ≡ x.used → r.latency ≡ x.latency → r ≡ x
-  same a b c d e = λ i. record { number = number i; nodes = a i; free = b i; fewest = c i; used = d i; latency = e i }
-
-  no_unique : NoFigures r → NoFigures x → r ≡ x
-  no_unique g h =
-      same (g.count ∙ sym h.count) (g.frees ∙ sym h.frees) (g.fewest ∙ sym h.fewest) (g.used ∙ sym h.used) (g.latency ∙ sym h.latency)
+  same a b c d e = λ i. record { nodes = a i; free = b i; fewest = c i; used = d i; latency = e i }
 
   of_unique : {b : Book} → FiguresOf b r → FiguresOf b x → r ≡ x
   of_unique {b} g h =
@@ -39,14 +40,18 @@ module _ {r x : Figures} (number : r.number ≡ x.number) where
       free node (yes l) = count_unique (λ i e. e) (λ i e. e) (g.frees node l) (h.frees node (omega (arith, nodes)))
       free node (no f) = g.rest node (omega arith) ∙ sym (h.rest node (omega (arith, nodes)))
 
-pub one_figures : (image : List ℕ) (r x : Figures) → FiguresSay image r → FiguresSay image x → r ≡ x
-one_figures image r x g h = ⊎_elim refused done t.1
+pub one_figures : (image : List ℕ) (r x : Result Figures Refusal) → FiguresSay image r → FiguresSay image x → r ≡ x
+one_figures image r x g h = one r x t.0 t.1
   where
-    t : (r.number ≡ x.number) × ((NoFigures r × NoFigures x) ⊎ OfBook image (λ (v : ℕ) (b : Book). FiguresOf b r × FiguresOf b x))
+    Both : Result Figures Refusal → Result Figures Refusal → Type 0
+    Both r x = (IsErr r × IsErr x) ⊎ OfBook image (λ (v : ℕ) (b : Book). IsOkAnd r (FiguresOf b) × IsOkAnd x (FiguresOf b))
+
+    t : (said r ≡ said x) × Both r x
     t = both_of image (λ (v : ℕ) (b : Book). []) g h
 
-    refused : NoFigures r × NoFigures x → r ≡ x
-    refused p = no_unique t.0 p.0 p.1
-
-    done : OfBook image (λ (v : ℕ) (b : Book). FiguresOf b r × FiguresOf b x) → r ≡ x
-    done p = of_unique t.0 p.3.0 p.3.1
+    one : (r x : Result Figures Refusal) → said r ≡ said x → Both r x → r ≡ x
+    one (Ok r) (Ok x) e (inl p) = let f : IsErr {T = Figures} {E = Refusal} (Ok r) = p.0 in cc
+    one (Ok r) (Ok x) e (inr p) = ap Ok (of_unique p.3.0 p.3.1)
+    one (Ok r) (Err x) e p = absurd (refuses x (sym e))
+    one (Err r) (Ok x) e p = absurd (refuses r e)
+    one (Err r) (Err x) e p = ap Err (one_refusal r x e)

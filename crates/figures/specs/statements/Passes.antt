@@ -46,7 +46,6 @@ pub record Least (n : ℕ) (f : ℕ → ℕ) (least : ℕ) : Type 0 where
 
 -- the figures of n nodes, of whose data slots these are used
 pub record Summed (slots n : ℕ) (sums : List ℕ) (latest : ℕ) (r : Figures) : Type 0 where
-  pub number : r.number ≡ 0
   pub count : r.nodes ≡ n
   pub size : length r.free ≡ most_nodes
   pub frees : (node : ℕ) → node < n → get_or r.free node 0 ≡ slots - get_or sums node 0

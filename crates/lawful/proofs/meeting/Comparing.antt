@@ -5,7 +5,7 @@ use mathlib.Core.Bool.{true, false}
 use mathlib.Core.List.{List, [], ◌∷◌}
 use Prim.Native.Nat.{ℕ, zero, suc, ◌+◌, ◌<◌, ◌≤◌, ◌-◌}
 use native.Mathlib.Nat.{eq-or-lt_of_le}
-use native.Mathlib.Numerals.{unary_clauses}
+use native.Mathlib.Numerals.{unary_clauses, add-one}
 use native.Mathlib.Omega.{arith}
 use lib.ListN.{length, replicate}
 use Rattle.rules.specs.Words.{◌∈◌}
@@ -17,8 +17,7 @@ use Rattle.rules.proofs.Reading.{rows_in, book_in}
 use Rattle.index.specs.Index.{index_length}
 use Rattle.index.proofs.Rows.{index_none, index_more, index_alike}
 use Rattle.placing.specs.plain.Plain.{place_of, nth_row, RowThere}
-use Rattle.placing.proofs.plain.Places.{place_first}
-use Rattle.placing.proofs.plain.Weighing.{at_next}
+use Rattle.placing.proofs.plain.Places.{place_first, place_next}
 use Rattle.placing.proofs.plain.Beside.{IndexBeside, meets_some, some_meets}
 use Rattle.image.specs.Places.{row_at, next_at, rows_from}
 use Rattle.image.proofs.Places.{rows_in_lem}
@@ -54,7 +53,7 @@ beside_none s start framed = record {
 
 -- one row more, once it is in the words
 beside_more : {s : List ℕ} {start done at : ℕ} {before : List Row} {words after : List ℕ} → IndexBeside s start done before words → done < 64 → at ≡ place_of s start done
-    → RowThere s at → RowIn s at words after → IndexBeside s start (done + 1) (row_at s at ∷ before) after
+    → RowThere s at → RowIn s (row_at s at) words after → IndexBeside s start (done + 1) (row_at s at ∷ before) after
 beside_more {s} {start} {done} {at} {before} w few e row m = record {
   in_range = w.in_range;
   there = record { each = each; few = omega arith };
@@ -116,10 +115,10 @@ module _ {s : List ℕ} {start done at left : ℕ} {words : List ℕ} (w : Compa
   few_done l = omega (arith, w.count, w.framed.fields.streams)
 
   -- the next row stands behind the first
-  pub compared_behind : {moduli : List ℕ} → 0 < left → length moduli ≡ 64 → RowBehind s start done at words moduli
+  pub compared_behind : {moduli : List ℕ} → 0 < left → length moduli ≡ 64 → RowBehind s start done (row_at s at) words moduli
   compared_behind l e = record {
     framed = w.framed;
-    row = compared_row l;
+    row = (compared_row l).lawful;
     there = w.beside.there;
     none_slow = λ z i k. w.beside.index.none_slow z (nth_row s start i) (w.beside.known i k);
     size = w.beside.index.size;
@@ -137,7 +136,7 @@ module _ {s : List ℕ} {start done at left : ℕ} {words : List ℕ} (w : Compa
     law = (compared_row l).lawful
 
     -- what a hop meets is a hop of a row before
-    pub compared_found : RowMeets words s start done at → ClashingHopsMeet (book_in s)
+    pub compared_found : RowMeets words s start done (row_at s at) → ClashingHopsMeet (book_in s)
     compared_found h =
         let r = row_at s at in
         let q = meets_some w.beside law.period (offset_within law h.0 h.1) h.2 in
@@ -150,7 +149,7 @@ module _ {s : List ℕ} {start done at left : ℕ} {words : List ℕ} (w : Compa
           meets = record { hop = h.0; there = h.1; meets = q.2 };
         }
 
-    module _ (no : RowMeets words s start done at → ⊥) where
+    module _ (no : RowMeets words s start done (row_at s at) → ⊥) where
       missed : (r x : Row) → r ≡ row_at s at → x ∈ w.before → RowsMeet (site_of s) r x → ⊥
       missed r x e m h =
           let k = subst (λ (y : Row). RowsMeet (site_of s) y x) e h in
@@ -167,11 +166,11 @@ module _ {s : List ℕ} {start done at left : ℕ} {words : List ℕ} (w : Compa
       lower_more x y (inr k) m = w.lower x y k (up y (inr m))
 
       -- the row is one of those before, once it is in the words
-      pub compared_next : {after : List ℕ} {next done' : ℕ} → RowIn s at words after → next ≡ next_at s at → done + 1 ≡ done' → Compared s start done' next (left - 1) after
+      pub compared_next : {after : List ℕ} {next done' : ℕ} → RowIn s (row_at s at) words after → next ≡ next_at s at → done + 1 ≡ done' → Compared s start done' next (left - 1) after
       compared_next {after} {next} a e f = subst (λ (k : ℕ). Compared s start k next (left - 1) after) f (record {
         before = row_at s at ∷ w.before;
         count = omega (arith, w.count);
-        at_is = at_next s start done w.at_is e;
+        at_is = e ∙ ap (next_at s) w.at_is ∙ place_next s start done ∙ ap (place_of s start) (sym (add-one done));
         stand = subst (RowsStand s (left - 1)) (sym e) (stand_more s left at l w.stand).1;
         rising = subst (λ (k : ℕ). RisingByKey (rows_from s (left - 1) k)) (sym e) (subst RisingByKey (rows_more s left at l) w.rising).1;
         lower = λ x y k m. lower_more x y k (subst (λ (p : ℕ). y ∈ rows_from s (left - 1) p) e m);

@@ -8,9 +8,12 @@ use native.Mathlib.Numerals.{add-one}
 use native.Mathlib.Omega.{arith}
 use native.Mathlib.Nat.{add_comm, mul_comm, mod-eq_of_lt}
 use borrow.Author.Tests.{le-leb, lt-leb}
+use Rattle.std.specs.List.{sum, range_with_len}
+use Rattle.std.proofs.lemmas.List.FromFn.{sum_by-map-range_with_len_more}
 use lib.Arith.{digits_mod, digits_div}
 use lib.Dec.{eqb, leb, ltb}
 use lib.ListN.{get_or}
+use mathlib.Core.List.{map}
 use Rattle.rules.specs.Words.{◌∈◌, Count, Tests}
 use Rattle.rules.specs.Tiles.{Plan, PlanInRange, tile_counts, control_slots, cycle_tiles, cycle_slots, Data, repeats}
 use Rattle.rules.specs.Topology.{Touches}
@@ -78,6 +81,17 @@ module _ (plan : Plan) where
 -- one more is added
 pub sum_more : {sum x n : ℕ} (f : ℕ → ℕ) → sum ≡ sum_below n f → x ≡ f n → sum + x ≡ sum_below (n + 1) f
 sum_more {sum} {x} {n} f e g = ap₂ (λ (a b : ℕ). a + b) e g ∙ add_comm (sum_below n f) (f n) ∙ ap (λ (k : ℕ). sum_below k f) (sym (add-one n))
+
+-- a sum over a range
+pub sum_range : (n : ℕ) (f : ℕ → ℕ) → sum (map f (range_with_len 0 n)) ≡ sum_below n f
+sum_range zero f = refl
+sum_range (suc n) f =
+    ap (λ (k : ℕ). sum (map f (range_with_len 0 k))) (sym (add-one n)) ∙ omega (arith, sum_by-map-range_with_len_more (λ (x : ℕ). x) f 0 n n (omega arith), sum_range n f)
+
+-- it has at most 32 for each tile
+pub sum_few : (n c : ℕ) (f : ℕ → ℕ) → ((i : ℕ) → f i ≤ c) → sum_below n f ≤ c * n
+sum_few zero c f l = omega arith
+sum_few (suc n) c f l = omega (arith, l n, sum_few n c f l)
 
 -- USED
 -- a number counts where the test passes, and nothing else

@@ -1,41 +1,31 @@
 -- Offsets that agree are those of hops that meet.
-use mathlib.Core.Path.{◌≡◌, sym, ap, ◌∙◌, subst, subst₂}
+use mathlib.Core.Path.{◌≡◌, sym, subst, subst₂}
 use mathlib.Core.Logic.{◌↔◌}
-use mathlib.Core.Bool.{Bool, true, false}
+use mathlib.Core.Bool.{Bool, false}
 use mathlib.Core.List.{List}
 use Prim.Native.Nat.{ℕ, ◌+◌, ◌*◌, ◌%◌, ◌<◌}
 use native.Mathlib.Numerals.{add-one}
 use native.Mathlib.Decide.{dec_lt}
 use native.Mathlib.Omega.{arith}
-use lib.Dec.{eqb}
 use lib.ListN.{get_or}
-use Rattle.rules.specs.Words.{Has, Tests}
+use Rattle.rules.specs.Words.{Tests}
 use Rattle.rules.specs.Tiles.{PlanInRange, Period, Meet}
 use Rattle.rules.specs.Topology.{hop_at}
-use Rattle.rules.specs.Book.{Site, Row, hops, row_hop, row_offset, LawfulRow}
+use Rattle.rules.specs.Book.{Site, Row, hops, row_offset, LawfulRow}
 use Rattle.rules.specs.Image.{plan_of}
 use Rattle.rules.specs.Records.{the_route}
 use Rattle.rules.specs.declared.{Node.Node, Placed.Placed}
 use Rattle.rules.proofs.Records.{node_at_lem, node_of}
-use Rattle.rules.proofs.Tests.{alike, fails, said_no, tests_eq}
+use Rattle.rules.proofs.Tests.{alike, said_no}
 use Rattle.rules.proofs.Meeting.{meet_rule}
-use Rattle.bitset.specs.clash.Reach.{End, node_at, hop}
-use Rattle.bitset.specs.clash.Reach.End.{sender, receiver}
+use Rattle.bitset.specs.clash.Reach.{End, hop}
 use Rattle.bitset.specs.declared.clash.Reach.{Reach}
 use Rattle.index.specs.Marks.{InReach}
 use Rattle.image.proofs.Hops.{offset_within}
-use Rattle.placing.specs.plain.Plain.{LeftOut, HasEnd, ModulusOf, Weighed, RowsThere, Weighs, AgreesHop, AgreesRow, Agrees, MeetsRow, MeetsPlain, MeetsRouteHop}
+use Rattle.placing.specs.plain.Plain.{LeftOut, HasEnd, ModulusOf, Weighed, RowsThere, Weighs, AgreesRow, Agrees, MeetsRow, MeetsPlain, MeetsRouteHop}
 use Rattle.placing.specs.plain.Plain.Weighed.{weighs, indexed}
 
 -- ENDS IN REACH
-pub by_receiver : (reach : Reach) (from to : Node) {s t : Bool} → Tests s (Has reach.senders from.0) → s ≡ false → Tests t (Has reach.receivers to.0)
-    → Tests t (HasEnd (InReach reach) (hop from to))
-by_receiver reach from to a e b = alike b (λ m. record { end = receiver; sought = m }) (λ p. go p.end p.sought)
-  where
-    go : (end : End) → InReach reach end (node_at end (hop from to)) → Has reach.receivers to.0
-    go sender m = absurd (fails a e m)
-    go receiver m = m
-
 -- a hop of a route, and one that was read of it
 route_reach : (reach : Reach) (route : List ℕ) (i : ℕ) {s : Bool} → Tests s (HasEnd (InReach reach) (record { from = get_or route i 0; to = get_or route (i + 1) 0 }))
     → Tests s (HasEnd (InReach reach) (hop_at route i))
@@ -53,14 +43,6 @@ placed_reach reach p i l r =
 
 -- ITS OFFSET
 module _ {C : End → ℕ → Type 0} where
-  pub out_of_reach : {r : Row} {m o i : ℕ} {s : Bool} → Tests s (HasEnd C (row_hop r i)) → s ≡ false → Tests false (AgreesHop C r m o i)
-  out_of_reach a e = said_no (λ h. fails a e h.sought)
-
-  pub agrees_reach : {r : Row} (m o i p : ℕ) {s : Bool} → Tests s (HasEnd C (row_hop r i)) → s ≡ true → p ≡ row_offset r i → Tests (eqb (o % m) (p % m)) (AgreesHop C r m o i)
-  agrees_reach m o i p a e f =
-      alike (tests_eq (o % m) (p % m)) (λ q. record { sought = a.yes e; agrees = q ∙ ap (λ (x : ℕ). x % m) f })
-      (λ h. h.agrees ∙ ap (λ (x : ℕ). x % m) (sym f))
-
   pub no_offset : {route offsets : List ℕ} {o i : ℕ} → (get_or offsets i 0 ≡ o → ⊥) → Tests false (MeetsRouteHop C route offsets o i)
   no_offset f = said_no (λ h. f h.is)
 
@@ -105,6 +87,3 @@ module _ {s : List ℕ} {start n K o : ℕ} (there : RowsThere s start n) (plan 
       go (yes h) =
           let k = row_meets_agrees (there.each m.row m.there).lawful plan p l (w.each m.row h) m.left_out m.meets in
           record { row = m.row; there = h; weighed = k.0; row_agrees = k.1 }
-
-  pub tests_meets : {t : Bool} → Tests t (Agrees C s start rows moduli o) → Tests t (MeetsPlain C s start n K o)
-  tests_meets a = alike a agrees_meets meets_agrees

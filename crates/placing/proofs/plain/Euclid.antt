@@ -1,6 +1,6 @@
 -- Euclid's steps, and the modulus of two periods.
 use mathlib.Core.Path.{◌≡◌, refl}
-use mathlib.Core.Bool.{Bool, true, false}
+use mathlib.Core.Bool.{Bool, true}
 use Prim.Native.Nat.{ℕ, zero, suc, ◌*◌, ◌%◌, ◌<◌, ◌≤◌}
 use native.Mathlib.Nat.{pos_of_dvd_of_pos, le_of_dvd, mul-le-mul}
 use native.Mathlib.Omega.{arith}
@@ -8,10 +8,9 @@ use Rattle.rules.specs.Words.{Tests}
 use Rattle.rules.specs.Tiles.{Period, Gcd, cycle_tiles}
 use Rattle.rules.proofs.Bezout.{gcd_zero, gcd_step}
 use Rattle.rules.proofs.Bytes.{period_small}
-use Rattle.rules.proofs.Tests.{fails}
 use Rattle.rules.proofs.Periods.{period_some}
 use Rattle.placing.specs.plain.Plain.{LeftOut, Weighed}
-use Rattle.placing.specs.plain.Plain.Weighed.{weighs, indexed}
+use Rattle.placing.specs.plain.Plain.Weighed.{weighs}
 
 -- the divisor of what is left is the one of a and b
 abbrev pub Stepping : ℕ → ℕ → ℕ → ℕ → Type 0
@@ -35,6 +34,3 @@ modulus_fits h p c = mul-le-mul (gcd_most p c).0 h
 
 pub weighed : {S K L g : ℕ} {t : Bool} → 1 ≤ S → Period K → Tests t (LeftOut K L) → t ≡ true → Gcd K L g → Weighed S K L (g * S)
 weighed {g = g} s p out e c = weighs (out.yes e) (mul-le-mul (gcd_most p c).1 s) (record { divisor = g; greatest = c; is = refl })
-
-pub neither : {S K L : ℕ} {t : Bool} → Tests t (LeftOut K L) → t ≡ false → Weighed S K L 0
-neither out e = indexed (fails out e) refl

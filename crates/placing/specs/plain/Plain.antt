@@ -1,7 +1,7 @@
 -- The plain test: what a hop meets by its period and offset, of rows that the index leaves out.
 use Rattle.std.specs.Prelude.{◌≡◌, ◌⊎◌, List, ℕ, zero, suc, ◌*◌, ◌%◌, ◌<◌, ◌≤◌, length, get_or}
 use Rattle.rules.specs.Tiles.{short_tiles, Meet, Gcd}
-use Rattle.rules.specs.Topology.{Hop, hop_at}
+use Rattle.rules.specs.Topology.{Hop, hop_at, most_route_hops}
 use Rattle.rules.specs.Book.{Row, hops, row_hop, row_offset, LawfulRow}
 use Rattle.rules.specs.Image.{plan_of, site_of}
 use Rattle.bitset.specs.clash.Reach.{End, node_at}
@@ -30,6 +30,11 @@ place_of s start (suc i) = place_of s (next_at s start) i
 -- that row
 abbrev pub nth_row : List ℕ → ℕ → ℕ → Row
 nth_row s start i = row_at s (place_of s start i)
+
+-- the row has at most 15 hops, over nodes below 64
+pub record SmallRow (r : Row) : Type 0 where
+  pub most : hops r ≤ most_route_hops
+  pub nodes : (j : ℕ) → j ≤ hops r → get_or r.route j 0 < 64
 
 -- a lawful row of at most 64 nodes is at the place
 pub record RowThere (s : List ℕ) (at : ℕ) : Type 0 where

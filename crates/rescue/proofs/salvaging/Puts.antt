@@ -1,7 +1,7 @@
 -- Parts that are written one behind the other where there is room.
 use mathlib.Core.Path.{◌≡◌, refl, sym, ap, ◌∙◌, subst}
 use mathlib.Core.List.{List, [], ◌++◌, append_assoc}
-use Prim.Native.Nat.{ℕ, ◌+◌, ◌-◌, ◌<◌, ◌≤◌}
+use Prim.Native.Nat.{ℕ, ◌+◌, ◌-◌, ◌≤◌}
 use native.Mathlib.Omega.{arith}
 use lib.ListN.{length, take, drop, length-append, length-drop}
 use lib.Seq.{drop_at, length-take-le}
@@ -24,17 +24,9 @@ put_more {d} {o} {o'} {x} y {at} {e} p q r = record {
 pub put_alike : {d o x : List ℕ} {y : List ℕ} {at e : ℕ} → x ≡ y → at ≡ e → PutIf d at x o → PutIf d e y o
 put_alike {d} {o} {x} {y} {at} f g p = subst (λ (k : ℕ). PutIf d k y o) g (subst (λ (z : List ℕ). PutIf d at z o) f p)
 
--- where there is no room nothing need be written
-pub put_no : {d : List ℕ} {at : ℕ} {x : List ℕ} → length d < at + length x → PutIf d at x d
-put_no l = record { size = refl; put = λ m. absurd (omega arith) }
-
 -- and where there is room, it was
 pub put_in : {d o : List ℕ} {at : ℕ} {x : List ℕ} → at + length x ≤ length d → o ≡ over d at x → PutIf d at x o
 put_in {d} {at = at} {x} l e = record { size = ap length e ∙ length_over d at x l; put = λ m. e }
-
--- the length of a part
-pub part_length : (s : List ℕ) (at next : ℕ) → at ≤ next → next ≤ length s → length (take (next - at) (drop at s)) ≡ next - at
-part_length s at next l m = length-take-le (next - at) (drop at s) (omega (arith, length-drop at s))
 
 -- x in front of what was written behind it
 pub over_before : (d x y : List ℕ) (e : ℕ) → e ≡ length x → e + length y ≤ length d → over (over d e y) 0 x ≡ (x ++ y) ++ drop (length (x ++ y)) d

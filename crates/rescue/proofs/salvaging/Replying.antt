@@ -1,21 +1,20 @@
 -- What was walked through and written is what the contract says, and so are the refusals.
 use mathlib.Core.Path.{◌≡◌, refl, sym, ap, ◌∙◌, subst}
-use mathlib.Core.Bool.{false}
 use mathlib.Core.Logic.{inl, inr}
 use mathlib.Core.List.{List, [], ◌++◌}
+use Rattle.std.specs.Prelude.{Result, Ok}
 use Prim.Native.Nat.{ℕ, ◌+◌, ◌*◌, ◌-◌, ◌<◌, ◌≤◌}
 use native.Mathlib.Nat.{mul-le-mul_left}
 use native.Mathlib.Omega.{arith}
-use lib.Dec.{ltb}
 use lib.ListN.{length, drop, length-drop}
-use Rattle.rules.specs.Says.{Refusal, Says}
+use Rattle.rules.specs.Says.{Refusal}
+use Rattle.rules.specs.declared.refusals.Refusal as why
 use Rattle.rules.specs.Topology.{nodes, SoundTopologies}
-use Rattle.rules.specs.Book.{Book, hops_in_all, most_streams, most_hops, AccountsInRange}
+use Rattle.rules.specs.Book.{Book, hops_in_all, AccountsInRange}
 use Rattle.rules.specs.Image.{header_length, image_length, row_length, in_turn, encode_row, encode, version_of}
 use Rattle.rules.specs.Image.{nodes_of, FieldsInRange, accounts_of, links_place, links_of, hearing_of, book_of, rows_place}
 use Rattle.rules.specs.Calls.{Wrote}
 use Rattle.rules.specs.Salvage.{CutAll, report_bytes, NoRoom, salvage_refusals}
-use Rattle.rules.proofs.Tests.{never, fails, tests_lt}
 use Rattle.rules.proofs.Choice.{in_order_even}
 use Rattle.rules.proofs.Encoding.{length_encode}
 use Rattle.rules.proofs.Written.{Bytes, length_sets_at, encode_rows}
@@ -28,8 +27,8 @@ use Rattle.damaged.specs.declared.cutting.Cutting.{Cutting}
 use Rattle.damaged.specs.cutting.Cutting.{CutsTo}
 use Rattle.rescue.specs.declared.salvaging.Salvaged as declared
 use Rattle.rescue.specs.declared.salvaging.Walk.{Walk}
-use Rattle.rescue.specs.salvaging.Walk.{Walked, Measured, BookFits, TooLong}
-use Rattle.rescue.specs.salvaging.Replies.{Headed, HasRoom, rows_refusals, site_refusals, Refuses, Replied}
+use Rattle.rescue.specs.salvaging.Walk.{Walked, Measured, BookFits}
+use Rattle.rescue.specs.salvaging.Replies.{Headed, HasRoom, rows_refusals, site_refusals, Replied}
 use Rattle.rescue.proofs.salvaging.Puts.{over_before}
 use Rattle.rescue.proofs.salvaging.Walks.{length_of, rows_length}
 
@@ -107,7 +106,7 @@ module _ {s out report : List ℕ} {walk : Walk} {out' report' : List ℕ} (w : 
 
     pub written : {len lost start : ℕ} {o : List ℕ} → HasRoom s (length out) (length report) → len ≡ length_of s walk.kept.rows walk.kept.hops
         → start ≡ rows_place s → o ≡ over out' 0 (headed s start walk.kept.rows walk.kept.hops) → lost ≡ length s - walk.end
-        → Replied (rows_refusals s (length out) (length report)) s out report (record { number = 0; length = len; rows = walk.rows; lost = lost }) o report'
+        → Replied (rows_refusals s (length out) (length report)) s out report (Ok (record { length = len; rows = walk.rows; lost = lost })) o report'
     written has e q f g = record {
       says = inr (nothing_short has, refl);
       refused = λ n. absurd (n refl);
@@ -137,32 +136,11 @@ module _ {s : List ℕ} {start : ℕ} {cut : Cutting} (w : CutsTo s start cut) (
   here : CutAll (version_of s) (drop (rows_place s) s) w.rows (drop cut.end s)
   here = subst (λ (k : ℕ). CutAll (version_of s) (drop k s) w.rows (drop cut.end s)) e w.all
 
-  pub report_short : {room report_room : ℕ} → report_room < 3 * cut.rows → NoRoom s room report_room
-  report_short l = inr (w.rows, drop cut.end s, here, omega (arith, w.count))
-
   pub has_room : {room report_room : ℕ} → 3 * cut.rows ≤ report_room → BookFits s room → HasRoom s room report_room
   has_room l f = record { rows = w.rows; lost = drop cut.end s; cut = here; told = omega (arith, w.count); book = f }
 
 -- WHETHER THE BOOK IS TOO LONG
-pub longest_fits : {s : List ℕ} {room len : ℕ} → len ≡ length_of s most_streams most_hops → len ≤ room → TooLong s room false
-longest_fits {room = room} e l = record { yes = λ t. never t; no = λ t. inl (subst (λ (n : ℕ). n ≤ room) e l) }
-
-pub measured_fits : {s : List ℕ} {len : ℕ} (room : ℕ) → Measured s len → TooLong s room (ltb room len)
-measured_fits {s} {len} room (rows, reasons, lost, c, g, e) = record {
-  yes = λ t. (rows, reasons, lost, c, g, omega (arith, e, (tests_lt room len).yes t));
-  no = λ t. inr (rows, reasons, lost, c, g, omega (arith, e, fails (tests_lt room len) t));
-}
-
--- A REFUSAL: nothing was written
-refuses : (refusals : List Refusal) (s out report : List ℕ) {n : ℕ} {r : declared.Salvaged} → Refuses n r → (n ≡ 0 → ⊥) → Says refusals n
-    → Replied refusals s out report r out report
-refuses refusals s out report e some h = record {
-  says = subst (Says refusals) (sym e.0) h;
-  refused = λ f. (record { length_is = e.1; buffer = refl }, record { length_is = e.2; buffer = refl }, e.3);
-  done = λ z. absurd (some (sym e.0 ∙ z));
-}
-
--- THE REFUSALS, one by one
+-- THE REFUSALS that do not apply
 module _ (s out report : List ℕ) where
   abbrev rows : List Refusal
   rows = rows_refusals s (length out) (length report)
@@ -173,47 +151,15 @@ module _ (s out report : List ℕ) where
   abbrev every : List Refusal
   every = salvage_refusals s (length out) (length report)
 
-  module _ {r : declared.Salvaged} where
-    pub no_room : Refuses 12 r → NoRoom s (length out) (length report) → Replied rows s out report r out report
-    no_room e h = refuses rows s out report e (λ z. omega arith) (inl (h, refl))
+  pub sound_then : (r : Result declared.Salvaged why.Refusal) {out' report' : List ℕ} → SoundTopologies (links_of s) (hearing_of s)
+      → Replied rows s out report r out' report' → Replied site s out report r out' report'
+  sound_then r t h = record { says = inr (λ n. n t, h.says); refused = h.refused; done = h.done }
 
-    pub not_sound : Refuses 11 r → (SoundTopologies (links_of s) (hearing_of s) → ⊥) → Replied site s out report r out report
-    not_sound e h = refuses site s out report e (λ z. omega arith) (inl (h, refl))
-
-    pub short : Refuses 14 r → length s < header_length → Replied every s out report r out report
-    short e h = refuses every s out report e (λ z. omega arith) (inl (h, refl))
-
-    module _ (header : length s < header_length → ⊥) where
-      pub not_marked : Refuses 13 r → (Marked s → ⊥) → Replied every s out report r out report
-      not_marked e h = refuses every s out report e (λ z. omega arith) (inr (header, inl (h, refl)))
-
-      module _ (marked : Marked s) where
-        pub out_of_range : Refuses 10 r → (FieldsInRange s → ⊥) → Replied every s out report r out report
-        out_of_range e h = refuses every s out report e (λ z. omega arith) (inr (header, inr (λ n. n marked, inl (h, refl))))
-
-        module _ (fields : FieldsInRange s) where
-          pub list_ended : Refuses 14 r → length s < links_place s → Replied every s out report r out report
-          list_ended e h = refuses every s out report e (λ z. omega arith) (inr (header, inr (λ n. n marked, inr (λ n. n fields, inl (h, refl)))))
-
-          module _ (listed : length s < links_place s → ⊥) where
-            pub list_out_of_range : Refuses 10 r → (AccountsInRange (accounts_of s) → ⊥) → Replied every s out report r out report
-            list_out_of_range e h =
-                refuses every s out report e (λ z. omega arith) (inr (header, inr (λ n. n marked, inr (λ n. n fields, inr (listed, inl (h, refl))))))
-
-            pub ended : AccountsInRange (accounts_of s) → Refuses 14 r → length s < rows_place s → Replied every s out report r out report
-            ended accounts e h =
-                refuses every s out report e (λ z. omega arith)
-                (inr (header, inr (λ n. n marked, inr (λ n. n fields, inr (listed, inr (λ n. n accounts, inl (h, refl)))))))
-
-  -- and where they do not apply
-  module _ {r : declared.Salvaged} {out' report' : List ℕ} where
-    pub sound_then : SoundTopologies (links_of s) (hearing_of s) → Replied rows s out report r out' report' → Replied site s out report r out' report'
-    sound_then t h = record { says = inr (λ n. n t, h.says); refused = h.refused; done = h.done }
-
-    pub header_then : (length s < header_length → ⊥) → Marked s → FieldsInRange s → (length s < links_place s → ⊥) → AccountsInRange (accounts_of s) → (length s < rows_place s → ⊥)
-        → Replied site s out report r out' report' → Replied every s out report r out' report'
-    header_then l m f k a e h = record {
-      says = inr (l, inr (λ n. n m, inr (λ n. n f, inr (k, inr (λ n. n a, inr (e, h.says))))));
-      refused = h.refused;
-      done = h.done;
-    }
+  pub header_then : (r : Result declared.Salvaged why.Refusal) {out' report' : List ℕ}
+      → (length s < header_length → ⊥) → Marked s → FieldsInRange s → (length s < links_place s → ⊥) → AccountsInRange (accounts_of s) → (length s < rows_place s → ⊥)
+      → Replied site s out report r out' report' → Replied every s out report r out' report'
+  header_then r l m f k a e h = record {
+    says = inr (l, inr (λ n. n m, inr (λ n. n f, inr (k, inr (λ n. n a, inr (e, h.says))))));
+    refused = h.refused;
+    done = h.done;
+  }

@@ -1,6 +1,8 @@
 -- One row after the other is judged, reported, and laid where it is kept.
-use mathlib.Core.Path.{◌≡◌, refl, sym, ap, ◌∙◌, subst}
+use mathlib.Core.Path.{◌≡◌, refl, sym, ap, ◌∙◌, subst, subst₂}
 use mathlib.Core.List.{List, [], ◌∷◌, ◌++◌, append-nil}
+use Rattle.std.specs.Prelude.{Result, None}
+use Rattle.std.specs.Result.{result_unwrap_or}
 use Prim.Native.Nat.{ℕ, ◌+◌, ◌*◌, ◌-◌, ◌≤◌}
 use native.Mathlib.Omega.{arith}
 use native.Mathlib.Decide.{ℕ_discrete}
@@ -9,6 +11,8 @@ use Rattle.rules.specs.Topology.{NodesInRange}
 use Rattle.rules.specs.Book.{Row, Book, hops_in_all, most_accounts, LawfulSite}
 use Rattle.rules.specs.Image.{image_length, word, in_turn, encode_row, version_of, nodes_of, plan_of, account_count_of, accounts_of, links_place, site_of, book_of, rows_place}
 use Rattle.rules.specs.Calls.{InOrder}
+use Rattle.rules.specs.Said.{said}
+use Rattle.rules.specs.declared.refusals.Refusal.{Refusal}
 use Rattle.rules.specs.Salvage.{Cuttable, Keep, report_bytes}
 use Rattle.rules.proofs.Choice.{in_order_more, in_order_even}
 use Rattle.rules.proofs.Encoding.{all_sized, length_rows}
@@ -25,7 +29,6 @@ use Rattle.writer.proofs.Books.{in_turn_append}
 use Rattle.damaged.specs.cutting.Cutting.{CutSo}
 use Rattle.damaged.proofs.cutting.Cuts.{row_bytes, cut_none, cut_more, cut_done}
 use Rattle.damaged.specs.declared.judging.Kept.{Kept}
-use Rattle.damaged.specs.declared.judging.Judged.{Judged}
 use Rattle.damaged.specs.judging.Keeping.{SiteRead, Beside, SomeBeside, Judges}
 use Rattle.rescue.specs.salvaging.Walk.{PutIf, LaidIf, Walked}
 use Rattle.rescue.proofs.salvaging.Puts.{put_none, put_more, put_alike}
@@ -51,34 +54,36 @@ site_lawful {s} w = record {
   accounts = w.read.list.range;
 }
 
-pub walking_none : {s : List ℕ} (out report : List ℕ) {at : ℕ} {left : List ℕ} → LawfulSite (site_of s) → at ≡ rows_place s → rows_place s ≤ length s
-    → LeftBy (accounts_of s) [] left → length left ≡ most_accounts
-    → Walking s out report at 0 (record { rows = 0; hops = 0; before = at; last = 0 }) (replicate 64 0) left (replicate index_length 0) out report
-walking_none {s} out report {at} site e l purses all = record {
-  rows = [];
-  reasons = [];
-  stay = [];
-  so = subst (λ (k : ℕ). CutSo s (rows_place s) k []) (sym e) (cut_none s (rows_place s) l);
-  keep = refl;
-  beside = record {
-    held = (none_lawful s site, λ r m. absurd m);
-    count = refl;
-    hops = refl;
-    top = λ x m. absurd m;
-    stands = λ k. absurd (omega arith);
-    there = λ k. absurd (omega arith);
-    last_key = λ k. absurd (omega arith);
-    placed_there = record { each = λ i l. absurd (omega arith); few = omega arith; room = refl };
-    known = λ i l. absurd (omega arith);
-    nth = λ x m. absurd m;
-    purses = purses;
-    all_purses = all;
-    index = index_none (plan_of s).slots;
-  };
-  count = refl;
-  book = put_none out (rows_place s);
-  told = put_none report 0;
-}
+-- before the first row nothing is kept
+pub walking_none : {s : List ℕ} (out report : List ℕ) {at : ℕ} (kept : Kept) {left : List ℕ} → LawfulSite (site_of s) → at ≡ rows_place s → rows_place s ≤ length s
+    → (kept.rows ≡ 0) × ((kept.hops ≡ 0) × (kept.last ≡ None)) → LeftBy (accounts_of s) [] left → length left ≡ most_accounts
+    → Walking s out report at 0 kept (replicate 64 0) left (replicate index_length 0) out report
+walking_none {s} out report {at} kept {left} site e l none purses all =
+    subst (λ (k : Kept). Walking s out report at 0 k (replicate 64 0) left (replicate index_length 0) out report)
+    (sym λ i. record { rows = none.0 i; hops = none.1.0 i; last = none.1.1 i }) (record {
+      rows = [];
+      reasons = [];
+      stay = [];
+      so = subst (λ (k : ℕ). CutSo s (rows_place s) k []) (sym e) (cut_none s (rows_place s) l);
+      keep = refl;
+      beside = record {
+        held = (none_lawful s site, λ r m. absurd m);
+        count = refl;
+        hops = refl;
+        top = λ x m. absurd m;
+        stands = tt;
+        there = tt;
+        placed_there = record { each = λ i l. absurd (omega arith); few = omega arith; room = refl };
+        known = λ i l. absurd (omega arith);
+        nth = λ x m. absurd m;
+        purses = purses;
+        all_purses = all;
+        index = index_none (plan_of s).slots;
+      };
+      count = refl;
+      book = put_none out (rows_place s);
+      told = put_none report 0;
+    })
 
 -- the length of a book of the site with so many rows and hops
 abbrev pub length_of : List ℕ → ℕ → ℕ → ℕ
@@ -102,7 +107,7 @@ module _ {s out report : List ℕ} {at cut : ℕ} {kept : Kept} {places left wor
   place_behind =
       (λ i. length_of s (w.beside.count i) (w.beside.hops i)) ∙ sym (rows_length s w.stay w.beside.held)
 
-  module _ (b : Bytes s) (c : Cuttable (version_of s) (drop at s)) {judged : Judged} {places' left' words' : List ℕ}
+  module _ (b : Bytes s) (c : Cuttable (version_of s) (drop at s)) (judged : Result Kept Refusal) {places' left' words' : List ℕ}
       (judges : Judges s at kept places left words judged places' left' words') where
     r : Row
     r = row_at s at
@@ -110,7 +115,7 @@ module _ {s out report : List ℕ} {at cut : ℕ} {kept : Kept} {places left wor
     after : List Row
     after = (judges w.stay w.beside).after
 
-    step : Keep (version_of s) (book_of s w.stay) r judged.reason (book_of s after)
+    step : Keep (version_of s) (book_of s w.stay) r (said judged) (book_of s after)
     unfolding r after
     step = (judges w.stay w.beside).keep
 
@@ -118,9 +123,9 @@ module _ {s out report : List ℕ} {at cut : ℕ} {kept : Kept} {places left wor
     even = in_order_even (Keep (version_of s)) (book_of s []) w.rows w.reasons (book_of s w.stay) w.keep
 
     laid : {place : ℕ} {out'' : List ℕ} → place ≡ rows_place s + length (in_turn (encode_row (version_of s)) w.stay)
-        → LaidIf (take (next_at s at - at) (drop at s)) judged.reason out' place out'' → PutIf out (rows_place s) (in_turn (encode_row (version_of s)) after) out''
+        → LaidIf (take (next_at s at - at) (drop at s)) (said judged) out' place out'' → PutIf out (rows_place s) (in_turn (encode_row (version_of s)) after) out''
     unfolding r after
-    laid {out'' = out''} e l = go (ℕ_discrete judged.reason 0)
+    laid {out'' = out''} e l = go (ℕ_discrete (said judged) 0)
       where
         f : Row → List ℕ
         f = encode_row (version_of s)
@@ -128,7 +133,7 @@ module _ {s out report : List ℕ} {at cut : ℕ} {kept : Kept} {places left wor
         rows_of : Book → List Row
         rows_of d = d.rows
 
-        go : Dec (judged.reason ≡ 0) → PutIf out (rows_place s) (in_turn f after) out''
+        go : Dec ((said judged) ≡ 0) → PutIf out (rows_place s) (in_turn f after) out''
         go (yes z) =
             let same : after ≡ w.stay ++ (r ∷ []) = ap rows_of (step.done z) in
             let bytes : take (next_at s at - at) (drop at s) ≡ f r = row_bytes s at w.so.inside c b in
@@ -139,22 +144,22 @@ module _ {s out report : List ℕ} {at cut : ℕ} {kept : Kept} {places left wor
             let same : after ≡ w.stay = ap rows_of (step.refused z) in
             subst (λ (o : List ℕ). PutIf out (rows_place s) (in_turn f after) o) (sym (l.dropped z)) (put_alike (ap (in_turn f) (sym same)) refl w.book)
 
-    pub walking_more : {next place id : ℕ} {out'' report'' : List ℕ} → next ≡ next_at s at → id ≡ (row_at s at).id
-        → PutIf report' (3 * cut) (judged.reason ∷ word id) report''
-        → place ≡ length_of s kept.rows kept.hops → LaidIf (take (next - at) (drop at s)) judged.reason out' place out''
-        → Walking s out report next (cut + 1) judged.kept places' left' words' out'' report''
+    pub walking_more : {next place id reason : ℕ} {out'' report'' : List ℕ} → next ≡ next_at s at → id ≡ (row_at s at).id → reason ≡ said judged
+        → PutIf report' (3 * cut) (reason ∷ word id) report''
+        → place ≡ length_of s kept.rows kept.hops → LaidIf (take (next - at) (drop at s)) reason out' place out''
+        → Walking s out report next (cut + 1) (result_unwrap_or judged kept) places' left' words' out'' report''
     unfolding r after
-    walking_more {next} {place} {id} {out''} {report''} e i noted p l = record {
+    walking_more {next} {place} {id} {reason} {out''} {report''} e i why noted p l = record {
       rows = w.rows ++ (r ∷ []);
-      reasons = w.reasons ++ (judged.reason ∷ []);
+      reasons = w.reasons ++ ((said judged) ∷ []);
       stay = after;
       so = cut_more w.so b c e;
-      keep = in_order_more (Keep (version_of s)) (book_of s []) w.rows w.reasons (book_of s w.stay) r judged.reason (book_of s after) w.keep step;
+      keep = in_order_more (Keep (version_of s)) (book_of s []) w.rows w.reasons (book_of s w.stay) r (said judged) (book_of s after) w.keep step;
       beside = (judges w.stay w.beside).beside;
       count = omega (arith, w.count, length-append w.rows (r ∷ []));
-      book = laid (p ∙ place_behind) (subst (λ (n : ℕ). LaidIf (take (n - at) (drop at s)) judged.reason out' place out'') e l);
-      told = put_alike (ap (λ (k : ℕ). report_bytes w.rows w.reasons ++ (judged.reason ∷ word k)) i ∙ sym (report_more w.rows w.reasons r judged.reason even)) refl
-          (put_more (judged.reason ∷ word id) w.told behind noted);
+      book = laid (p ∙ place_behind) (subst₂ (λ (n k : ℕ). LaidIf (take (n - at) (drop at s)) k out' place out'') e why l);
+      told = put_alike (ap (λ (k : ℕ). report_bytes w.rows w.reasons ++ ((said judged) ∷ word k)) i ∙ sym (report_more w.rows w.reasons r (said judged) even)) refl
+          (put_more ((said judged) ∷ word id) w.told behind (subst (λ (k : ℕ). PutIf report' (3 * cut) (k ∷ word id) report'') why noted));
     }
       where
         behind : 3 * cut ≡ 0 + length (report_bytes w.rows w.reasons)

@@ -1,6 +1,9 @@
 -- What a salvage says back, from the rows up.
-use Rattle.std.specs.Prelude.{◌≡◌, List, [], ◌∷◌, ℕ, ◌*◌, ◌≤◌, length, get_or, drop}
+use Rattle.std.specs.Prelude.{◌≡◌, List, [], ◌∷◌, ℕ, ◌*◌, ◌≤◌, length, get_or, drop, Result}
+use Rattle.std.specs.Result.{result_unwrap_or}
 use Rattle.rules.specs.Says.{Refusal, ◌when◌, Says}
+use Rattle.rules.specs.Said.{said}
+use Rattle.rules.specs.declared.refusals.Refusal as why
 use Rattle.rules.specs.Topology.{SoundTopologies}
 use Rattle.rules.specs.Book.{Row}
 use Rattle.rules.specs.Image.{version_of, links_of, hearing_of, rows_place}
@@ -32,12 +35,12 @@ rows_refusals s room report_room = (12 when NoRoom s room report_room) ∷ []
 abbrev pub site_refusals : List ℕ → ℕ → ℕ → List Refusal
 site_refusals s room report_room = (11 when (SoundTopologies (links_of s) (hearing_of s) → ⊥)) ∷ rows_refusals s room report_room
 
--- a refusal: its number, and otherwise zeros
-abbrev pub Refuses : ℕ → Salvaged → Type 0
-Refuses n r = (r.number ≡ n) × (r.length ≡ 0) × (r.rows ≡ 0) × (r.lost ≡ 0)
+-- what it counts: zeros where it is refused
+abbrev pub counts : Result Salvaged why.Refusal → Salvaged
+counts r = result_unwrap_or r (record { length = 0; rows = 0; lost = 0 })
 
--- the refusals say the number; on 0 book and report were written, and otherwise nothing
-abbrev pub Replied : List Refusal → List ℕ → List ℕ → List ℕ → Salvaged → List ℕ → List ℕ → Type 0
+-- the refusals say the number; where it is done book and report were written, and otherwise nothing
+abbrev pub Replied : List Refusal → List ℕ → List ℕ → List ℕ → Result Salvaged why.Refusal → List ℕ → List ℕ → Type 0
 Replied refusals s out report r out' report' =
-    Call (Says refusals) (Unchanged out r.length out' × Unchanged report r.rows report' × (r.lost ≡ 0))
-    (SalvageWritten s out report r.length out' r.rows r.lost report') r.number
+    Call (Says refusals) (Unchanged out (counts r).length out' × Unchanged report (counts r).rows report' × ((counts r).lost ≡ 0))
+    (SalvageWritten s out report (counts r).length out' (counts r).rows (counts r).lost report') (said r)

@@ -1,4 +1,5 @@
 -- The walks from the source are the routes, and the list of them is what is written.
+use Rattle.std.specs.Prelude.{Ok, Err}
 use mathlib.Core.Path.{◌≡◌, refl, sym, ap, ◌∙◌, subst}
 use mathlib.Core.Logic.{◌⊎◌, inl, inr, ⊎_elim}
 use mathlib.Core.Bool.{false}
@@ -6,7 +7,7 @@ use mathlib.Core.List.{List, [], ◌∷◌}
 use Prim.Native.Nat.{ℕ, zero, suc, ◌-◌, ◌<◌, ◌≤◌}
 use native.Mathlib.Omega.{arith}
 use lib.ListN.{length, get_or, take, drop}
-use lib.Seq.{length-take-le, take_at}
+use lib.Seq.{take_at}
 use Rattle.rules.specs.Words.{Has, ◌∈◌, Distinct}
 use Rattle.rules.specs.Topology.{Topology, nodes, SoundTopology, LinkedInTurn, hop_count, all_nodes, PathWithin, most_short_hops, most_listed, Exactly}
 use Rattle.rules.specs.Calls.{list_bytes, ListTooLong}
@@ -20,8 +21,8 @@ use Rattle.routes.proofs.Distances.{joined_back}
 use Rattle.writer.specs.Over.{over}
 use Rattle.writer.proofs.Laws.{over_front}
 use Rattle.routes.specs.declared.choices.Tally.{Tally}
-use Rattle.routes.specs.declared.choices.Choices.{Choices}
-use Rattle.routes.specs.choices.Search.{short_places, list_room, Leads, behind, Standing, Room, Kept, Finds, Found}
+use Rattle.rules.specs.declared.refusals.Refusal.TheVariants.{NoRoom}
+use Rattle.routes.specs.choices.Search.{Leads, behind, Kept, Finds, Found}
 use Rattle.routes.specs.choices.Listing.{ListSays}
 use Rattle.routes.proofs.choices.Lists.{in_behind, behind_in, behind_rising}
 use Rattle.routes.proofs.choices.Keeping.{kept_none}
@@ -127,27 +128,17 @@ module _ {T : Topology} (middle : ℕ) {s z allowed outside barred : ℕ} (asked
       k : Kept d rs t d'
       k = f.adds.kept d [] (kept_none d)
 
--- WHAT IT BEGINS WITH
-pub standing_start : {T : Topology} {s z left : ℕ} (path : List ℕ) → Asked T s z → left ≤ most_short_hops → length path ≡ short_places → Standing T z left path
-standing_start path a l n = record { ground = record { range = a.range; sound = a.sound; known = a.destination_known }; most = l; size = n }
-
-pub room_start : (b : List ℕ) → length b ≡ list_room → Room (record { count = 0; length = 0; more = false }) b
-room_start b n = record { count_most = omega arith; length_most = omega arith; size = n }
-
 -- THE ANSWER
 module _ {T : Topology} {middle s z : ℕ} {t : Tally} {b : List ℕ} (f : Found T middle s z t b) where
-  pub part_length : length (take t.length b) ≡ t.length
-  part_length = length-take-le t.length b f.inside
-
-  pub says_short : {r : Choices} {out : List ℕ} → length out < t.length → r.number ≡ 12 → r.length ≡ 0 → r.more ≡ false → ListSays T middle s z out r out
-  says_short l n k m = record {
-    says = inl ((f.routes, t.more, f.listed, omega (arith, f.length_is)), n);
-    refused = λ g. (record { length_is = k; buffer = refl }, m);
-    done = λ e. absurd (omega (arith, e, n));
+  pub says_short : {out : List ℕ} → length out < t.length → ListSays T middle s z out (Err NoRoom) out
+  says_short l = record {
+    says = inl ((f.routes, t.more, f.listed, omega (arith, f.length_is)), refl);
+    refused = λ g. (record { length_is = refl; buffer = refl }, refl);
+    done = λ e. absurd (omega (arith, e));
   }
 
   pub says_list : {out out' : List ℕ} → t.length ≤ length out → out' ≡ over out 0 (take t.length b)
-      → ListSays T middle s z out (record { number = 0; length = t.length; more = t.more }) out'
+      → ListSays T middle s z out (Ok (record { length = t.length; more = t.more })) out'
   says_list {out} {out'} l e = record {
     says = inr (fits, refl);
     refused = λ g. absurd (g refl);

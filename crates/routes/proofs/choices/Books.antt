@@ -1,7 +1,7 @@
 -- The list over the links that were decoded is that of the book.
-use mathlib.Core.Path.{◌≡◌, refl, sym, ap, ◌∙◌, subst}
-use mathlib.Core.Logic.{◌⊎◌, inl, inr, ⊎_elim}
-use mathlib.Core.Bool.{false}
+use Rattle.std.specs.Prelude.{Result}
+use mathlib.Core.Path.{◌≡◌, sym, ap, ◌∙◌, subst}
+use mathlib.Core.Logic.{◌⊎◌, inr, ⊎_elim}
 use mathlib.Core.List.{List, ◌∷◌}
 use Prim.Native.Nat.{ℕ, ◌+◌, ◌*◌, ◌<◌, ◌≤◌}
 use native.Mathlib.Omega.{arith}
@@ -18,25 +18,14 @@ use Rattle.image.specs.declared.Book as head
 use Rattle.image.proofs.Stands.{stored_length}
 use Rattle.image.proofs.Topologies.{links_there}
 use Rattle.bitset.specs.Rows.{topology}
-use Rattle.routes.specs.Planner.{Asked}
-use Rattle.routes.specs.declared.choices.Choices.{Choices}
+use Rattle.routes.specs.declared.choices.Listed.{Listed}
+use Rattle.rules.specs.declared.refusals.Refusal as names
 use Rattle.routes.specs.choices.Listing.{Lists, ListSays, BookSays}
 
--- REFUSAL BY REFUSAL
-module _ {T : Topology} {middle source destination : ℕ} {out : List ℕ} {r : Choices} where
-  -- the first refusal applies
-  lists_refused : {rs : List Refusal} {A : Type 0} {k : ℕ} → A → (k ≡ 0 → ⊥) → r.number ≡ k → r.length ≡ 0 → r.more ≡ false
-      → Lists ((k when A) ∷ rs) T middle source destination out r out
-  lists_refused a f n l m = record {
-    says = inl (a, n);
-    refused = λ g. (record { length_is = l; buffer = refl }, m);
-    done = λ z. absurd (f (sym n ∙ z));
-  }
-
-  -- it does not, and the others say the number
-  lists_next : {rs : List Refusal} {A : Type 0} {k : ℕ} {out' : List ℕ} → (A → ⊥) → Lists rs T middle source destination out r out'
-      → Lists ((k when A) ∷ rs) T middle source destination out r out'
-  lists_next f w = record { says = inr (f, w.says); refused = w.refused; done = w.done }
+-- the first refusal does not apply, and the others say the number
+lists_next : {T : Topology} {middle source destination : ℕ} {out out' : List ℕ} {rs : List Refusal} {A : Type 0} {k : ℕ} {r : Result Listed names.Refusal} → (A → ⊥)
+    → Lists rs T middle source destination out r out' → Lists ((k when A) ∷ rs) T middle source destination out r out'
+lists_next f w = record { says = inr (f, w.says); refused = w.refused; done = w.done }
 
 -- THE BOOK OF A LAWFUL IMAGE
 module _ {s : List ℕ} (h : LawfulImage s) {book : head.Book} (read : HeaderOf s book) where
@@ -59,41 +48,16 @@ module _ {s : List ℕ} (h : LawfulImage s) {book : head.Book} (read : HeaderOf 
     below : NoBitFrom book.nodes mains → NoBitFrom (nodes (links_of s)) mains
     below l = subst (λ (N : ℕ). NoBitFrom N mains) (sym known) l
 
-    pub beyond : {out : List ℕ} {r : Choices} → (NoBitFrom book.nodes mains → ⊥) → r.number ≡ 25 → r.length ≡ 0 → r.more ≡ false
-        → BookSays s mains source destination out r out
-    beyond f n l m = lists_refused (λ g. f (subst (λ (N : ℕ). NoBitFrom N mains) known g)) (λ z. omega arith) n l m
-
     module _ (low : NoBitFrom book.nodes mains) where
-      pub unknown_end : {out : List ℕ} {r : Choices} → (book.nodes ≤ source) ⊎ (book.nodes ≤ destination) → r.number ≡ 4 → r.length ≡ 0 → r.more ≡ false
-          → BookSays s mains source destination out r out
-      unknown_end w n l m =
-          lists_next (λ f. f (below low))
-          (lists_refused (⊎_elim (λ (k : book.nodes ≤ source). inl (omega (arith, known))) (λ (k : book.nodes ≤ destination). inr (omega (arith, known))) w)
-          (λ z. omega arith) n l m)
-
       module _ (from : source < book.nodes) (to : destination < book.nodes) where
         both_known : (nodes (links_of s) ≤ source) ⊎ (nodes (links_of s) ≤ destination) → ⊥
         both_known w = ⊎_elim (λ (k : nodes (links_of s) ≤ source). omega (arith, known)) (λ (k : nodes (links_of s) ≤ destination). omega (arith, known)) w
-
-        pub one_node : {out : List ℕ} {r : Choices} → source ≡ destination → r.number ≡ 5 → r.length ≡ 0 → r.more ≡ false → BookSays s mains source destination out r out
-        one_node e n l m = lists_next (λ f. f (below low)) (lists_next both_known (lists_refused e (λ z. omega arith) n l m))
 
         module _ (apart : source ≡ destination → ⊥) {rows : List ℕ} (l : Sets s (links_place s) book.nodes rows) where
           same : topology (take book.nodes rows) ≡ links_of s
           same = ap topology (l.rows ∙ ap (sets_at s (links_place s)) read.nodes)
 
-          pub asked : Asked (topology (take book.nodes rows)) source destination
-          asked =
-              subst (λ (T : Topology). Asked T source destination) (sym same)
-              record {
-                range = h.lawful.site.nodes;
-                sound = h.lawful.site.topologies.links_sound;
-                source_known = omega (arith, known);
-                destination_known = omega (arith, known);
-                apart = apart;
-              }
-
-          pub listed : {out out' : List ℕ} {r : Choices} → ListSays (topology (take book.nodes rows)) mains source destination out r out'
+          pub listed : {out out' : List ℕ} {r : Result Listed names.Refusal} → ListSays (topology (take book.nodes rows)) mains source destination out r out'
               → BookSays s mains source destination out r out'
           listed {out} {out'} {r} w =
               lists_next (λ f. f (below low)) (lists_next both_known (lists_next apart

@@ -40,14 +40,14 @@ adds_nothing t b r = record { room = r; kept = λ d rs k. subst (λ (x : List (L
 
 -- after the 32nd only the mark
 pub adds_mark : (route : List ℕ) (t : Tally) (b : List ℕ) → Room t b → most_listed ≤ t.count
-    → Adds (route ∷ []) t b (record { count = most_listed; length = t.length; more = true }) b
+    → Adds (route ∷ []) t b (record { count = t.count; length = t.length; more = true }) b
 adds_mark route t b r l = record {
-  room = record { count_most = omega arith; length_most = omega (arith, r.length_most, r.count_most); size = r.size };
+  room = record { count_most = r.count_most; length_most = r.length_most; size = r.size };
   kept = λ d rs k.
       let s : take most_listed (rs ++ (route ∷ [])) ≡ take most_listed rs = take-append-le most_listed rs (route ∷ []) (omega (arith, k.count_is)) in
       let n : length (rs ++ (route ∷ [])) ≡ length rs + 1 = length-append rs (route ∷ []) in
       record {
-        count_is = omega (arith, k.count_is);
+        count_is = omega (arith, k.count_is, r.count_most);
         more_is = record { yes = λ e. omega (arith, k.count_is); back = λ h. refl };
         length_is = k.length_is ∙ sym (ap (λ (x : List (List ℕ)). length (list_bytes x)) s);
         buffer = k.buffer ∙ sym (ap (λ (x : List (List ℕ)). over d 0 (list_bytes x)) s);

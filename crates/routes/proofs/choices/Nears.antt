@@ -1,5 +1,5 @@
 -- The nodes near the destination, link by link.
-use mathlib.Core.Path.{◌≡◌, refl}
+use mathlib.Core.Path.{refl}
 use mathlib.Core.Logic.{◌⊎◌, inl, inr, ⊎_elim}
 use mathlib.Core.List.{[], ◌∷◌}
 use Prim.Native.Nat.{ℕ, ◌+◌, ◌<◌, ◌≤◌}
@@ -7,7 +7,6 @@ use native.Mathlib.Omega.{arith}
 use Rattle.rules.specs.Words.{Has}
 use Rattle.rules.specs.Topology.{Topology, nodes}
 use Rattle.bitset.specs.Sets.{SetOf}
-use Rattle.bitset.proofs.Bits.{zero_none}
 use Rattle.routes.specs.Levels.{Neighbour}
 use Rattle.routes.proofs.Distances.{joined_back}
 use Rattle.routes.specs.choices.Search.{Near, Ground}
@@ -19,17 +18,6 @@ pub record Nearing (T : Topology) (z barred most set n : ℕ) : Type 0 where
   pub known : (a : ℕ) → Has set a → a < nodes T
 
 module _ {T : Topology} {z : ℕ} (barred most : ℕ) (g : Ground T z) where
-  pub near_start : {set : ℕ} → SetOf (λ (k : ℕ). Has 0 k ⊎ (k ≡ z)) set → Nearing T z barred most set 0
-  near_start {set} s = record {
-    few = omega arith;
-    near = near;
-    known = λ a i. ⊎_elim (λ (j : Has 0 a). absurd (zero_none a j)) (λ (e : a ≡ z). omega (arith, g.known)) (s.only a i);
-  }
-    where
-      near : Near T z barred 0 set
-      near a [] l w f = s.all a (inr w.ends)
-      near a (m ∷ p) l w f = absurd (omega arith)
-
   pub near_more : {set n around wide fewer : ℕ} → Nearing T z barred most set n → n < most → SetOf (Neighbour T set) around
       → SetOf (λ (k : ℕ). Has set k ⊎ Has around k) wide → SetOf (λ (k : ℕ). Has wide k × (Has barred k → ⊥)) fewer
       → Nearing T z barred most fewer (n + 1)
@@ -50,6 +38,3 @@ module _ {T : Topology} {z : ℕ} (barred most : ℕ) (g : Ground T z) where
             u.all a (inr (s.all a (m, on, (joined_back T g.sound a m w.linked.0).1))),
             f a (inl refl),
           )
-
-  pub near_done : {set n : ℕ} → Nearing T z barred most set n → most ≤ n → Near T z barred most set
-  near_done {set} h l a p k w f = h.near a p (omega (arith, h.few)) w f

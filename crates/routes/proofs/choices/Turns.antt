@@ -6,7 +6,6 @@ use mathlib.Core.Bool.{true}
 use Prim.Native.Nat.{ℕ, zero, suc, ◌+◌, ◌-◌, ◌^◌, ◌<◌, ◌≤◌}
 use native.Mathlib.Omega.{arith}
 use lib.ListN.{length, get_or, set, take, length-set}
-use lib.Seq.{length-take-le}
 use Rattle.rules.specs.Words.{Has, NoBitFrom}
 use Rattle.rules.specs.Topology.{Topology, nodes}
 use Rattle.bitset.specs.Sets.{SetOf, Lowest}
@@ -37,10 +36,6 @@ turn_hop zero next e h = absurd (omega arith)
 turn_hop {t} (suc left) next e h = let q : suc left - 1 ≡ left = omega arith in subst (λ (k : ℕ). turn k any_next < t) (sym q) (omega arith)
 
 module _ {T : Topology} {z left : ℕ} {path : List ℕ} (s : Standing T z left path) where
-  -- the nodes so far
-  pub front_length : short_places - left ≡ length (take (short_places - left) path)
-  front_length = sym (length-take-le (short_places - left) path (omega (arith, s.size)))
-
   -- DOWN
   module _ {a around next : ℕ} (barred close : ℕ) (known : a < nodes T) (n : Near T z barred (left - 1) close)
       (u : SetOf (λ (k : ℕ). Has (get_or T.rows a 0) k × Has close k) around) (d : SetOf (λ (k : ℕ). Has around k × (Has barred k → ⊥)) next) where

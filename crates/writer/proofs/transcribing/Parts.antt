@@ -4,22 +4,21 @@ use mathlib.Core.Bool.{Bool, true, false, cond}
 use mathlib.Core.List.{List, [], ◌∷◌, ◌++◌, append_assoc}
 use Prim.Native.Nat.{ℕ, ◌+◌, ◌*◌, ◌-◌, ◌<◌, ◌≤◌}
 use native.Mathlib.Omega.{arith}
-use lib.ListN.{length, take, drop, length-append, length-drop}
-use lib.Seq.{get_or-drop, take_at, drop_at, drop-drop}
+use lib.ListN.{length, take, drop, length-append}
+use lib.Seq.{take_at}
 use Rattle.rules.specs.Topology.{nodes}
 use Rattle.rules.specs.Book.{Account, Row, Book, hops, hops_in_all, most_accounts}
-use Rattle.rules.specs.Image.{newest, has_ways, has_wide, has_accounts, old_accounts, header_length, links_start, hops_place, row_length, mark, word, word64, in_turn, held, encode_header}
-use Rattle.rules.specs.Image.{encode_accounts, encode_topology, encode_topologies, encode_period, encode_row, encode, sets_at, topology_at, version_of, nodes_of, account_count_of, accounts_of}
+use Rattle.rules.specs.Image.{newest, has_accounts, old_accounts, header_length, links_start, mark, word, word64, in_turn, held, encode_header}
+use Rattle.rules.specs.Image.{encode_accounts, encode_topology, encode_topologies, encode_row, encode, sets_at, topology_at, version_of, nodes_of, account_count_of, accounts_of}
 use Rattle.rules.specs.Image.{links_place, links_of, hearing_of, site_of, accounts_at}
 use Rattle.rules.proofs.Bytes.{stored_bytes}
 use Rattle.rules.proofs.Encoding.{length_words, length_sets, length_accounts, length_row}
-use Rattle.rules.proofs.Fronts.{bytes_drop, front_written}
 use Rattle.rules.proofs.Reading.{rows_in, book_in, LawfulImage}
-use Rattle.rules.proofs.Written.{Bytes, length_sets_at, sets_written}
+use Rattle.rules.proofs.Written.{length_sets_at, sets_written}
 use Rattle.image.specs.Header.{HeaderOf}
 use Rattle.image.specs.declared.Book as head
-use Rattle.image.specs.Places.{hearing_place, row_at, next_at, Whole}
-use Rattle.image.proofs.Places.{links_most, links_counted, hearing_there, whole_sized}
+use Rattle.image.specs.Places.{hearing_place, hop_bytes}
+use Rattle.image.proofs.Places.{links_most, links_counted, hearing_there}
 use Rattle.image.proofs.Stands.{stored_length}
 use Rattle.image.proofs.Topologies.{hearing_inside, hearing_nodes}
 use Rattle.writer.specs.Over.{over}
@@ -147,88 +146,24 @@ module _ {s : List ℕ} {book : head.Book} (h : LawfulImage s) (hd : HeaderOf s 
       }
 
 -- A ROW
+pub length_hops : (r : Row) → length r.route ≡ hops r + 1 → length r.offsets ≡ hops r → length (hop_bytes r) ≡ 2 + 3 * hops r
+length_hops r nodes offsets = omega (arith, length-append r.route (in_turn word r.offsets), length_words r.offsets, nodes, offsets)
 
--- its id, its way where it is held, and its period in two bytes or one
-abbrev named : Bool → Bool → Row → List ℕ
-named t w r = word r.id ++ held t (r.way ∷ []) ++ encode_period w r.period
-
--- what stands behind them, up to the account
-abbrev rest : Row → List ℕ
-rest r = hops r ∷ (r.route ++ in_turn word r.offsets)
-
-named_rest : (t w : Bool) (r : Row) (end : List ℕ)
-    → word r.id ++ held t (r.way ∷ []) ++ encode_period w r.period ++ (hops r ∷ []) ++ r.route ++ in_turn word r.offsets ++ end ≡ named t w r ++ (rest r ++ end)
-named_rest true true r end = refl
-named_rest true false r end = refl
-named_rest false true r end = refl
-named_rest false false r end = refl
-
-length_named : (t w : Bool) (r : Row) → length (named t w r) ≡ 2 + cond t 1 0 + 1 + cond w 1 0
-length_named true true r = refl
-length_named true false r = refl
-length_named false true r = refl
-length_named false false r = refl
-
-module _ (s : List ℕ) (at : ℕ) (b : Bytes s) (w : Whole s at) where
-  abbrev v : ℕ
-  v = version_of s
-
-  abbrev r : Row
-  r = row_at s at
-
-  abbrev end : List ℕ
-  end = held (has_accounts v) (word r.account)
-
-  stands : drop at s ≡ encode_row v r ++ drop (next_at s at) s
-  unfolding row_at next_at
-  stands =
-      let e = get_or-drop at s (hops_place v) 0 in
-      front_written v (drop at s) (bytes_drop at s b) (omega (arith, w.fits, e, length-drop at s))
-      ∙ ap (λ (l : List ℕ). encode_row v r ++ l) (drop-drop _ at s ∙ ap (λ (h : ℕ). drop (at + (row_length v + 3 * h)) s) e)
-
-  front_part : List ℕ
-  front_part = named (has_ways v) (has_wide v) r
-
-  parts : encode_row v r ≡ front_part ++ (rest r ++ end)
-  unfolding front_part
-  parts = named_rest (has_ways v) (has_wide v) r end
-
-  front_size : length front_part ≡ hops_place v
-  unfolding front_part
-  front_size = length_named (has_ways v) (has_wide v) r
-
-  size : length (rest r) ≡ 2 + 3 * hops r
-  size =
-      let k = whole_sized s at w in
-      omega (arith, length-append r.route (in_turn word r.offsets), length_words r.offsets, k.nodes, k.offsets)
-
-  -- its bytes from its hop count on
-  pub rest_is : (from n : ℕ) → from ≡ at + hops_place v → n ≡ 2 + 3 * hops r → take (from + n - from) (drop from s) ≡ rest r
-  rest_is from n e f =
-      let tail : List ℕ = drop (next_at s at) s in
-      let k : length (rest r) ≡ from + n - from = omega (arith, size, f) in
-      ap (λ (k : ℕ). take (from + n - from) (drop k s)) e
-      ∙ ap (take (from + n - from)) (sym (drop-drop (hops_place v) at s) ∙ ap (drop (hops_place v)) (stands ∙ ap (λ (l : List ℕ). l ++ tail) parts
-      ∙ append_assoc front_part (rest r ++ end) tail) ∙ drop_at front_part ((rest r ++ end) ++ tail) (hops_place v) front_size ∙ append_assoc (rest r) end tail)
-      ∙ take_at (rest r) (end ++ tail) (from + n - from) k
-
-  -- the row, part by part
-  pub row_put : (d o₁ o₂ o₃ o₄ o₅ part : List ℕ) (to id way k from n account : ℕ) → to ≤ length d → id ≡ r.id → way ≡ r.way → k ≡ r.period → account ≡ r.account
-      → from ≡ at + hops_place v → n ≡ 2 + 3 * hops r → o₁ ≡ over d to (word id) → o₂ ≡ over o₁ (to + 2) (way ∷ []) → o₃ ≡ over o₂ (to + 2 + 1) (word k)
-      → part ≡ take (from + n - from) (drop from s) → o₄ ≡ over o₃ (to + 2 + 1 + 2) part → o₅ ≡ over o₄ (to + 2 + 1 + 2 + n) (word account)
-      → Put (encode_row newest r) d to (to + 2 + 1 + 2 + n + 2) o₅
-  row_put d o₁ o₂ o₃ o₄ o₅ part to id way k from n account l e f m a g h p₁ p₂ p₃ q p₄ p₅ =
-      let is : part ≡ rest r = q ∙ rest_is from n g h in
-      let head : List ℕ = word id ++ (way ∷ []) ++ word k in
-      let long : length part ≡ n = ap length is ∙ size ∙ sym h in
-      let r₂ = then d o₁ o₂ (word id) (way ∷ []) to (to + 2) l p₁ refl p₂ in
-      let r₃ = then d o₂ o₃ (word id ++ (way ∷ [])) (word k) to (to + 2 + 1) l r₂ (omega arith) p₃ in
-      let r₄ = then d o₃ o₄ head part to (to + 2 + 1 + 2) l r₃ (omega arith) p₄ in
-      let r₅ = then d o₄ o₅ (head ++ part) (word account) to (to + 2 + 1 + 2 + n) l r₄ (omega (arith, long)) p₅ in
-      let sized = whole_sized s at w in
-      record {
-        bytes = r₅ ∙ ap₂ (λ (i y : ℕ). over d to (word i ++ (y ∷ []) ++ word k ++ part ++ word account)) e f
-            ∙ ap₂ (λ (n : ℕ) (x : List ℕ). over d to (word r.id ++ (r.way ∷ []) ++ word n ++ x ++ word account)) m is
-            ∙ ap (λ (n : ℕ). over d to (word r.id ++ (r.way ∷ []) ++ word r.period ++ rest r ++ word n)) a;
-        on = omega (arith, h, length_row newest r [] record { nodes = sized.nodes; offsets = sized.offsets });
-      }
+-- part by part, its hops as they stand
+pub row_put : (r : Row) (d o₁ o₂ o₃ o₄ o₅ part : List ℕ) (to id way k n account : ℕ) → length r.route ≡ hops r + 1 → length r.offsets ≡ hops r
+    → to ≤ length d → id ≡ r.id → way ≡ r.way → k ≡ r.period → account ≡ r.account
+    → o₁ ≡ over d to (word id) → o₂ ≡ over o₁ (to + 2) (way ∷ []) → o₃ ≡ over o₂ (to + 2 + 1) (word k)
+    → part ≡ hop_bytes r → n ≡ length part → o₄ ≡ over o₃ (to + 2 + 1 + 2) part → o₅ ≡ over o₄ (to + 2 + 1 + 2 + n) (word account)
+    → Put (encode_row newest r) d to (to + 2 + 1 + 2 + n + 2) o₅
+row_put r d o₁ o₂ o₃ o₄ o₅ part to id way k n account nodes offsets l e f m a p₁ p₂ p₃ is long p₄ p₅ =
+    let head : List ℕ = word id ++ (way ∷ []) ++ word k in
+    let r₂ = then d o₁ o₂ (word id) (way ∷ []) to (to + 2) l p₁ refl p₂ in
+    let r₃ = then d o₂ o₃ (word id ++ (way ∷ [])) (word k) to (to + 2 + 1) l r₂ (omega arith) p₃ in
+    let r₄ = then d o₃ o₄ head part to (to + 2 + 1 + 2) l r₃ (omega arith) p₄ in
+    let r₅ = then d o₄ o₅ (head ++ part) (word account) to (to + 2 + 1 + 2 + n) l r₄ (omega (arith, long)) p₅ in
+    record {
+      bytes = r₅ ∙ ap₂ (λ (i y : ℕ). over d to (word i ++ (y ∷ []) ++ word k ++ part ++ word account)) e f
+          ∙ ap₂ (λ (n : ℕ) (x : List ℕ). over d to (word r.id ++ (r.way ∷ []) ++ word n ++ x ++ word account)) m is
+          ∙ ap (λ (n : ℕ). over d to (word r.id ++ (r.way ∷ []) ++ word r.period ++ hop_bytes r ++ word n)) a;
+      on = omega (arith, long, ap length is, length_hops r nodes offsets, length_row newest r [] record { nodes = nodes; offsets = offsets });
+    }

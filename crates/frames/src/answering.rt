@@ -1,0 +1,37 @@
+// Answers a framed posting: its reply, its output, its records and its index go behind the answers that are held. An error is
+// that of a write that failed, and ends the run.
+ghost use Rattle.std.specs.Prelude.{◌*◌, ◌≤◌};
+
+use crate::{Frame, MOST_WORDS, REPLY, WORD, records};
+use std::io;
+use std::io::Write;
+use streams::Sink;
+
+// Answers a posting with an index as other calls, with its records at the end.
+fn answer_list<W: Write, const N: usize>(
+    sink: &mut Sink<W, N>,
+    frame: Frame<'_>,
+    index: &mut [u64],
+) -> io::Result<()>
+    requires { WORD * MOST_WORDS ≤ N }
+{
+    let room = frame.room();
+    let whole = sink.room(REPLY + room + frame.further().len())?;
+    let (reply, rest) = whole.split_at_mut(REPLY);
+    let (out, answered) = rest.split_at_mut(room);
+    out.fill(frame.filler());
+    crate::put_reply(reply, records::post(frame, index, out, answered));
+    Ok(())
+}
+
+// Answers a posting, which is lent an index of as many words as it asks for.
+pub fn answer<W: Write, const N: usize>(sink: &mut Sink<W, N>, frame: Frame<'_>) -> io::Result<()>
+    requires { WORD * MOST_WORDS ≤ N }
+{
+    let mut whole = frame.index();
+    let index = &mut whole[..frame.words()];
+    answer_list(sink, frame, index)?;
+    let out = sink.room(WORD * index.len())?;
+    crate::put_index(out, index);
+    Ok(())
+}

@@ -1,0 +1,18 @@
+-- Nothing of either stream is lost, no turn is made where enough is there at the start, and each turn that goes on brings at least one byte.
+use Rattle.std.proofs.Common.{◌≡◌, ◌-◌, ◌≤◌}
+use Rattle.std.specs.Io.KnownBytes.{Keeps}
+use Rattle.streams.specs.Streams.{left_to_give, given}
+use Rattle.streams.proofs.Source.supply.Given as goal
+
+abbrev pub invariant-loop-self : goal.invariant-loop-self
+invariant-loop-self g l = record {
+  there : l.need ≤ l.initial.self.end - l.initial.self.start → l.need ≤ l.self.end - l.self.start;
+  bytes : Keeps (left_to_give l.initial.self.buffer l.initial.self.start l.initial.self.end (g.R.Read.remaining l.initial.self.reader))
+      (left_to_give l.self.buffer l.self.start l.self.end (g.R.Read.remaining l.self.reader));
+  written : Keeps (given l.initial.sink.buffer l.initial.sink.held (g.W.Write.contents l.initial.sink.writer))
+      (given l.sink.buffer l.sink.held (g.W.Write.contents l.sink.writer));
+  held : l.sink.buffer ≡ l.initial.sink.buffer;
+}
+
+abbrev pub decreases-loop-self : goal.decreases-loop-self
+decreases-loop-self g l = l.need - (l.self.end - l.self.start)
