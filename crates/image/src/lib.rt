@@ -113,7 +113,7 @@ fn period_place_in(image: &[u8]) -> usize
 }
 
 // In a row of the image, the bytes before the hop count.
-fn hops_place_in(image: &[u8]) -> usize
+pub fn hops_place_in(image: &[u8]) -> usize
     requires { 5 ≤ length image.now }
     ensures { (result ≡ hops_place (version_of image.now)) × (result ≤ 5) }
 {
@@ -129,7 +129,7 @@ fn row_length_in(image: &[u8]) -> usize
 }
 
 // Whether the image holds its periods in two bytes.
-fn is_wide(image: &[u8]) -> bool
+pub fn is_wide(image: &[u8]) -> bool
     requires { 5 ≤ length image.now }
     ensures { result ≡ has_wide (version_of image.now) }
 {
@@ -307,7 +307,7 @@ pub fn hops_at(image: &[u8], at: usize) -> usize
 }
 
 // Node i of its route, whose nodes stand so many bytes behind the row's start: who reads many hops reads the layout once.
-fn node_in(image: &[u8], at: usize, nodes: usize, i: usize) -> Node
+pub fn node_in(image: &[u8], at: usize, nodes: usize, i: usize) -> Node
     requires { Whole image.now at × (nodes ≡ hops_place (version_of image.now) + 1) × (i ≤ hops (row_at image.now at)) }
     ensures { (result.0 ≡ get_or (row_at image.now at).route i 0) × (result.0 < 256) }
 {
@@ -315,7 +315,7 @@ fn node_in(image: &[u8], at: usize, nodes: usize, i: usize) -> Node
 }
 
 // The offset of hop i of its h hops: the offsets stand behind the nodes.
-fn offset_in(image: &[u8], at: usize, nodes: usize, h: usize, i: usize) -> Slot
+pub fn offset_in(image: &[u8], at: usize, nodes: usize, h: usize, i: usize) -> Slot
     requires { Whole image.now at × (nodes ≡ hops_place (version_of image.now) + 1) × (h ≡ hops (row_at image.now at)) × (i < h) }
     ensures { (result.0 ≡ row_offset (row_at image.now at) i) × TwoBytes result.0 }
 {

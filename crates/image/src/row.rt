@@ -12,7 +12,7 @@ use rules::{Node, Slot, Tile};
 use std::marker::Model;
 
 // A whole row of an image: where its nodes stand behind its start, and how many hops it has, are read once.
-#[derive(Drop)]
+#[derive(Clone, Drop)]
 pub struct Row<'a> {
     image: &'a [u8],
     at: usize,
@@ -132,7 +132,7 @@ fn hop_bytes(image: &[u8], at: usize, nodes: usize, h: usize) -> &[u8]
 }
 
 // Rows of an image, one after the other.
-#[derive(Drop)]
+#[derive(Clone, Drop)]
 pub struct Rows<'a> {
     image: &'a [u8],
     at: usize,
@@ -192,7 +192,8 @@ impl<'a> Iterator for Rows<'a> {
             return None;
         }
         let row = Row::new(self.image, self.at);
-        self.at = crate::next(self.image, self.at);
+        let behind = crate::next(self.image, self.at);
+        self.at = behind;
         self.left -= 1;
         Some(row)
     }

@@ -7,6 +7,6 @@ pub new-row-requires : goal.new-row-requires
 new-row-requires c =
     whole_first _ _ _ (omega (arith, c.if-self-eq0.false)) c.self.invariant
 
-pub next-self-inside-requires : goal.next-self-inside-requires
-next-self-inside-requires c =
+pub next-behind-requires : goal.next-behind-requires
+next-behind-requires c =
     whole_first _ _ _ (omega (arith, c.if-self-eq0.false)) c.self.invariant
