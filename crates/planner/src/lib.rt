@@ -75,7 +75,7 @@ pub fn rewrite(image: &[u8], out: &mut [u8]) -> Result<usize, Refusal>
     if out.len() < image.len() {
         return Err(Refusal::NoRoom);
     }
-    out[..image.len()].copy_from_slice(image);
+    writer::put_part(image, out, 0);
     Ok(image.len())
 }
 

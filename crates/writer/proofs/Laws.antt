@@ -43,6 +43,13 @@ pub over_one : (d : List ℕ) (at x : ℕ) → at < length d → set d at x ≡ 
 unfolding over
 over_one d at x h = rw (set_split d at x h, add-one) (sym (append_snoc (take at d) x (drop (suc at) d)))
 
+-- a turn of a copy
+pub copy_turn : (d s o : List ℕ) (at i : ℕ) → i < length s → at + length s ≤ length d → o ≡ over d at (take i s) → length o ≡ length d
+    → set o (at + i) (get_or s i 0) ≡ over d at (take (i + 1) s)
+copy_turn d s o at i h l e n =
+    let k : at + i ≡ at + length (take i s) = rw (length-take-le i s (omega arith)) in
+    rw (over_one o (at + i) (get_or s i 0) (omega arith), e, over_over d (take i s) (get_or s i 0 ∷ []) at (at + i) (omega arith) k, add-one, take-suc s i 0 h)
+
 words_append : (x y : List ℕ) → in_turn word (x ++ y) ≡ in_turn word x ++ in_turn word y
 words_append [] y = refl
 words_append (a ∷ x) y = rw (words_append x y)

@@ -15,12 +15,13 @@ pub mod transcribing;
 use rules::{Placed, Plan, Route, Tile};
 
 // The bytes of a part, from the place on.
-#[tactic(auto, unfolding(crate::specs::Over::over))]
 pub fn put_part(part: &[u8], out: &mut [u8], at: usize)
     requires { at + length part.now ≤ length out.old }
     ensures { out.new ≡ over out.old at part.now }
 {
-    out[at..at + part.len()].copy_from_slice(part);
+    for (i, byte) in part.iter().enumerate() {
+        out[at + i] = *byte;
+    }
 }
 
 // One byte.
