@@ -15,3 +15,4 @@ pub mod Behind
 pub mod Apart
 pub mod Meets
 pub mod Ends
+pub mod Passing
