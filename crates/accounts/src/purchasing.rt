@@ -1,5 +1,7 @@
 // A purchase on the image of a lawful book: an account has bought so much more.
 ghost use Rattle.std.specs.Prelude.{◌≡◌, ◌+◌, ◌≤◌, length};
+ghost use Rattle.std.specs.Option.{SomeIff};
+ghost use Rattle.rules.specs.Words.{FourBytes};
 ghost use Rattle.rules.specs.Image.{word32};
 ghost use Rattle.rules.specs.Said.{said, written};
 ghost use Rattle.rules.proofs.Reading.{LawfulImage};
@@ -9,6 +11,13 @@ ghost use Rattle.accounts.specs.purchasing.Buying.{Buys};
 use image::Book;
 use rules::refusals::Refusal;
 use writer::transcribing;
+
+// The sum of two numbers, if it is one of 32 bits.
+fn sum(x: u32, y: u32) -> Option<u32>
+    ensures { SomeIff result (FourBytes (x + y)) (x + y) }
+{
+    x.checked_add(y)
+}
 
 // A number in 4 bytes.
 fn put_word32(out: &mut [u8], at: usize, x: u32)
@@ -30,9 +39,7 @@ pub fn purchase_on(
 {
     let book = Book::read(image);
     let place = crate::place_of(image, book, account).ok_or(Refusal::NoSuchAccount)?;
-    let raised = crate::bought_at(image, book, place)
-        .checked_add(amount)
-        .ok_or(Refusal::AccountFull)?;
+    let raised = sum(crate::bought_at(image, book, place), amount).ok_or(Refusal::AccountFull)?;
     let mut work = [0u8; Book::LONGEST];
     let length = transcribing::transcribe(image, &mut work);
     if out.len() < length {
