@@ -44,15 +44,16 @@ module _ (p : List ℕ) where
 
 -- the loop before node i: the set of those passed
 pub record Gathered (p : List ℕ) (i set : ℕ) : Type 0 where
+  pub inside : i ≤ 1 + (hop_count p - 1)
   pub set_of : SetOf (Passed p i) set
 
 module _ (p : List ℕ) where
   module _ {i set : ℕ} (g : Gathered p i set) where
     -- at the end it is the set of the middles
-    pub gathered_done : i ≤ hop_count p → hop_count p ≤ i → SetOf (λ (k : ℕ). k ∈ middles p) set
-    gathered_done l m = record {
+    pub gathered_done : hop_count p ≤ i → SetOf (λ (k : ℕ). k ∈ middles p) set
+    gathered_done m = record {
       fits = g.set_of.fits;
-      only = λ k h. let q = g.set_of.only k h in subst (λ (x : ℕ). x ∈ middles p) q.3 (passed_middle p q.0 q.1 (omega (arith, q.2)));
+      only = λ k h. let q = g.set_of.only k h in subst (λ (x : ℕ). x ∈ middles p) q.3 (passed_middle p q.0 q.1 (omega (arith, q.1, q.2, g.inside)));
       all = λ k n. let q = middle_passed p k n in g.set_of.all k (q.0, q.1, omega (arith, q.2), q.3);
     }
 

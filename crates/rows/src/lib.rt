@@ -5,7 +5,7 @@
 ghost use Rattle.std.specs.Prelude.{◌≡◌, ◌≤◌, IfSome, length};
 ghost use Rattle.rules.specs.Words.{Tests};
 ghost use Rattle.rules.specs.Tiles.{Period, PlanInRange};
-ghost use Rattle.rules.specs.Book.{key, Paid};
+ghost use Rattle.rules.specs.Book.{key, KnownAccount, Paid};
 ghost use Rattle.rules.specs.Records.{the_plan};
 ghost use Rattle.rules.specs.Image.{version_of, streams_of, accounts_of, site_of, rows_place, RowsOf};
 ghost use Rattle.rules.proofs.Reading.{rows_in};
@@ -14,7 +14,7 @@ ghost use Rattle.bitset.specs.Rows.{topology};
 ghost use Rattle.accounts.specs.Lists.{ListRead};
 ghost use Rattle.rows.specs.Frame.{Framed, ReadFrom};
 ghost use Rattle.rows.specs.Walk.{KeyHolds, RouteHolds, OffsetsHold, PeriodHeld, RowHolds, ReadIn, RowsStand};
-ghost use Rattle.rows.specs.Pairs.{ComesBehind};
+ghost use Rattle.rows.specs.Pairs.{ComesBehind, Follows};
 ghost use Rattle.rows.specs.Fill.{AllFill};
 
 use accounts::purses;
@@ -78,6 +78,14 @@ fn period_held(period: Tile, book: Book) -> bool
     (book.is_wide() || period.0 <= rules::SHORT) && rules::is_period(period)
 }
 
+// Whether a row's account is one of the image.
+fn account_known(row: &Row<'_>, image: &[u8], book: Book) -> bool
+    requires { ListRead image.now book }
+    ensures { Tests result (KnownAccount (accounts_of image.now) row.now.account) }
+{
+    accounts::is_known(image, book, row.account())
+}
+
 // Whether a row of the image is lawful, and one that its version holds.
 #[tactic(auto, using(crate::proofs::Single::hold_parts, crate::proofs::Walks::plan_read))]
 pub fn holds(row: &Row<'_>, image: &[u8], book: Book, links: &[u64]) -> bool
@@ -85,17 +93,26 @@ pub fn holds(row: &Row<'_>, image: &[u8], book: Book, links: &[u64]) -> bool
     ensures { Tests result (RowHolds (version_of image.now) (site_of image.now) row.now) }
 {
     key_holds(row)
-        && accounts::is_known(image, book, row.account())
+        && account_known(row, image, book)
         && period_held(row.period(), book)
         && route_holds(row, links)
         && offsets_hold(row, book.plan, row.period())
 }
 
 // The key of a row: its id, then its way.
-fn key_of(row: &Row<'_>) -> usize
+pub fn key_of(row: &Row<'_>) -> usize
     ensures { result ≡ key row.now }
 {
     usize::from(row.id()) * 256 + usize::from(row.way())
+}
+
+// Whether a row may come behind the one before, of the key `last`, or as the first of all, where that is 0.
+pub fn follows(before: &Row<'_>, last: usize, row: &Row<'_>) -> bool
+    requires { (1 ≤ last → InRange before.now) × InRange row.now }
+    ensures { Tests result (Follows before.now last row.now) }
+{
+    let alone = row.way() != SECOND_WAY;
+    last < key_of(row) && (alone || last != 0 && pair::pair_holds(before, row))
 }
 
 // Whether a row may come behind the one before, or as the first of all, where there is none.
@@ -103,10 +120,9 @@ pub fn comes_behind(before: &Option<Row<'_>>, row: &Row<'_>) -> bool
     requires { IfSome before.now InRange × InRange row.now }
     ensures { Tests result (ComesBehind before.now row.now) }
 {
-    let alone = row.way() != SECOND_WAY;
     match before {
-        Some(before) => key_of(before) < key_of(row) && (alone || pair::pair_holds(before, row)),
-        None => alone,
+        Some(before) => follows(before, key_of(before), row),
+        None => row.way() != SECOND_WAY,
     }
 }
 

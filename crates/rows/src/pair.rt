@@ -1,8 +1,8 @@
 // Whether a row may stand as the second way of a stream behind its first.
-ghost use Rattle.std.specs.Prelude.{ℕ};
+ghost use Rattle.std.specs.Prelude.{ℕ, ◌<◌, ◌≤◌, get_or};
 ghost use Rattle.rules.specs.Words.{Tests, ◌∈◌};
 ghost use Rattle.rules.specs.Topology.{middles, Beside};
-ghost use Rattle.rules.specs.Book.{Pair};
+ghost use Rattle.rules.specs.Book.{Pair, hops};
 ghost use Rattle.bitset.specs.Sets.{SetOf};
 ghost use Rattle.image.specs.Places.{InRange};
 ghost use Rattle.rows.specs.Pairs.{SameStream, SameEnds};
@@ -12,7 +12,7 @@ use rules::{FIRST_WAY, SHORT_HOPS};
 
 // The nodes between the ends of a row's route.
 pub fn middles_of(row: &Row<'_>) -> u64
-    requires { InRange row.now }
+    requires { (i : ℕ) → 1 ≤ i → i < hops row.now → get_or row.now.route i 0 < 64 }
     ensures { SetOf (λ (a : ℕ). a ∈ middles row.now.route) result }
 {
     let mut set: u64 = 0;

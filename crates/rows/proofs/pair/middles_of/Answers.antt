@@ -5,4 +5,4 @@ use Rattle.rows.proofs.pair.middles_of.Goals as goal
 
 pub returns : goal.returns
 returns c =
-    gathered_done _ c.loop-i.invariant (omega arith) (omega arith)
+    gathered_done _ c.loop-i.invariant (omega arith)
