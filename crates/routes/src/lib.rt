@@ -77,7 +77,8 @@ fn search(
         }
         unmet = bitset::difference(unmet, last);
     }
-    if goes_on(links, source, last, unmet) {
+    let farther = goes_on(links, source, last, unmet);
+    if farther {
         Err(Refusal::TooFar)
     } else {
         Err(Refusal::NoRoute)
