@@ -1,2 +1,3 @@
 pub mod statements
 pub mod months
+pub mod printing

@@ -1,8 +1,9 @@
 // Answers a framed posting: its reply, its output, its records and its index go behind the answers that are held. An error is
 // that of a write that failed, and ends the run.
-ghost use Rattle.std.specs.Prelude.{◌*◌, ◌≤◌};
+ghost use Rattle.std.specs.Prelude.{◌≤◌};
+ghost use Rattle.frames.specs.Lengths.{most_part};
 
-use crate::{Frame, MOST_WORDS, REPLY, WORD, records};
+use crate::{Frame, REPLY, WORD, records};
 use std::io;
 use std::io::Write;
 use streams::Sink;
@@ -13,7 +14,7 @@ fn answer_list<W: Write, const N: usize>(
     frame: Frame<'_>,
     index: &mut [u64],
 ) -> io::Result<()>
-    requires { WORD * MOST_WORDS ≤ N }
+    requires { most_part ≤ N }
 {
     let room = frame.room();
     let whole = sink.room(REPLY + room + frame.further().len())?;
@@ -26,7 +27,7 @@ fn answer_list<W: Write, const N: usize>(
 
 // Answers a posting, which is lent an index of as many words as it asks for.
 pub fn answer<W: Write, const N: usize>(sink: &mut Sink<W, N>, frame: Frame<'_>) -> io::Result<()>
-    requires { WORD * MOST_WORDS ≤ N }
+    requires { most_part ≤ N }
 {
     let mut whole = frame.index();
     let index = &mut whole[..frame.words()];

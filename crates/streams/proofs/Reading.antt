@@ -1,5 +1,5 @@
 -- What a reading brings stands behind what was there.
-use Rattle.std.proofs.Common.{◌≡◌, ℕ, ◌+◌, List, ◌++◌, None, Some, Option, Result, Ok, Err, IfOk, length, slice_range, take, drop, refl, sym, ap, subst, ◌∙◌, append_assoc, drop_at}
+use Rattle.std.proofs.Common.{◌≡◌, ◌⊎◌, inl, inr, ℕ, ◌+◌, List, ◌++◌, None, Some, Option, Result, Ok, Err, IfOk, length, slice_range, take, drop, refl, sym, ap, subst, ◌∙◌, append_assoc, drop_at}
 use Rattle.std.proofs.lemmas.Slice.{between_from_start}
 use lib.Seq.{take-add, take-append-le}
 use Rattle.std.specs.Io.{ReadsAtMost}
@@ -39,3 +39,9 @@ keeps_trans None b c p q = tt
 keeps_trans (Some x) None c p q = absurd p
 keeps_trans (Some x) (Some y) None p q = absurd q
 keeps_trans (Some x) (Some y) (Some z) p q = q ∙ p
+
+-- what is held after two steps, of which each keeps it or lets all go
+pub left_trans : {a b c : ℕ} → (b ≡ a) ⊎ (b ≡ 0) → (c ≡ b) ⊎ (c ≡ 0) → (c ≡ a) ⊎ (c ≡ 0)
+left_trans (inl p) (inl q) = inl (q ∙ p)
+left_trans (inr p) (inl q) = inr (q ∙ p)
+left_trans p (inr q) = inr q

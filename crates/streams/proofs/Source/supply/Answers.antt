@@ -1,10 +1,10 @@
 -- What is kept by each step is kept by all.
-use Rattle.std.proofs.Common.{refl, ◌∙◌, arith}
+use Rattle.std.proofs.Common.{refl, ◌∙◌, inl, inr, arith}
 use Rattle.streams.proofs.Reading.{keeps_refl, keeps_trans}
 use Rattle.streams.proofs.Source.supply.Goals as goal
 
 pub loop-self-init : goal.loop-self-init
-loop-self-init g c = record { there = λ h. h; bytes = keeps_refl _; written = keeps_refl _; held = refl }
+loop-self-init g c = record { there = λ h. h; bytes = keeps_refl _; written = keeps_refl _; held = refl; left = inl refl }
 
 pub returns-in_err-refill-clause-bytes : goal.returns-in_err-refill-clause-bytes
 returns-in_err-refill-clause-bytes g c = keeps_trans _ _ _ c.loop-self.invariant.bytes c.refill.ensures.bytes
@@ -21,4 +21,5 @@ loop-self-preserved g c = record {
   bytes = keeps_trans _ _ _ c.loop-self.invariant.bytes c.refill.ensures.bytes;
   written = keeps_trans _ _ _ c.loop-self.invariant.written c.in_ok-write_held.ensures.bytes;
   held = c.in_ok-write_held.ensures.buffer ∙ c.loop-self.invariant.held;
+  left = inr c.in_ok-write_held.ensures.held;
 }
