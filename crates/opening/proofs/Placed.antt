@@ -5,7 +5,7 @@ use mathlib.Core.List.{List, [], ◌∷◌}
 use Rattle.std.specs.Prelude.{Option, Some, None}
 use Rattle.std.specs.Option.{ok_or}
 use Rattle.rules.specs.declared.refusals.Refusal.TheVariants.{NoSlots}
-use Prim.Native.Nat.{ℕ, ◌-◌, ◌<◌, ◌≤◌}
+use Prim.Native.Nat.{ℕ, ◌+◌, ◌-◌, ◌<◌, ◌≤◌}
 use native.Mathlib.Omega.{arith}
 use lib.ListN.{length, get_or, take, drop}
 use Rattle.rules.specs.Words.{◌∈◌}
@@ -19,6 +19,8 @@ use Rattle.rules.specs.Book.{Row, LawfulBook}
 use Rattle.rules.specs.Placing as placings
 use Rattle.rules.specs.Placing.{Asked, FirstPlacing, beside}
 use Rattle.rules.specs.Image.{plan_of, hearing_of, streams_of, rows_place}
+use Rattle.rules.proofs.Meeting.{in_at}
+use Rattle.rules.proofs.Records.{node_of, node_at_lem, node_holds, route_length, offsets_length}
 use Rattle.rules.proofs.Reading.{rows_in, book_in}
 use Rattle.image.specs.declared.Book.{Book}
 use Rattle.bitset.specs.Rows.{topology}
@@ -113,17 +115,6 @@ module _ (nodes : List Node) (offsets : List Slot) where
   unfolding the_offsets
   no_offsets = refl
 
-  pub nothing_fits : (length (the_offsets nothing) ≤ length (the_route nothing.route) - 1) × ((a : ℕ) → a ∈ the_route nothing.route → a < 64) × (0 ≤ most_route_hops)
-  nothing_fits = (
-    omega (arith, ap length no_offsets),
-    λ a m. small a (subst (λ (route : List ℕ). a ∈ route) one_node m),
-    omega arith,
-  )
-    where
-      small : (a : ℕ) → a ∈ (0 ∷ []) → a < 64
-      small a (inl e) = omega (arith, e)
-      small a (inr m) = absurd m
-
   pub covers_none : (s : List ℕ) (K : ℕ) → Covers s (rows_in s) K (the_route nothing.route) (the_offsets nothing) (book_in s)
   covers_none s K =
       subst₂ (λ (first taken : List ℕ). Covers s (rows_in s) K first taken (book_in s)) (sym one_node) (sym no_offsets)
@@ -145,13 +136,23 @@ covers_first {s} q {first} {offsets} w = record {
     each x (inl e) = inr (record { period_is = ap (λ (r : Row). r.period) e; route_is = ap (λ (r : Row). r.route) e; offsets_are = ap (λ (r : Row). r.offsets) e })
     each x (inr m) = inl m
 
--- the second is placed beside it
-pub first_bounds : {s words : List ℕ} {book : Book} {q : Asked} {first offsets : List ℕ} → RouteAsked s words book q first
-    → FirstPlacing (book_in s) q.period first offsets → (length offsets ≤ length first - 1) × ((a : ℕ) → a ∈ first → a < 64)
-first_bounds w p = (
-  omega (arith, p.placing.offsets_hold.count),
-  λ a m. omega (arith, w.path.known a m, w.asked.image.newest.lawful.lawful.site.nodes.1),
-)
+-- the nodes of the first route are known
+pub first_small : {s words : List ℕ} {book : Book} {q : Asked} (first : Route) → RouteAsked s words book q (the_route first) → first.hops ≤ most_route_hops
+    → length first.nodes ≡ most_route_hops + 1 → (i : ℕ) → i ≤ first.hops → (node_of first i).0 < 64
+first_small first w few sized =
+    node_holds (λ (a : ℕ). a < 64) first few sized (λ a m. omega (arith, w.path.known a m, w.asked.image.newest.lawful.lawful.site.nodes.1))
+
+-- and what it has stays in bounds, where the second is placed beside it
+module _ (first : held.Placed) (few : first.route.hops ≤ most_route_hops) (nodes : length first.route.nodes ≡ most_route_hops + 1) where
+  pub bounds : length first.offsets ≡ most_route_hops → ((i : ℕ) → i ≤ first.route.hops → (node_of first.route i).0 < 64)
+      → (length (the_offsets first) ≤ length (the_route first.route) - 1) × ((a : ℕ) → a ∈ the_route first.route → a < 64)
+  bounds offsets small = (omega (arith, offsets_length first few offsets, route_length first.route few nodes), known)
+    where
+      known : (a : ℕ) → a ∈ the_route first.route → a < 64
+      known a m =
+          let q = in_at a (the_route first.route) m in
+          let l : q.0 ≤ first.route.hops = omega (arith, q.1, route_length first.route few nodes) in
+          omega (arith, q.2, node_at_lem first.route q.0 l, small q.0 l)
 
 -- what is asked of a route that is placed
 pub route_held : {s words : List ℕ} {book : Book} {q : Asked} (p : held.Placed) → RouteAsked s words book q (the_route p.route)

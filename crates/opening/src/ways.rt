@@ -5,6 +5,7 @@ ghost use Rattle.rules.specs.Topology.{hop_count, most_route_hops};
 ghost use Rattle.rules.specs.Records.{the_asked, the_route, the_offsets};
 ghost use Rattle.rules.specs.Said.{said, written};
 ghost use Rattle.rules.specs.Book.{most_streams, most_hops};
+ghost use Rattle.rules.proofs.Records.{node_of};
 ghost use Rattle.rules.proofs.Reading.{book_in};
 ghost use Rattle.changing.specs.adding.Puts.{rows_on};
 ghost use Rattle.opening.specs.Keeping.{PlacedAll, routes_of, RoutesKept, Keeps};
@@ -35,7 +36,7 @@ fn place_beside(
     first: Placed,
 ) -> Result<[Slot; ROUTE_HOPS], Refusal>
     requires route_asked { RouteAsked image.now index.now book (the_asked q) (the_route route) × (hop_count (the_route route) ≡ route.hops) }
-    requires first_in_bounds { (length (the_offsets first) ≤ length (the_route first.route) - 1) × ((a : ℕ) → a ∈ the_route first.route → a < 64) × (first.route.hops ≤ most_route_hops) }
+    requires first_in_bounds { (first.route.hops ≤ most_route_hops) × ((i : ℕ) → i ≤ first.route.hops → (node_of first.route i).0 < 64) }
     ensures { PlacedOn image.now (the_asked q) route (the_route first.route) (the_offsets first) result }
 {
     let plan = book.plan;

@@ -4,7 +4,11 @@ use Rattle.std.proofs.Common.{refl, ap}
 use mathlib.Core.Path.{sym, subst}
 use mathlib.Core.Logic.{inl, inr}
 use mathlib.Core.List.{[], ◌∷◌}
+use Prim.Native.Nat.{◌≤◌}
 use native.Mathlib.Omega.{arith}
+use borrow.Author.Rules.{rules}
+use Rattle.rules.specs.Topology.{most_route_hops}
+use Rattle.rules.proofs.Records.{unmapped}
 use Rattle.rules.specs.Said.{number_of}
 use Rattle.rules.specs.Words.{Tests}
 use Rattle.rules.specs.Records.{the_asked, the_route}
@@ -12,7 +16,7 @@ use Rattle.rules.specs.Placing.{Full}
 use Rattle.rules.proofs.Tests.{fails}
 use Rattle.rules.proofs.Reading.{book_in}
 use Rattle.opening.specs.Keeping.{RouteHeld}
-use Rattle.opening.proofs.Placed.{covers_first, first_bounds, route_held}
+use Rattle.opening.proofs.Placed.{covers_first, first_small, route_held}
 use Rattle.opening.proofs.Routed.{new_row, tests_full}
 use Rattle.opening.proofs.ways.place_both.Goals.{After-is_full, Else-is_full}
 use Rattle.opening.proofs.ways.place_both.Goals as goal
@@ -43,15 +47,9 @@ returns-in_err-offsets c =
 pub place_beside-requires-clause-first_in_bounds : goal.place_beside-requires-clause-first_in_bounds
 place_beside-requires-clause-first_in_bounds c =
     let w = c.requires.route_asked in
-    let b = first_bounds w.0 c.in_ok-offsets.ensures in
-    (b.0, b.1, omega (arith, w.0.few, w.1))
-
-pub returns-in_err-offsets-2 : goal.returns-in_err-offsets-2
-returns-in_err-offsets-2 c =
-    let e = err_from_is_err_and c.from_residual-in_err-offsets-2.result c.from_residual-in_err-offsets-2.ensures.1 in
-    let p = c.in_ok-offsets.ensures in
-    let none = c.in_err-offsets-2.ensures _ (covers_first (the_asked c.args.q) p) in
-    rw (e.1, e.2) (inr (room (goal.at.returns-in_err-offsets-2 c).Else-is_full, inl (inr (_, new_row (the_asked c.args.q) 1 _ _ p, inl none.1), ap number_of none.0)))
+    let few : c.args.route.hops ≤ most_route_hops = omega (arith, w.0.few, w.1) in
+    let small = first_small c.args.route w.0 few (search (rules, unmapped)) in
+    (omega (arith, few), λ i l. small i (omega arith))
 
 pub returns : goal.returns
 returns c =
@@ -67,3 +65,10 @@ returns c =
         | inr (inr n) ↦ absurd n
       ];
     }
+
+pub returns-in_err-offsets-2 : goal.returns-in_err-offsets-2
+returns-in_err-offsets-2 c =
+    let e = err_from_is_err_and c.from_residual-in_err-offsets-2.result c.from_residual-in_err-offsets-2.ensures.1 in
+    let p = c.in_ok-offsets.ensures in
+    let none = c.in_err-offsets-2.ensures _ (covers_first (the_asked c.args.q) p) in
+    rw (e.1, e.2) (inr (room (goal.at.returns-in_err-offsets-2 c).Else-is_full, inl (inr (_, new_row (the_asked c.args.q) 1 _ _ p, inl none.1), ap number_of none.0)))
