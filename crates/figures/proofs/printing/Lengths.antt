@@ -1,5 +1,5 @@
 -- How many bytes the lines of a statement have at most.
-use Rattle.std.proofs.Common.{◌≡◌, ◌⊎◌, inl, inr, get_or, min, ◌*◌, List, ℕ, ℤ, pos, negsuc, zero, suc, [], ◌∷◌, ◌++◌, ◌+◌, ◌^◌, ◌≤◌, ◌<◌, length, nat_abs, length-append, subst, arith}
+use Rattle.std.proofs.Common.{◌≡◌, ◌⊎◌, inl, inr, get_or, ◌*◌, List, ℕ, ℤ, pos, negsuc, zero, suc, ◌∷◌, ◌++◌, ◌+◌, ◌^◌, ◌≤◌, ◌<◌, length, nat_abs, length-append, subst, arith}
 use Rattle.std.specs.Fmt.{decimal}
 use Rattle.std.below.core.proofs.fmt.Decimal.{decimal_is_bounded}
 use Rattle.figures.specs.printing.Room.{number_room, line_room, nodes_room}
