@@ -17,7 +17,9 @@ fn answer_list<W: Write, const N: usize>(
     requires { most_part ≤ N }
 {
     let room = frame.room();
-    let whole = sink.room(REPLY + room + frame.further().len())?;
+    let size = REPLY + room + frame.further().len();
+    let at = sink.reserve(size)?;
+    let whole = &mut sink.as_mut_slice()[at..at + size];
     let (reply, rest) = whole.split_at_mut(REPLY);
     let (out, answered) = rest.split_at_mut(room);
     out.fill(frame.filler());
@@ -32,7 +34,8 @@ pub fn answer<W: Write, const N: usize>(sink: &mut Sink<W, N>, frame: Frame<'_>)
     let mut whole = frame.index();
     let index = &mut whole[..frame.words()];
     answer_list(sink, frame, index)?;
-    let out = sink.room(WORD * index.len())?;
-    crate::put_index(out, index);
+    let size = WORD * index.len();
+    let at = sink.reserve(size)?;
+    crate::put_index(&mut sink.as_mut_slice()[at..at + size], index);
     Ok(())
 }

@@ -1,10 +1,10 @@
 -- What a reading brings stands behind what was there.
-use Rattle.std.proofs.Common.{◌≡◌, ◌⊎◌, inl, inr, ℕ, ◌+◌, List, ◌++◌, None, Some, Option, Result, Ok, Err, IfOk, length, slice_range, take, drop, refl, sym, ap, subst, ◌∙◌, append_assoc, drop_at}
+use Rattle.std.proofs.Common.{◌≡◌, ℕ, ◌+◌, List, [], ◌++◌, None, Some, Option, Result, Ok, Err, IfOk, OnOk, length, slice_range, take, drop, sym, ap, subst, ◌∙◌, append_assoc, append-nil, drop_at}
 use Rattle.std.proofs.lemmas.Slice.{between_from_start}
 use lib.Seq.{take-add, take-append-le}
 use Rattle.std.specs.Io.{ReadsAtMost}
-use Rattle.std.specs.Io.KnownBytes.{Keeps, Consumes, ReadConsumes, prepend_known}
-use Rattle.streams.specs.Streams.{left_to_give}
+use Rattle.std.specs.Io.KnownBytes.{Keeps, Appends, Consumes, ReadConsumes, prepend_known}
+use Rattle.streams.specs.Streams.{left_to_give, given}
 
 pub read_more : (a b : Option (List ℕ)) (front new bs : List ℕ) → Consumes a b bs → new ≡ front ++ bs → Keeps (prepend_known front a) (prepend_known new b)
 read_more None b front new bs p e = tt
@@ -30,18 +30,20 @@ behind a b (Ok n) old new at front read = read_more a b (slice_range old 0 at) _
     (between_from_start new (at + n) ∙ take-add at n new ∙ ap (λ l. l ++ take n (drop at new)) (front ∙ sym (between_from_start old at)))
 behind a b (Err e) old new at front read = tt
 
-pub keeps_refl : (a : Option (List ℕ)) → Keeps a a
-keeps_refl None = tt
-keeps_refl (Some x) = refl
+-- what a writer takes behind all that was held stands behind it
+pub passed_on : {T E : Type 0} (a y z : Option (List ℕ)) (buffer bytes : List ℕ) (held : ℕ) (r : Result T E) → held ≡ 0 → Keeps a (given buffer held y)
+    → OnOk r (Appends y z bytes) → OnOk r (Appends a (given buffer held z) bytes)
+passed_on None y z buffer bytes held (Ok u) p k q = tt
+passed_on (Some x) None z buffer bytes held (Ok u) p k q = absurd k
+passed_on (Some x) (Some y) None buffer bytes held (Ok u) p k q = absurd q
+passed_on (Some x) (Some y) (Some z) buffer bytes held (Ok u) p k q =
+    let none : take held buffer ≡ [] = ap (λ n. take n buffer) p in
+    ap (λ l. z ++ l) none ∙ append-nil z ∙ q ∙ ap (λ l. l ++ bytes) (sym (append-nil y) ∙ ap (λ l. y ++ l) (sym none) ∙ k)
+passed_on a y z buffer bytes held (Err e) p k q = tt
 
-pub keeps_trans : (a b c : Option (List ℕ)) → Keeps a b → Keeps b c → Keeps a c
-keeps_trans None b c p q = tt
-keeps_trans (Some x) None c p q = absurd p
-keeps_trans (Some x) (Some y) None p q = absurd q
-keeps_trans (Some x) (Some y) (Some z) p q = q ∙ p
-
--- what is held after two steps, of which each keeps it or lets all go
-pub left_trans : {a b c : ℕ} → (b ≡ a) ⊎ (b ≡ 0) → (c ≡ b) ⊎ (c ≡ 0) → (c ≡ a) ⊎ (c ≡ 0)
-left_trans (inl p) (inl q) = inl (q ∙ p)
-left_trans (inr p) (inl q) = inr (q ∙ p)
-left_trans p (inr q) = inr q
+-- what is given behind a step that keeps all follows all
+pub appends_then : (a b c : Option (List ℕ)) (bytes : List ℕ) → Keeps a b → Appends b c bytes → Appends a c bytes
+appends_then None b c bytes p q = tt
+appends_then (Some x) None c bytes p q = absurd p
+appends_then (Some x) (Some y) None bytes p q = absurd q
+appends_then (Some x) (Some y) (Some z) bytes p q = q ∙ ap (λ l. l ++ bytes) p

@@ -1,10 +1,22 @@
 -- What the lines of a statement say.
-use Rattle.std.specs.Prelude.{List, [], ℕ, ℤ, pos, negsuc, zero, suc, ◌++◌, ◌∷◌, ◌-ℤ◌, get_or}
+use Rattle.std.specs.Prelude.{List, [], ℕ, ℤ, pos, negsuc, zero, suc, ◌++◌, ◌∷◌, ◌-ℤ◌, get_or, codes, Result, Ok, Err}
 use Rattle.std.specs.Fmt.{decimal}
+use Rattle.rules.specs.declared.refusals.Refusal.{Refusal}
+use Rattle.rules.specs.Said.{number_of}
+use Rattle.figures.specs.declared.statements.Figures.{Figures}
 
 -- three numbers with a space between
 abbrev pub line_text : ℕ → ℕ → ℕ → List ℕ
 line_text fewest used latency = decimal fewest ++ 32 ∷ (decimal used ++ 32 ∷ decimal latency)
+
+-- the number of a refusal
+abbrev pub refused_text : Refusal → List ℕ
+refused_text refusal = codes "refused " ++ decimal (number_of refusal)
+
+-- what a statement says of an image: its figures, or its refusal
+abbrev pub month_text : Result Figures Refusal → List ℕ
+month_text (Ok figures) = line_text figures.fewest figures.used figures.latency
+month_text (Err refusal) = refused_text refusal
 
 -- from so many free slots to so many
 abbrev pub movement : ℕ → ℕ → ℤ

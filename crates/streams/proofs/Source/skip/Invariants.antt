@@ -1,7 +1,7 @@
 -- Nothing that is held is lost, no turn is made where enough is there at the start, and each turn that goes on brings at least one byte.
-use Rattle.std.proofs.Common.{◌≡◌, ◌-◌, ◌≤◌, ◌⊎◌}
+use Rattle.std.proofs.Common.{◌≡◌, ◌-◌, ◌≤◌}
 use Rattle.std.specs.Io.KnownBytes.{Keeps}
-use Rattle.streams.specs.Streams.{given}
+use Rattle.streams.specs.Streams.{given, KeptOrWritten}
 use Rattle.streams.proofs.Source.skip.Given as goal
 
 abbrev pub invariant-loop-self : goal.invariant-loop-self
@@ -10,7 +10,8 @@ invariant-loop-self g l = record {
   written : Keeps (given l.initial.sink.buffer l.initial.sink.held (g.W.Write.contents l.initial.sink.writer))
       (given l.sink.buffer l.sink.held (g.W.Write.contents l.sink.writer));
   held : l.sink.buffer ≡ l.initial.sink.buffer;
-  left : (l.sink.held ≡ l.initial.sink.held) ⊎ (l.sink.held ≡ 0);
+  left : KeptOrWritten l.initial.sink.held (given l.initial.sink.buffer l.initial.sink.held (g.W.Write.contents l.initial.sink.writer))
+      l.sink.held (given l.sink.buffer l.sink.held (g.W.Write.contents l.sink.writer));
 }
 
 abbrev pub decreases-loop-self : goal.decreases-loop-self

@@ -1,7 +1,7 @@
 -- Nothing of either stream is lost, no turn is made where enough is there at the start, and each turn that goes on brings at least one byte.
-use Rattle.std.proofs.Common.{◌≡◌, ◌-◌, ◌≤◌, ◌⊎◌}
+use Rattle.std.proofs.Common.{◌≡◌, ◌-◌, ◌≤◌}
 use Rattle.std.specs.Io.KnownBytes.{Keeps}
-use Rattle.streams.specs.Streams.{left_to_give, given}
+use Rattle.streams.specs.Streams.{left_to_give, given, KeptOrWritten}
 use Rattle.streams.proofs.Source.supply.Given as goal
 
 abbrev pub invariant-loop-self : goal.invariant-loop-self
@@ -12,7 +12,8 @@ invariant-loop-self g l = record {
   written : Keeps (given l.initial.sink.buffer l.initial.sink.held (g.W.Write.contents l.initial.sink.writer))
       (given l.sink.buffer l.sink.held (g.W.Write.contents l.sink.writer));
   held : l.sink.buffer ≡ l.initial.sink.buffer;
-  left : (l.sink.held ≡ l.initial.sink.held) ⊎ (l.sink.held ≡ 0);
+  left : KeptOrWritten l.initial.sink.held (given l.initial.sink.buffer l.initial.sink.held (g.W.Write.contents l.initial.sink.writer))
+      l.sink.held (given l.sink.buffer l.sink.held (g.W.Write.contents l.sink.writer));
 }
 
 abbrev pub decreases-loop-self : goal.decreases-loop-self
