@@ -1,6 +1,7 @@
 // Answers a framed posting: its reply, its output, its records and its index go behind the answers that are held. An error is
 // that of a write that failed, and ends the run.
-ghost use Rattle.std.specs.Prelude.{◌≤◌};
+ghost use Rattle.std.specs.Prelude.{◌≤◌, OnOk};
+ghost use Rattle.streams.specs.Streams.{given, Grows};
 ghost use Rattle.frames.specs.Lengths.{most_part};
 
 use crate::{Frame, REPLY, WORD, records};
@@ -15,6 +16,8 @@ fn answer_list<W: Write, const N: usize>(
     index: &mut [u64],
 ) -> io::Result<()>
     requires { most_part ≤ N }
+    ensures { OnOk result (Grows (given sink.old.buffer sink.old.held (W.contents sink.old.writer))
+        (given sink.new.buffer sink.new.held (W.contents sink.new.writer))) }
 {
     let room = frame.room();
     let size = REPLY + room + frame.further().len();
@@ -30,6 +33,8 @@ fn answer_list<W: Write, const N: usize>(
 // Answers a posting, which is lent an index of as many words as it asks for.
 pub fn answer<W: Write, const N: usize>(sink: &mut Sink<W, N>, frame: Frame<'_>) -> io::Result<()>
     requires { most_part ≤ N }
+    ensures { OnOk result (Grows (given sink.old.buffer sink.old.held (W.contents sink.old.writer))
+        (given sink.new.buffer sink.new.held (W.contents sink.new.writer))) }
 {
     let mut whole = frame.index();
     let index = &mut whole[..frame.words()];

@@ -1,10 +1,10 @@
 -- What a reading brings stands behind what was there.
-use Rattle.std.proofs.Common.{◌≡◌, ℕ, ◌+◌, List, [], ◌++◌, None, Some, Option, Result, Ok, Err, IfOk, OnOk, length, slice_range, take, drop, sym, ap, subst, ◌∙◌, append_assoc, append-nil, drop_at}
+use Rattle.std.proofs.Common.{◌≡◌, ℕ, ◌+◌, List, [], ◌++◌, None, Some, Option, Result, Ok, Err, IfOk, OnOk, length, slice_range, take, drop, sym, ap, subst, ◌∙◌, append_assoc, append-nil, drop_at, ◌≤◌, take-append-drop}
 use Rattle.std.proofs.lemmas.Slice.{between_from_start}
-use lib.Seq.{take-add, take-append-le}
+use lib.Seq.{take-add, take-append-le, take-take}
 use Rattle.std.specs.Io.{ReadsAtMost}
 use Rattle.std.specs.Io.KnownBytes.{Keeps, Appends, Consumes, ReadConsumes, prepend_known}
-use Rattle.streams.specs.Streams.{left_to_give, given}
+use Rattle.streams.specs.Streams.{left_to_give, given, Grows}
 
 pub read_more : (a b : Option (List ℕ)) (front new bs : List ℕ) → Consumes a b bs → new ≡ front ++ bs → Keeps (prepend_known front a) (prepend_known new b)
 read_more None b front new bs p e = tt
@@ -47,3 +47,19 @@ appends_then None b c bytes p q = tt
 appends_then (Some x) None c bytes p q = absurd p
 appends_then (Some x) (Some y) None bytes p q = absurd q
 appends_then (Some x) (Some y) (Some z) bytes p q = q ∙ ap (λ l. l ++ bytes) p
+
+-- what was given before a place stays, where the buffer does up to there
+pub grows_behind : (a c : Option (List ℕ)) (old new : List ℕ) (at held : ℕ) → at ≤ held → Keeps a (given old at c) → take at new ≡ take at old
+    → Grows a (given new held c)
+grows_behind None c old new at held l k e = ([], tt)
+grows_behind (Some x) None old new at held l k e = absurd k
+grows_behind (Some x) (Some c) old new at held l k e =
+    let rest = drop at (take held new) in
+    let front : take at (take held new) ≡ take at old = take-take at held new l ∙ e in
+    (rest, ap (λ z. c ++ z) (sym (take-append-drop at (take held new)) ∙ ap (λ z. z ++ rest) front) ∙ sym (append_assoc c (take at old) rest) ∙ ap (λ z. z ++ rest) k)
+
+pub grows_then : (a b c : Option (List ℕ)) → Grows a b → Grows b c → Grows a c
+grows_then None b c p q = ([], tt)
+grows_then (Some x) None c p q = absurd p.1
+grows_then (Some x) (Some y) None p q = absurd q.1
+grows_then (Some x) (Some y) (Some z) p q = (p.0 ++ q.0, q.1 ∙ ap (λ l. l ++ q.0) p.1 ∙ append_assoc x p.0 q.0)
