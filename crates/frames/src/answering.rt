@@ -1,6 +1,6 @@
 // Answers a framed posting: its reply, its output, its records and its index go behind the answers that are held. An error is
 // that of a write that failed, and ends the run.
-ghost use Rattle.std.specs.Prelude.{◌≤◌, OnOk};
+ghost use Rattle.std.specs.Prelude.{◌≡◌, ◌≤◌, OnOk, OnErr};
 ghost use Rattle.streams.specs.Streams.{given, Grows};
 ghost use Rattle.frames.specs.Lengths.{most_part};
 
@@ -16,8 +16,9 @@ fn answer_list<W: Write, const N: usize>(
     index: &mut [u64],
 ) -> io::Result<()>
     requires { most_part ≤ N }
-    ensures { OnOk result (Grows (given sink.old.buffer sink.old.held (W.contents sink.old.writer))
+    ensures grows { OnOk result (Grows (given sink.old.buffer sink.old.held (W.contents sink.old.writer))
         (given sink.new.buffer sink.new.held (W.contents sink.new.writer))) }
+    ensures err { OnErr result ((sink.new.buffer ≡ sink.old.buffer) × (sink.new.held ≡ sink.old.held)) }
 {
     let room = frame.room();
     let size = REPLY + room + frame.further().len();

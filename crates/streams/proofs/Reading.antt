@@ -1,5 +1,6 @@
 -- What a reading brings stands behind what was there.
-use Rattle.std.proofs.Common.{◌≡◌, ℕ, ◌+◌, List, [], ◌++◌, None, Some, Option, Result, Ok, Err, IfOk, OnOk, length, slice_range, take, drop, sym, ap, subst, ◌∙◌, append_assoc, append-nil, drop_at, ◌≤◌, take-append-drop}
+use Rattle.std.proofs.Common.{◌≡◌, ℕ, ◌+◌, ◌≤◌, List, [], ◌++◌, None, Some, Option, Result, Ok, Err, IfOk, OnOk, length, slice_range, take, drop}
+use Rattle.std.proofs.Common.{sym, ap, subst, ◌∙◌, append_assoc, append-nil, drop_at, take-append-drop}
 use Rattle.std.proofs.lemmas.Slice.{between_from_start}
 use lib.Seq.{take-add, take-append-le, take-take}
 use Rattle.std.specs.Io.{ReadsAtMost}

@@ -1,4 +1,4 @@
--- The index is written behind the answer, and that behind all that is held.
+-- What is written for the index stands behind the answer, and that behind all that is held.
 use Rattle.std.proofs.Common.{take, ap, arith, ◌∙◌}
 use borrow.Rule.Slice.PartMut.{take_put}
 use Rattle.streams.proofs.Reading.{grows_behind, grows_then}
@@ -7,5 +7,5 @@ use Rattle.frames.proofs.answering.answer.Goals as goal
 pub returns : goal.returns
 returns g c =
     let at = c.in_ok-at.at in
-    grows_then _ _ _ c.in_ok-answer_list.ensures (grows_behind _ _ _ _ at _ (omega (arith, c.in_ok-at.ensures.place)) c.in_ok-at.ensures.bytes
+    grows_then _ _ _ c.in_ok-answer_list.ensures.grows (grows_behind _ _ _ _ at _ (omega (arith, c.in_ok-at.ensures.place)) c.in_ok-at.ensures.bytes
     (take_put _ _ c.as_mut_slice.result.now _ (omega (arith, c.in_ok-at.ensures.place, c.as_mut_slice.ensures.len)) ∙ ap (take at) c.as_mut_slice.ensures.value))
