@@ -115,6 +115,17 @@ module _ (nodes : List Node) (offsets : List Slot) where
   unfolding the_offsets
   no_offsets = refl
 
+  pub nothing_fits : (length (the_offsets nothing) ≤ length (the_route nothing.route) - 1) × ((a : ℕ) → a ∈ the_route nothing.route → a < 64) × (0 ≤ most_route_hops)
+  nothing_fits = (
+    omega (arith, ap length no_offsets),
+    λ a m. small a (subst (λ (route : List ℕ). a ∈ route) one_node m),
+    omega arith,
+  )
+    where
+      small : (a : ℕ) → a ∈ (0 ∷ []) → a < 64
+      small a (inl e) = omega (arith, e)
+      small a (inr m) = absurd m
+
   pub covers_none : (s : List ℕ) (K : ℕ) → Covers s (rows_in s) K (the_route nothing.route) (the_offsets nothing) (book_in s)
   covers_none s K =
       subst₂ (λ (first taken : List ℕ). Covers s (rows_in s) K first taken (book_in s)) (sym one_node) (sym no_offsets)
@@ -135,6 +146,14 @@ covers_first {s} q {first} {offsets} w = record {
     each : (x : Row) → x ∈ (row_on q 1 first offsets ∷ rows_in s) → (x ∈ rows_in s) ⊎ RowOn q.period first offsets x
     each x (inl e) = inr (record { period_is = ap (λ (r : Row). r.period) e; route_is = ap (λ (r : Row). r.route) e; offsets_are = ap (λ (r : Row). r.offsets) e })
     each x (inr m) = inl m
+
+-- a first placing and its route stay in bounds
+pub first_bounds : {s words : List ℕ} {book : Book} {q : Asked} {first offsets : List ℕ} → RouteAsked s words book q first
+    → FirstPlacing (book_in s) q.period first offsets → (length offsets ≤ length first - 1) × ((a : ℕ) → a ∈ first → a < 64)
+first_bounds w p = (
+  omega (arith, p.placing.offsets_hold.count),
+  λ a m. omega (arith, w.path.known a m, w.asked.image.newest.lawful.lawful.site.nodes.1),
+)
 
 -- the nodes of the first route are known
 pub first_small : {s words : List ℕ} {book : Book} {q : Asked} (first : Route) → RouteAsked s words book q (the_route first) → first.hops ≤ most_route_hops
