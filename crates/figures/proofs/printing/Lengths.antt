@@ -1,10 +1,14 @@
 -- How long the lines of a statement are.
 use Rattle.std.proofs.Common.{◌≡◌, ◌*◌, ◌-◌, ◌+◌, ◌^◌, ◌<◌, ◌≤◌, ℕ, ℤ, zero, suc, pos, negsuc, Bool, true, false, cond, ltb}
-use Rattle.std.proofs.Common.{List, ◌∷◌, ◌++◌, length, length-append, get_or, decimal, ap, refl, arith}
-use Rattle.std.proofs.lemmas.Fmt.{length-decimal-le}
+use Rattle.std.proofs.Common.{List, [], ◌∷◌, ◌++◌, length, length-append, get_or, decimal, ap, refl, arith}
+use Rattle.std.proofs.lemmas.Fmt.{length-decimal-le, decimal_digit}
 use Rattle.figures.specs.printing.Room.{number_room, line_room, nodes_room}
 use Rattle.figures.specs.printing.Lines.{line_text, moved_text, behind_space, movement, movements_text}
 use Rattle.figures.specs.statements.Figures.{most_nodes}
+
+-- zero has one digit
+pub zero_digits : decimal 0 ≡ 48 ∷ []
+zero_digits = decimal_digit 0 (omega arith)
 
 -- a number of 64 bits
 number : (n : ℕ) → n < 2 ^ 64 → length (decimal n) ≤ number_room
